@@ -74,15 +74,15 @@ waiting_of_another n (Some t) (Some a) other another = by_same (nat_eq t a)
 -- the first that is selected, of events about other windows, and then of others that are no activate events
 first_of_another : (n : ℕ) (test : Event → Bool) (es rest : List Event) → All (IsOfAnother n) es → if_activate (event_or_null (find test rest)) ≡ [] → All (IsOfAnother n) (if_activate (event_or_null (find test (es ++ rest))))
 first_of_another n test [] rest all none = subst (All (IsOfAnother n)) (sym none) (All-nil (IsOfAnother n))
-first_of_another n test (e ∷ es) rest all none = by_test (test e)
+first_of_another n test (e ∷ es) rest all none = by_test (test e) (first_of_another n test es rest (All-tail (IsOfAnother n) e es all) none)
   where
     by_kind : (b : Bool) → All (IsOfAnother n) (if b then e ∷ [] else [])
     by_kind true = All-cons (IsOfAnother n) e [] (All-head (IsOfAnother n) e es all) (All-nil (IsOfAnother n))
     by_kind false = All-nil (IsOfAnother n)
 
-    by_test : (b : Bool) → All (IsOfAnother n) (if_activate (event_or_null (if b then Some e else find test (es ++ rest))))
-    by_test true = by_kind (is_activate e.what)
-    by_test false = first_of_another n test es rest (All-tail (IsOfAnother n) e es all) none
+    by_test : (b : Bool) → All (IsOfAnother n) (if_activate (event_or_null (find test (es ++ rest)))) → All (IsOfAnother n) (if_activate (event_or_null (if b then Some e else find test (es ++ rest))))
+    by_test true others = by_kind (is_activate e.what)
+    by_test false others = others
 
 next_of_another : (n mask : ℕ) (told active update : Option ℕ) (events : List Event) → told ≢ Some n → active ≢ Some n → ArePosted events → All (IsOfAnother n) (if_activate (next_event mask told active events update))
 next_of_another n mask told active update events other another posted =
@@ -90,7 +90,7 @@ next_of_another n mask told active update events other another posted =
     (waiting_of_another n told active other another) (queued_is_no_activate (is_selected mask) update events posted)
 
 -- what a step of events tells is about another window
-TellsOfAnother : ℕ → EventCall → EventStep → Type 0
+abbrev TellsOfAnother : ℕ → EventCall → EventStep → Type 0
 TellsOfAnother n call step = All (IsOfAnother n) (activate_event_told (asks.Event call) (replied reply.Event step.0))
 
 event_tells_another : (n : ℕ) (call : EventCall) (answer : Result EventReply Refusal) (before after : ToolboxState) → IsConsistent before → IsOfClass true n before.desk.windows.desk.windows → IsEventAnswer call answer before after → All (IsOfAnother n) (activate_event_told (asks.Event call) (replied reply.Event answer))

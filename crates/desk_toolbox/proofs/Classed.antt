@@ -1,5 +1,5 @@
 -- Calls on windows leave those that float in front of the others.
-use Rattle.std.proofs.Common.{◌≡◌, ℕ, zero, suc, ◌==◌, Bool, true, false, if◌then◌else◌, List, [], ◌∷◌, ◌++◌, length, map, Option, None, Some, refl, sym, ap, ◌∙◌, subst}
+use Rattle.std.proofs.Common.{◌≡◌, ℕ, zero, suc, ◌+◌, ◌==◌, Bool, true, false, if◌then◌else◌, List, [], ◌∷◌, ◌++◌, length, map, Option, None, Some, refl, sym, ap, ◌∙◌, subst, arith}
 use Rattle.std.specs.Prelude.{All}
 use Rattle.std.specs.List.{insert, prefix_len}
 use Rattle.std.proofs.lemmas.List.Edits.{insert_end}
@@ -26,7 +26,10 @@ true_first bs h = ((λ e. absurd (cc)), h)
 -- behind the true ones
 behind_true : (b : Bool) (bs : List Bool) → AreTrueFirst bs → AreTrueFirst (insert bs (prefix_len itself bs) b)
 behind_true b [] h = ((λ e. All-nil (λ c. c ≡ false)), tt)
-behind_true b (true ∷ cs) h = ((λ e. absurd (cc)), behind_true b cs h.1)
+behind_true b (true ∷ cs) h = subst (λ n. AreTrueFirst (insert (true ∷ cs) n b)) (one_more (prefix_len itself cs)) ((λ e. absurd (cc)), behind_true b cs h.1)
+  where
+    one_more : (n : ℕ) → suc n ≡ 1 + n
+    one_more n = omega arith
 behind_true b (false ∷ cs) h = ((λ e. All-cons (λ c. c ≡ false) false cs refl (h.0 refl)), h)
 
 all_false_end : (bs : List Bool) → All (λ c. c ≡ false) bs → All (λ c. c ≡ false) (bs ++ false ∷ [])
@@ -79,17 +82,19 @@ IsBesideOf s w ws = (v : WindowRecord) × (record_with s ws ≡ Some v) × (v.fl
 -- none of these floats, one of them is beside it, and so it does not
 ordinary_beside : (s : ℕ) (w : WindowRecord) (ws : List WindowRecord) → All (λ c. c ≡ false) (map is_floating ws) → IsBesideOf s w ws → w.floating ≡ false
 ordinary_beside s w [] all (v, found, same) = absurd (cc)
-ordinary_beside s w (u ∷ us) all (v, found, same) = by_this (u.serial == s) found
+ordinary_beside s w (u ∷ us) all (v, found, same) =
+    by_this (u.serial == s) found (λ is. ordinary_beside s w us (All-tail (λ c. c ≡ false) (is_floating u) (map is_floating us) all) (v, is, same))
   where
-    by_this : (b : Bool) → (if b then Some u else record_with s us) ≡ Some v → w.floating ≡ false
-    by_this true is =
+    by_this : (b : Bool) → (if b then Some u else record_with s us) ≡ Some v → (record_with s us ≡ Some v → w.floating ≡ false) → w.floating ≡ false
+    by_this true is rest =
         let its : u ≡ v = cc in
         sym same ∙ sym (ap is_floating its) ∙ All-head (λ c. c ≡ false) (is_floating u) (map is_floating us) all
-    by_this false is = ordinary_beside s w us (All-tail (λ c. c ≡ false) (is_floating u) (map is_floating us) all) (v, is, same)
+    by_this false is rest = rest is
 
 ordinary_next : (s : ℕ) (w : WindowRecord) (ws : List WindowRecord) → w.floating ≡ false → All (λ c. c ≡ false) (map is_floating ws) → All (λ c. c ≡ false) (map is_floating (put_next s w ws))
 ordinary_next s w [] its all = All-cons (λ c. c ≡ false) (is_floating w) [] its all
-ordinary_next s w (u ∷ us) its all = by_this (u.serial == s)
+ordinary_next s w (u ∷ us) its all =
+    by_this (u.serial == s) (ordinary_next s w us its (All-tail (λ c. c ≡ false) (is_floating u) (map is_floating us) all))
   where
     first : is_floating u ≡ false
     first = All-head (λ c. c ≡ false) (is_floating u) (map is_floating us) all
@@ -97,45 +102,39 @@ ordinary_next s w (u ∷ us) its all = by_this (u.serial == s)
     rest : All (λ c. c ≡ false) (map is_floating us)
     rest = All-tail (λ c. c ≡ false) (is_floating u) (map is_floating us) all
 
-    by_this : (b : Bool) → All (λ c. c ≡ false) (map is_floating (if b then u ∷ w ∷ us else u ∷ put_next s w us))
-    by_this true = All-cons (λ c. c ≡ false) (is_floating u) (is_floating w ∷ map is_floating us) first (All-cons (λ c. c ≡ false) (is_floating w) (map is_floating us) its rest)
-    by_this false = All-cons (λ c. c ≡ false) (is_floating u) (map is_floating (put_next s w us)) first (ordinary_next s w us its rest)
+    by_this : (b : Bool) → All (λ c. c ≡ false) (map is_floating (put_next s w us)) → All (λ c. c ≡ false) (map is_floating (if b then u ∷ w ∷ us else u ∷ put_next s w us))
+    by_this true others = All-cons (λ c. c ≡ false) (is_floating u) (is_floating w ∷ map is_floating us) first (All-cons (λ c. c ≡ false) (is_floating w) (map is_floating us) its rest)
+    by_this false others = All-cons (λ c. c ≡ false) (is_floating u) (map is_floating (put_next s w us)) first others
 
 pub classed_next : (s : ℕ) (w : WindowRecord) (ws : List WindowRecord) → IsBesideOf s w ws → AreClassed ws → AreClassed (put_next s w ws)
 classed_next s w [] (v, found, same) h = absurd (cc)
-classed_next s w (u ∷ us) (v, found, same) h = by_this (u.serial == s) found
+classed_next s w (u ∷ us) (v, found, same) h = by_this (u.serial == s) found (λ is. classed_next s w us (v, is, same) h.1)
   where
-    by_this : (b : Bool) → (if b then Some u else record_with s us) ≡ Some v → AreClassed (if b then u ∷ w ∷ us else u ∷ put_next s w us)
-    by_this true is =
+    by_this : (b : Bool) → (if b then Some u else record_with s us) ≡ Some v → (record_with s us ≡ Some v → AreClassed (put_next s w us)) → AreClassed (if b then u ∷ w ∷ us else u ∷ put_next s w us)
+    by_this true is rest =
         let its : u ≡ v = cc in
         let alike : u.floating ≡ w.floating = ap is_floating its ∙ same in
         ((λ e. All-cons (λ c. c ≡ false) (is_floating w) (map is_floating us) (sym alike ∙ e) (h.0 e)), ((λ e. h.0 (alike ∙ e)), h.1))
-    by_this false is =
-        ((λ e. ordinary_next s w us (ordinary_beside s w us (h.0 e) (v, is, same)) (h.0 e)), classed_next s w us (v, is, same) h.1)
+    by_this false is rest = ((λ e. ordinary_next s w us (ordinary_beside s w us (h.0 e) (v, is, same)) (h.0 e)), rest is)
 
 -- ---- windows taken out, or changed
 
+ordinary_without : (s : ℕ) (ws : List WindowRecord) → All (λ c. c ≡ false) (map is_floating ws) → All (λ c. c ≡ false) (map is_floating (without s ws))
+ordinary_without s [] all = all
+ordinary_without s (v ∷ vs) all =
+    by_this (v.serial == s) (ordinary_without s vs (All-tail (λ c. c ≡ false) (is_floating v) (map is_floating vs) all))
+  where
+    by_this : (b : Bool) → All (λ c. c ≡ false) (map is_floating (without s vs)) → All (λ c. c ≡ false) (map is_floating (if b then vs else v ∷ without s vs))
+    by_this true rest = All-tail (λ c. c ≡ false) (is_floating v) (map is_floating vs) all
+    by_this false rest = All-cons (λ c. c ≡ false) (is_floating v) (map is_floating (without s vs)) (All-head (λ c. c ≡ false) (is_floating v) (map is_floating vs) all) rest
+
 pub classed_without : (s : ℕ) (ws : List WindowRecord) → AreClassed ws → AreClassed (without s ws)
 classed_without s [] h = h
-classed_without s (w ∷ ws) h = by_this (w.serial == s)
+classed_without s (w ∷ ws) h = by_this (w.serial == s) (classed_without s ws h.1)
   where
-    all_without : (vs : List WindowRecord) → All (λ c. c ≡ false) (map is_floating vs) → All (λ c. c ≡ false) (map is_floating (without s vs))
-    all_without [] all = all
-    all_without (v ∷ vs) all = by_that (v.serial == s)
-      where
-        first : is_floating v ≡ false
-        first = All-head (λ c. c ≡ false) (is_floating v) (map is_floating vs) all
-
-        rest : All (λ c. c ≡ false) (map is_floating vs)
-        rest = All-tail (λ c. c ≡ false) (is_floating v) (map is_floating vs) all
-
-        by_that : (b : Bool) → All (λ c. c ≡ false) (map is_floating (if b then vs else v ∷ without s vs))
-        by_that true = rest
-        by_that false = All-cons (λ c. c ≡ false) (is_floating v) (map is_floating (without s vs)) first (all_without vs rest)
-
-    by_this : (b : Bool) → AreClassed (if b then ws else w ∷ without s ws)
-    by_this true = h.1
-    by_this false = ((λ e. all_without ws (h.0 e)), classed_without s ws h.1)
+    by_this : (b : Bool) → AreClassed (without s ws) → AreClassed (if b then ws else w ∷ without s ws)
+    by_this true rest = h.1
+    by_this false rest = ((λ e. ordinary_without s ws (h.0 e)), rest)
 
 -- the windows float as before
 pub classed_alike : (ws vs : List WindowRecord) → map is_floating vs ≡ map is_floating ws → AreClassed ws → AreClassed vs
@@ -147,11 +146,11 @@ floating_mapped f same (w ∷ ws) = λ i. same w i ∷ floating_mapped f same ws
 
 pub floating_changed : (s : ℕ) (f : WindowRecord → WindowRecord) → ((w : WindowRecord) → (f w).floating ≡ w.floating) → (ws : List WindowRecord) → map is_floating (changed s f ws) ≡ map is_floating ws
 floating_changed s f same [] = refl
-floating_changed s f same (w ∷ ws) = by_this (w.serial == s)
+floating_changed s f same (w ∷ ws) = by_this (w.serial == s) (floating_changed s f same ws)
   where
-    by_this : (b : Bool) → map is_floating (if b then f w ∷ ws else w ∷ changed s f ws) ≡ is_floating w ∷ map is_floating ws
-    by_this true = λ i. same w i ∷ map is_floating ws
-    by_this false = λ i. is_floating w ∷ floating_changed s f same ws i
+    by_this : (b : Bool) → map is_floating (changed s f ws) ≡ map is_floating ws → map is_floating (if b then f w ∷ ws else w ∷ changed s f ws) ≡ is_floating w ∷ map is_floating ws
+    by_this true rest = λ i. same w i ∷ map is_floating ws
+    by_this false rest = λ i. is_floating w ∷ rest i
 
 pub floating_lit : (on : Bool) (s : Option ℕ) (w : WindowRecord) → (with_highlighting on s w).floating ≡ w.floating
 floating_lit on s w = either on s (λ v. v.floating ≡ w.floating) w refl refl

@@ -1,8 +1,9 @@
 -- Whatever is called, the windows that float stand in front of the others.
-use Rattle.std.proofs.Common.{◌≡◌, inl, inr, ℕ, ◌==◌, Bool, true, false, if◌then◌else◌, List, [], ◌∷◌, ◌++◌, map, Option, None, Some, Result, Ok, Err, refl, sym, ap, ◌∙◌, subst, arith}
+use Rattle.std.proofs.Common.{◌≡◌, inl, inr, ℕ, ◌==◌, Bool, true, false, not, if◌then◌else◌, List, [], ◌∷◌, ◌++◌, map, Option, None, Some, Result, Ok, Err, refl, sym, ap, ◌∙◌, subst, arith}
 use Rattle.std.proofs.lemmas.Bool.Decides.{nat_tests}
 use Rattle.std.specs.Prelude.{is_none}
 use Rattle.tb_geom.specs.declared.refusal.Refusal.{Refusal}
+use Rattle.tb_geom.specs.declared.refusal.Refusal.TheVariants.{NoSuchWindow, OutOfRange}
 use Rattle.tb_geom.specs.Points.{PixelSet, plus}
 use Rattle.tb_geom.specs.Refusals.{first_refusal}
 use Rattle.def_iface.specs.News.{News, told_highlighted, told_title, told_tracked}
@@ -36,6 +37,7 @@ use Rattle.window_mgr.specs.Placings.{Placing, sized, zoomed}
 use Rattle.window_mgr.specs.Refused.{IsRefusal, are_apart, behind_refusals, is_missing, is_named_missing, named_record}
 use Rattle.window_frame.specs.Followers.{AreNotified, Flag, IsCaughtUpBy, Telling, told_flag, with_heard}
 use Rattle.window_frame.specs.Followers.Flag.{Highlighting, Zooming}
+use Rattle.window_frame.proofs.Relighting.{without_other}
 use Rattle.window_frame.specs.FrameSteps.{IsBegunAt, IsFrameEffect, IsFrameStep, IsTrackingNotified, with_flag, with_title, with_tracked}
 use Rattle.control_mgr.proofs.ControlBits.{bare}
 use Rattle.control_mgr.proofs.ControlFacts.{control_facts}
@@ -66,18 +68,7 @@ passed : (b : Bool) (e : Refusal) (rest : List (Bool × Refusal)) → first_refu
 passed true e rest none = absurd (cc)
 passed false e rest none = (refl, none)
 
--- taking out another window leaves this one where it is found
-found_without : (s n : ℕ) (ws : List WindowRecord) → (s == n) ≡ false → record_with s (without n ws) ≡ record_with s ws
-found_without s n [] other = refl
-found_without s n (w ∷ ws) other = by_gone (w.serial == n) refl
-  where
-    by_gone : (b : Bool) → (w.serial == n) ≡ b → record_with s (if b then ws else w ∷ without n ws) ≡ (if w.serial == s then Some w else record_with s ws)
-    by_gone true e =
-        let differs : (w.serial == s) ≡ false = grind (arith, nat_tests) in
-        sym (ap (λ (b : Bool). if b then Some w else record_with s ws) differs)
-    by_gone false e = ap (λ o. if w.serial == s then Some w else o) (found_without s n ws other)
-
-not_apart : (a b : Bool) → (if a then (if b then false else true) else b) ≡ false → b ≡ a
+not_apart : (a b : Bool) → (if a then not b else b) ≡ false → b ≡ a
 not_apart true true e = refl
 not_apart true false e = absurd (cc)
 not_apart false true e = absurd (cc)
@@ -92,23 +83,30 @@ put_classed (Some s) n w ws there other alike h = by_found (record_with s ws) re
     by_found None found = absurd (let missing : is_missing s ws ≡ true = ap is_none found in cc)
     by_found (Some v) found =
         let its : are_apart (Some w) (Some v) ≡ false = subst (λ o. are_apart (Some w) o ≡ false) found alike in
-        let beside : IsBesideOf s w (without n ws) = (v, found_without s n ws other ∙ found, not_apart w.floating v.floating its) in
+        let away : (s == n) ≡ false = grind (arith, nat_tests) in
+        let beside : IsBesideOf s w (without n ws) = (v, without_other s n ws away ∙ found, not_apart w.floating v.floating its) in
         classed_next s w (without n ws) beside (classed_without n ws h)
 
 sent_classed : (b : SendBehind) (desk : FullDesk) → first_refusal (behind_refusals b desk) ≡ None → AreClassed desk.windows → AreClassed (sent b desk.windows)
 sent_classed b desk none h = by_found (record_with b.window desk.windows) refl
   where
-    second : (is_named_missing b.behind desk.windows ≡ false) × (first_refusal ((is_this b.behind b.window, _) ∷ (are_apart (record_with b.window desk.windows) (named_record b.behind desk.windows), _) ∷ []) ≡ None)
-    second = passed _ _ _ (passed _ _ _ none).1
+    apart : Bool
+    apart = are_apart (record_with b.window desk.windows) (named_record b.behind desk.windows)
 
-    third : (is_this b.behind b.window ≡ false) × (first_refusal ((are_apart (record_with b.window desk.windows) (named_record b.behind desk.windows), _) ∷ []) ≡ None)
-    third = passed _ _ _ second.1
+    first : (is_missing b.window desk.windows ≡ false) × (first_refusal ((is_named_missing b.behind desk.windows, NoSuchWindow) ∷ (is_this b.behind b.window, OutOfRange) ∷ (apart, OutOfRange) ∷ []) ≡ None)
+    first = passed (is_missing b.window desk.windows) NoSuchWindow ((is_named_missing b.behind desk.windows, NoSuchWindow) ∷ (is_this b.behind b.window, OutOfRange) ∷ (apart, OutOfRange) ∷ []) none
+
+    second : (is_named_missing b.behind desk.windows ≡ false) × (first_refusal ((is_this b.behind b.window, OutOfRange) ∷ (apart, OutOfRange) ∷ []) ≡ None)
+    second = passed (is_named_missing b.behind desk.windows) NoSuchWindow ((is_this b.behind b.window, OutOfRange) ∷ (apart, OutOfRange) ∷ []) first.1
+
+    third : (is_this b.behind b.window ≡ false) × (first_refusal ((apart, OutOfRange) ∷ []) ≡ None)
+    third = passed (is_this b.behind b.window) OutOfRange ((apart, OutOfRange) ∷ []) second.1
 
     by_found : (o : Option WindowRecord) → record_with b.window desk.windows ≡ o → AreClassed (behind_this b.behind o (without b.window desk.windows))
     by_found None found = classed_without b.window desk.windows h
     by_found (Some w) found =
         put_classed b.behind b.window w desk.windows second.0 third.0
-        (subst (λ o. are_apart o (named_record b.behind desk.windows) ≡ false) found (passed _ _ _ third.1).0) h
+        (subst (λ o. are_apart o (named_record b.behind desk.windows) ≡ false) found (passed apart OutOfRange [] third.1).0) h
 
 -- ---- what an effect does
 

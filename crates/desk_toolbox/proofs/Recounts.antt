@@ -230,6 +230,7 @@ disposed_active s before after gone was = subst (λ o. Ordinary o after.desk.win
     by_active false e = others_stay s before.desk.active before.desk after.desk (disposed_counts s before after gone) e was
 
 made_active : (floating : Bool) (w : NewWindow) (n : ℕ) (before after : FullState) → IsNewWindow floating w n before after → Ordinary before.desk.active before.desk.windows → Ordinary after.desk.active after.desk.windows
+unfolding made_counts
 made_active floating w n before after new was = subst (λ o. Ordinary o after.desk.windows) (sym (ap (λ (d : FullDesk). d.active) new.desk)) (by_active (begins_active floating w) refl)
   where
     c : Classing

@@ -234,8 +234,9 @@ front_is_ordinary (w ∷ ws) = by_leading (is_leading w) refl (front_is_ordinary
     itself : is_leading w ≡ true → 1 ≤ counted (of_class false) w.serial (w ∷ ws)
     itself leads =
         let same : (w.serial == w.serial) ≡ true = grind (arith, nat_tests) in
-        let one : (if w.serial == w.serial then (if w.floating then 0 else 1) else 0) ≡ 1 = ap (λ (b : Bool). if b then (if w.floating then 0 else 1) else 0) same ∙ ap (λ (b : Bool). if b then 0 else 1) (leading_is_ordinary w leads) in
-        omega arith
+        let its : of_class false w.floating ≡ 1 = ap (of_class false) (leading_is_ordinary w leads) in
+        let one : weight_of (counting (of_class false) w.serial) w ≡ 1 = ap (λ (b : Bool). if b then of_class false w.floating else 0) same ∙ its in
+        omega (arith, one)
 
     by_leading : (b : Bool) → is_leading w ≡ b → Ordinary (front_of ws) ws → Ordinary (if b then Some w.serial else front_of ws) (w ∷ ws)
     by_leading true e rest = itself e

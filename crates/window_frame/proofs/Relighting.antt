@@ -1,5 +1,6 @@
 -- Which frames a call on windows draws.
-use Rattle.std.proofs.Common.{◌≡◌, ℕ, ◌==◌, ◌||◌, ◌&&◌, not, Bool, true, false, List, [], ◌∷◌, map, Option, None, Some, if◌then◌else◌, refl, sym, ap, ◌∙◌, subst}
+use Rattle.std.proofs.Common.{◌≡◌, ℕ, zero, suc, ◌==◌, ◌||◌, ◌&&◌, not, Bool, true, false, List, [], ◌∷◌, map, Option, None, Some, if◌then◌else◌, refl, sym, ap, ◌∙◌, subst}
+use Rattle.std.specs.List.{insert}
 use Rattle.std.specs.Option.{is_some}
 use Rattle.std.proofs.Math.Bool.{beq}
 use Rattle.std.proofs.lemmas.Bool.{false≢true, eqb-true}
@@ -10,11 +11,12 @@ use Rattle.def_iface.specs.Desk.{LayeredDesk}
 use Rattle.def_iface.specs.Owner.{Owner}
 use Rattle.def_iface.proofs.Owning.{same_number, not_first}
 use Rattle.desk_call.specs.declared.window.SendBehind.{SendBehind}
-use Rattle.vis_update.specs.Records.{WindowRecord, Look, layered_window}
+use Rattle.vis_update.specs.Records.{WindowRecord, Look, is_floating, layered_window}
 use Rattle.vis_update.specs.Touches.{is_this}
+use Rattle.window_list.specs.Classes.{back_place, front_place}
 use Rattle.window_mgr.specs.declared.arrange.Activation.{Activation}
 use Rattle.window_mgr.specs.declared.arrange.Activation.TheVariants.{Stays, Becomes}
-use Rattle.window_mgr.specs.Arrange.{activated, behind_this, brought, changed, in_front, put_behind, sent, with_highlighting, without}
+use Rattle.window_mgr.specs.Arrange.{activated, behind_this, brought, changed, in_front, put_behind, put_next, sent, with_highlighting, without}
 use Rattle.window_mgr.specs.Finding.{record_with}
 use Rattle.window_mgr.specs.FullDesk.{FullState}
 use Rattle.window_mgr.specs.Sparing.{IsSparing}
@@ -55,20 +57,30 @@ found_serial s (v ∷ vs) w e = by_test (v.serial == s) refl e (λ f. found_seri
     by_test true f g rest = let same : v ≡ w = cc in ap (λ (x : WindowRecord). x.serial) (sym same) ∙ eqb-true v.serial s f
     by_test false f g rest = rest g
 
+-- another window than one that was put in
+insert_other : (n s k : ℕ) (w : WindowRecord) (vs : List WindowRecord) → w.serial ≡ s → (n == s) ≡ false → record_with n (insert vs k w) ≡ record_with n vs
+insert_other n s zero w vs its away = skips n s w vs its away
+insert_other n s (suc k) w [] its away = skips n s w [] its away
+insert_other n s (suc k) w (v ∷ vs) its away = goes_on n v (insert vs k w) vs (insert_other n s k w vs its away)
+
 pub brought_other : (n s : ℕ) (ws : List WindowRecord) → (n == s) ≡ false → record_with n (brought s ws) ≡ record_with n ws
 brought_other n s ws away = by_found (record_with s ws) refl
   where
     by_found : (r : Option WindowRecord) → record_with s ws ≡ r → record_with n (in_front r (without s ws)) ≡ record_with n ws
     by_found None e = without_other n s ws away
-    by_found (Some w) e = skips n s w (without s ws) (found_serial s ws w e) away ∙ without_other n s ws away
+    by_found (Some w) e = insert_other n s (front_place is_floating (is_floating w) (without s ws)) w (without s ws) (found_serial s ws w e) away ∙ without_other n s ws away
+
+put_next_other : (n s k : ℕ) (w : WindowRecord) (vs : List WindowRecord) → w.serial ≡ s → (n == s) ≡ false → record_with n (put_next k w vs) ≡ record_with n vs
+put_next_other n s k w [] its away = skips n s w [] its away
+put_next_other n s k w (v ∷ vs) its away = by_test (v.serial == k) (put_next_other n s k w vs its away)
+  where
+    by_test : (b : Bool) → record_with n (put_next k w vs) ≡ record_with n vs → record_with n (if b then v ∷ w ∷ vs else v ∷ put_next k w vs) ≡ record_with n (v ∷ vs)
+    by_test true rest = goes_on n v (w ∷ vs) vs (skips n s w vs its away)
+    by_test false rest = goes_on n v (put_next k w vs) vs rest
 
 put_behind_other : (n s : ℕ) (k : Option ℕ) (w : WindowRecord) (vs : List WindowRecord) → w.serial ≡ s → (n == s) ≡ false → record_with n (put_behind k w vs) ≡ record_with n vs
-put_behind_other n s k w [] its away = skips n s w [] its away
-put_behind_other n s k w (v ∷ vs) its away = by_test (is_this k v.serial) (put_behind_other n s k w vs its away)
-  where
-    by_test : (b : Bool) → record_with n (put_behind k w vs) ≡ record_with n vs → record_with n (if b then v ∷ w ∷ vs else v ∷ put_behind k w vs) ≡ record_with n (v ∷ vs)
-    by_test true rest = goes_on n v (w ∷ vs) vs (skips n s w vs its away)
-    by_test false rest = goes_on n v (put_behind k w vs) vs rest
+put_behind_other n s None w vs its away = insert_other n s (back_place is_floating (is_floating w) vs) w vs its away
+put_behind_other n s (Some k) w vs its away = put_next_other n s k w vs its away
 
 pub sent_other : (n : ℕ) (b : SendBehind) (ws : List WindowRecord) → (n == b.window) ≡ false → record_with n (sent b ws) ≡ record_with n ws
 sent_other n b ws away = by_found (record_with b.window ws) refl
