@@ -22,3 +22,4 @@ pub mod LineTurns
 pub mod LayerSteps
 pub mod SeenRows
 pub mod SeenColumns
+pub mod MetRows

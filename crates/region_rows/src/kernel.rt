@@ -35,7 +35,7 @@ impl Cursor {
 
 /// Goes on past the edges up to the column `x`.
 #[inline(always)]
-fn count_to(edges: &[i32], from: Cursor, x: i32) -> Cursor
+pub fn count_to(edges: &[i32], from: Cursor, x: i32) -> Cursor
     requires within { from.next ≤ length edges.now }
     requires odd { is_odd from.next ≡ from.inside }
     ensures count { (w : ℤ) → w ≤ℤ x → IsCountTo edges.now from.next w → IsCount edges.now result.next x }

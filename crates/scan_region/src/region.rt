@@ -16,7 +16,7 @@ use crate::spans_up::SpansUp;
 use region_bytes::RegionBytes;
 use region_rows::{
     Layer, Line, NOTHING, Operator, Row, combined_rows, copy_rows, form_rows, is_in_rows,
-    move_rows, next_column, rect_of, rect_rows, rows_hull, same_rows, write_rows,
+    meets_rows, move_rows, next_column, rect_of, rect_rows, rows_hull, same_rows, write_rows,
 };
 use std::alloc::{AllocError, Global};
 use std::marker::Model;
@@ -255,11 +255,7 @@ impl Region {
         if is_rect(self.rows.as_slice(), bounds) {
             return true;
         }
-        let mut spans = self.alone().spans_within(area);
-        if let Some(_) = spans.next() {
-            return true;
-        }
-        false
+        meets_rows(self.rows.as_slice(), area)
     }
 
     /// The smallest rectangle around the pixels of the region, in its coordinate space, 0 0 0 0 where
