@@ -23,3 +23,4 @@ pub mod LayerSteps
 pub mod SeenRows
 pub mod SeenColumns
 pub mod MetRows
+pub mod Beside
