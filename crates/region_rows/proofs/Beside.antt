@@ -2,6 +2,7 @@
 use Rattle.std.proofs.Common.{◌≡◌, ℕ, zero, suc, ◌-◌, ◌%◌, Bool, true, false, not, ◌&&◌, ◌⊎◌, inl, inr, List, [], ◌∷◌, length, get_or, ℤ, pos, negsuc, ◌-ℤ◌, ◌<ℤ◌, ◌≤ℤ◌, refl, sym, ap, ◌∙◌, arith}
 use Rattle.std.proofs.lemmas.Int.{ints, by_lt_z}
 use Rattle.std.proofs.Math.Bool.{and-false}
+use Rattle.std.proofs.lemmas.List.{nil_from_length}
 use Rattle.region_bytes.proofs.Edges.{inside_right}
 use Rattle.region_rows.specs.Edges.{inside, is_odd, kept, IsEdges}
 use Rattle.region_rows.specs.declared.kernel.Kept.{Kept}
@@ -49,6 +50,10 @@ begins_after xs ys h e f even l = and_swapped (inside xs h) (inside ys h) ∙ en
     and_swapped true false = refl
     and_swapped false true = refl
     and_swapped false false = refl
+
+-- and so it is beside a row of no edge
+pub beside_none : (xs ys : List ℤ) (h : ℤ) → length ys ≡ 0 → (inside xs h && inside ys h) ≡ false
+beside_none xs ys h e = apart_at (inside xs h) (inside ys h) (inr (none_in ys h (nil_from_length ys e)))
 
 -- what is kept of a row beside another one with which it shares no pixel
 pub kept_beside : (k : Kept) (a b : Bool) → (k ≡ Alone) ⊎ (k ≡ All) → (a && b) ≡ false → a ≡ kept k a b

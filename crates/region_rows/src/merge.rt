@@ -83,7 +83,8 @@ fn is_beside(points: &[i32], other: &[i32]) -> bool
         ([first, .., last], [left, .., right]) => {
             last <= left || (right <= first && other.len() % 2 == 0)
         }
-        _ => other.is_empty(),
+        (_, []) => true,
+        _ => false,
     }
 }
 

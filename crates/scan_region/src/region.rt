@@ -135,7 +135,7 @@ impl Region {
         if other.is_held_by(self) {
             return self.copy(alloc);
         }
-        self.combined(alloc, other, Operator::Union)
+        self.united(alloc, other)
     }
 
     /// The pixels of this region that the other lacks.
@@ -369,6 +369,21 @@ impl Region {
     {
         let rows = combined_rows(alloc, self.rows.as_slice(), other.rows.as_slice(), operator)?;
         Ok(Region::of_rows(rows))
+    }
+
+    /// The pixels of either region. Its box is the rectangle around both boxes.
+    fn united(&self, alloc: Global, other: &Region) -> Result<Region, AllocError>
+        ensures { IfOk result (λ region. (p : Point)
+            → holds region p ≡ (holds self.now p || holds other.now p)) }
+    {
+        let rows = combined_rows(
+            alloc,
+            self.rows.as_slice(),
+            other.rows.as_slice(),
+            Operator::Union,
+        )?;
+        let bounds = Bounds::of(self.bounds.rect().union(other.bounds.rect()));
+        Ok(Region { bounds, rows })
     }
 
     /// The region of these rows.

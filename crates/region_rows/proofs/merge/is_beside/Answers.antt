@@ -1,10 +1,6 @@
-use Rattle.std.proofs.Common.{◌≡◌, ◌-◌, ◌%◌, ◌&&◌, [], length, get_or, pos, SFits, w32, arith, rules, ap, ◌∙◌}
-use Rattle.std.proofs.Math.Bool.{and-false}
+use Rattle.std.proofs.Common.{◌≡◌, ◌-◌, ◌%◌, length, get_or, pos, SFits, w32, arith, rules}
 use Rattle.std.proofs.lemmas.Int.{ints, to_z-of_z}
-use Rattle.std.proofs.lemmas.List.{nil_from_length}
-use Rattle.region_rows.specs.Edges.{inside}
-use Rattle.region_rows.proofs.Beside.{ends_before, begins_after, even_halves}
-use Rattle.region_rows.proofs.Edges.{none_in}
+use Rattle.region_rows.proofs.Beside.{ends_before, begins_after, beside_none, even_halves}
 use Rattle.region_rows.proofs.Climbs.{edges_of}
 use Rattle.region_rows.proofs.merge.is_beside.Goals as goal
 
@@ -27,8 +23,8 @@ returns-then-right-first c =
     let halves : length q % 2 ≡ 0 = search rules in
     begins_after p q h (edges_of p c.requires.points) c.requires.other (even_halves (length q) halves) (omega (arith, ints))
 
-pub returns-in_default : goal.returns-in_default
-returns-in_default c =
-    λ t h.
-    let nil : c.args.other.now ≡ [] = nil_from_length _ (search rules) in
-    ap (λ b. inside c.args.points.now h && b) (none_in _ h nil) ∙ and-false (inside c.args.points.now h)
+pub returns-in_default-empty : goal.returns-in_default-empty
+returns-in_default-empty c = λ t h. beside_none c.args.points.now c.args.other.now h (search rules)
+
+pub returns-in_default-empty-2 : goal.returns-in_default-empty-2
+returns-in_default-empty-2 c = λ t h. beside_none c.args.points.now c.args.other.now h (search rules)
