@@ -1,5 +1,5 @@
 -- How rows of edges, and regions, are combined.
-use Rattle.std.proofs.Common.{◌≡◌, ◌⊎◌, inl, inr, ◌&&◌, ◌<◌, ◌≤◌, Bool, true, false, List, [], ◌∷◌, ◌++◌, length, ℤ, refl, sym, ap, ◌∙◌, arith}
+use Rattle.std.proofs.Common.{◌≡◌, ◌&&◌, ◌<◌, ◌≤◌, Bool, true, false, List, [], ◌∷◌, ◌++◌, length, ℤ, refl, sym, ap, ◌∙◌, arith}
 use Rattle.std.specs.Prelude.{Result, Ok, Err, OnOk}
 use mathlib.Core.Bool.{beq}
 use lib.Pointwise.{pointwise}
@@ -110,22 +110,6 @@ differ-none false = refl
 
 pub none_in : (xs : List ℤ) (h : ℤ) → xs ≡ [] → inside xs h ≡ false
 none_in xs h e = ap (λ l. inside l h) e ∙ inside-nil h
-
-pub shared_none : (b : Bool) (h : ℤ) → inside [] h ≡ (b && false)
-shared_none b h = inside-nil h ∙ sym (and-none b)
-  where
-    and-none : (b : Bool) → (b && false) ≡ false
-    and-none true = refl
-    and-none false = refl
-
--- beside an empty row all is kept but what both share
-pub kept_alone : (k : Kept) (a b : Bool) → (k ≡ Alone) ⊎ (k ≡ All) → b ≡ false → a ≡ kept k a b
-kept_alone k a b (inl e) none = sym ((λ i. kept (e i) a (none i)) ∙ and-true a)
-  where
-    and-true : (a : Bool) → (a && true) ≡ a
-    and-true true = refl
-    and-true false = refl
-kept_alone k a b (inr e) none = sym (λ i. kept (e i) a (none i))
 
 -- without columns a row is not turned
 pub not_turned : (xs columns : List ℤ) (h : ℤ) → columns ≡ [] → inside xs h ≡ differ (inside xs h) (inside columns h)

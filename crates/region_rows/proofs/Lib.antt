@@ -22,3 +22,5 @@ pub mod LineTurns
 pub mod LayerSteps
 pub mod SeenRows
 pub mod SeenColumns
+pub mod MetRows
+pub mod Beside

@@ -69,7 +69,7 @@ one_more_left xs n x left here k l =
 
 -- ---- two columns
 
-two_columns : (xs : List ℤ) → length xs ≡ 2 → xs ≡ get_or xs 0 (pos 0) ∷ get_or xs 1 (pos 0) ∷ []
+pub two_columns : (xs : List ℤ) → length xs ≡ 2 → xs ≡ get_or xs 0 (pos 0) ∷ get_or xs 1 (pos 0) ∷ []
 two_columns [] e = absurd (omega arith)
 two_columns (x ∷ []) e = absurd (omega arith)
 two_columns (x ∷ y ∷ []) e = refl

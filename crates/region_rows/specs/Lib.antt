@@ -11,5 +11,6 @@ pub mod Lines
 pub mod Seen
 pub mod Columns
 pub mod Layers
+pub mod Meets
 pub mod Moves
 pub mod Merges

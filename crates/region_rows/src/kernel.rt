@@ -1,5 +1,5 @@
 //! The row kernel: what is kept of a row beside another one, and a row that turns at columns.
-ghost use Rattle.std.specs.Prelude.{◌≡◌, [], ◌∷◌, false, ℕ, ◌<◌, ◌≤◌, ◌&&◌, ◌-◌, ◌++◌, length, take, insert, remove, slice_index_or, IsTrue, OnOk, ℤ, pos, ◌<ℤ◌, ◌≤ℤ◌};
+ghost use Rattle.std.specs.Prelude.{◌≡◌, [], ◌∷◌, false, ℕ, ◌<◌, ◌≤◌, ◌&&◌, ◌-◌, ◌++◌, length, take, insert, remove, slice_index_or, IsTrue, ◌↔◌, OnOk, ℤ, pos, ◌<ℤ◌, ◌≤ℤ◌};
 ghost use Rattle.tb_geom.specs.Rects.{between};
 ghost use Rattle.region_rows.specs.Cursor.{IsCountTo, IsCount};
 ghost use Rattle.region_rows.specs.Edges.{alike, differ, inside, is_odd, kept, only, IsClimb, IsCoordinate, IsEdges, IsRow};
@@ -35,7 +35,7 @@ impl Cursor {
 
 /// Goes on past the edges up to the column `x`.
 #[inline(always)]
-fn count_to(edges: &[i32], from: Cursor, x: i32) -> Cursor
+pub fn count_to(edges: &[i32], from: Cursor, x: i32) -> Cursor
     requires within { from.next ≤ length edges.now }
     requires odd { is_odd from.next ≡ from.inside }
     ensures count { (w : ℤ) → w ≤ℤ x → IsCountTo edges.now from.next w → IsCount edges.now result.next x }
@@ -248,6 +248,14 @@ fn turn_at(edges: &mut Vec<i32>, x: i32) -> Result<(), AllocError>
     Ok(())
 }
 
+/// Whether these are the edges of the pixels from the column `left` up to `right` alone.
+#[inline(always)]
+fn is_run(edges: &[i32], left: i32, right: i32) -> bool
+    ensures { IsTrue result ↔ (edges.now ≡ left ∷ right ∷ []) }
+{
+    matches!(edges, [x, y] if *x == left && *y == right)
+}
+
 /// A row of pixels that turns: its edges, and room for those after the next turn.
 #[derive(Drop)]
 pub struct Turning {
@@ -280,11 +288,11 @@ impl Turning {
             push_all(&mut self.edges, columns)?;
             return Ok(());
         }
-        if self.edges.as_slice() == columns {
-            self.edges.clear();
-            return Ok(());
-        }
         if let [left, right] = columns {
+            if is_run(self.edges.as_slice(), *left, *right) {
+                self.edges.clear();
+                return Ok(());
+            }
             turn_at(&mut self.edges, *left)?;
             turn_at(&mut self.edges, *right)?;
             return Ok(());

@@ -14,13 +14,14 @@
 //! operand the row of pixels at hand is kept as its edges; a row of points turns them (`kernel::Turning`), most
 //! often two of them, in place.
 //! Where one operand turns, the points of the result are those of the turn that the operator lets through
-//! beside the other's row (`kernel::keep_part`); where both do, they are what either turn lets through, one
-//! after the other. Of two lists of which one lies above the other, or has no row, the rows are copied
+//! beside the other's row (`kernel::keep_part`), all of them or none where the two share no column; where
+//! both do, they are what either turn lets through, one after the other. Of two lists of which one lies above the other, or has no row, the rows are copied
 //! (`apart`).
 //!
 //! `rect_rows` and `copy_rows` make rows, and `move_rows` moves their numbers in place. `is_in_rows` answers
 //! from parity, `next_column` tells how far a row can be the same, and `rect_of` knows the rows of a rectangle
-//! again.
+//! again. `meets_rows` asks the rows of points alone, and takes no memory: what those above a rectangle leave in its
+//! first row, and then whether one of those within it turns a column of it.
 //!
 //! A row of pixels is gone along without memory: a `Line` has one bit for each of some columns, set where
 //! the row turns, and finds the next turn by words. A `Layer` is what one region lets through of a row, with
@@ -40,6 +41,7 @@ mod hull;
 mod kernel;
 mod layers;
 mod line;
+mod meets;
 mod merge;
 mod offset;
 mod operator;
@@ -56,6 +58,7 @@ pub use copy::copy_rows;
 pub use hull::{NOTHING, rows_hull};
 pub use layers::Layer;
 pub use line::Line;
+pub use meets::meets_rows;
 pub use offset::move_rows;
 pub use operator::Operator;
 pub use rect::{rect_of, rect_rows};

@@ -1,5 +1,5 @@
 //! The merge of the rows of two regions.
-ghost use Rattle.std.specs.Prelude.{◌≡◌, [], false, ◌⊎◌, ℕ, ◌+◌, ◌<◌, ◌≤◌, ◌&&◌, int_le, length, map, take, ℤ, pos, ◌<ℤ◌, ◌≤ℤ◌, slice_index_or, IfSome, IfNone, IfOk, OnOk};
+ghost use Rattle.std.specs.Prelude.{◌≡◌, [], false, ◌⊎◌, ℕ, ◌+◌, ◌<◌, ◌≤◌, ◌&&◌, int_le, length, map, take, ℤ, pos, ◌<ℤ◌, ◌≤ℤ◌, slice_index_or, IsTrue, IfSome, IfNone, IfOk, OnOk};
 ghost use Rattle.region_bytes.specs.Points.{top_of, in_rows};
 ghost use Rattle.region_rows.specs.Edges.{applied, by_first, by_second, differ, inside, kept, IsCoordinate, IsEdges, IsRow};
 ghost use Rattle.region_rows.specs.Rows.{with_row, AreRows, IsPushed};
@@ -72,6 +72,22 @@ fn push_row(alloc: Global, rows: &mut Vec<Row>, v: i32, points: &[i32]) -> Resul
     Ok(())
 }
 
+/// Whether no pixel of a row is one of the other row too, seen from the first and the last edges.
+#[inline(always)]
+fn is_beside(points: &[i32], other: &[i32]) -> bool
+    requires points { IsRow points.now }
+    requires other { IsEdges other.now }
+    ensures { IsTrue result → (h : ℤ) → (inside points.now h && inside other.now h) ≡ false }
+{
+    match (points, other) {
+        ([first, .., last], [left, .., right]) => {
+            last <= left || (right <= first && other.len() % 2 == 0)
+        }
+        (_, []) => true,
+        _ => false,
+    }
+}
+
 /// Adds a row of those of these points that are kept beside another row, if there are any.
 #[inline(always)]
 fn push_part(
@@ -88,7 +104,7 @@ fn push_part(
     ensures { OnOk result (IsPushed rows.old.items rows.new.items v
         (λ h. kept what (inside points.now h) (inside other.now h))) }
 {
-    if other.is_empty() {
+    if is_beside(points, other) {
         return match what {
             Kept::Shared => Ok(()),
             Kept::Alone | Kept::All => push_row(alloc, rows, v, points),

@@ -1,10 +1,9 @@
 -- The spans of the rows of a rectangle.
-use Rattle.std.proofs.Common.{◌≡◌, ◌∷◌, ◌++◌, [], List, ℤ, pos, ◌+ℤ◌, ◌<ℤ◌, ◌≤ℤ◌, refl, ap, ◌∙◌, arith}
+use Rattle.std.proofs.Common.{◌≡◌, ◌∷◌, ◌++◌, [], ℤ, pos, ◌+ℤ◌, ◌<ℤ◌, ◌≤ℤ◌, refl, ap, ◌∙◌, arith}
 use Rattle.std.proofs.lemmas.Int.{ints}
 use Rattle.region_rows.specs.Counts.{count_to}
 use Rattle.scan_region.specs.SpanRows.{all_pixels}
 use Rattle.scan_region.specs.Walks.{row_runs, rows_runs}
-use Rattle.scan_region.specs.declared.spans.Span.{Span}
 use Rattle.scan_region.proofs.WalkRuns.{run-to, runs-end, rows-more, rows-end}
 
 -- a row of a rectangle is one span

@@ -14,3 +14,4 @@ pub mod CutLayers
 pub mod Scanned
 pub mod Boxes
 pub mod TurningRows
+pub mod UnitedBoxes

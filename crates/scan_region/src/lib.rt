@@ -5,10 +5,11 @@
 //! (`laws::one_list_of_rows`), so that `equals`, which compares lists, compares sets.
 //!
 //! `union`, `sect`, `diff` and `xor` differ in the operator alone, under which the rows are merged. Beside a
-//! rectangle that holds its box a region is the answer, or the rectangle is (`Region::is_held_by`).
+//! rectangle that holds its box a region is the answer, or the rectangle is (`Region::is_held_by`). The box of a
+//! union is the rectangle around both boxes; for the others the rows are asked.
 //!
 //! `empty`, `from_rect` and `copy` begin a region, and `offset` moves its numbers in place. `is_empty`,
-//! `bbox` and `contains` answer from the box and from parity.
+//! `bbox` and `contains` answer from the box and from parity, and `meets_rect` from the box and the rows of points.
 //!
 //! A walk goes along rows of pixels without memory. A `Part` is what one region of a cut lets through of a
 //! row: all pixels, where there is no such region, or where it is a rectangle, to whose box the area is cut
@@ -17,7 +18,7 @@
 //! a row of the region turns. A `Walk` is up to four parts, and goes from turn to turn of a row. A `Descent`
 //! goes from row to row, and keeps the runs of a row for the rows below it at which no part turns. Where no
 //! region is left to be asked, the rows are those of the area, and no row is walked (`SpanRows`). Seen turned
-//! by half a turn, all goes from the bottom up. `spans`, `spans_up`, `meets_rect` and `Cut::spans_within` are
+//! by half a turn, all goes from the bottom up. `spans`, `spans_up` and `Cut::spans_within` are
 //! such rows. A set's list of spans is one too (`laws::one_list_of_spans`).
 //!
 //! `to_bytes` writes the rows as they are. `from_bytes` has the bytes judged in place first, and then copies

@@ -16,7 +16,7 @@ use crate::spans_up::SpansUp;
 use region_bytes::RegionBytes;
 use region_rows::{
     Layer, Line, NOTHING, Operator, Row, combined_rows, copy_rows, form_rows, is_in_rows,
-    move_rows, next_column, rect_of, rect_rows, rows_hull, same_rows, write_rows,
+    meets_rows, move_rows, next_column, rect_of, rect_rows, rows_hull, same_rows, write_rows,
 };
 use std::alloc::{AllocError, Global};
 use std::marker::Model;
@@ -135,7 +135,7 @@ impl Region {
         if other.is_held_by(self) {
             return self.copy(alloc);
         }
-        self.combined(alloc, other, Operator::Union)
+        self.united(alloc, other)
     }
 
     /// The pixels of this region that the other lacks.
@@ -255,11 +255,7 @@ impl Region {
         if is_rect(self.rows.as_slice(), bounds) {
             return true;
         }
-        let mut spans = self.alone().spans_within(area);
-        if let Some(_) = spans.next() {
-            return true;
-        }
-        false
+        meets_rows(self.rows.as_slice(), area)
     }
 
     /// The smallest rectangle around the pixels of the region, in its coordinate space, 0 0 0 0 where
@@ -373,6 +369,21 @@ impl Region {
     {
         let rows = combined_rows(alloc, self.rows.as_slice(), other.rows.as_slice(), operator)?;
         Ok(Region::of_rows(rows))
+    }
+
+    /// The pixels of either region. Its box is the rectangle around both boxes.
+    fn united(&self, alloc: Global, other: &Region) -> Result<Region, AllocError>
+        ensures { IfOk result (λ region. (p : Point)
+            → holds region p ≡ (holds self.now p || holds other.now p)) }
+    {
+        let rows = combined_rows(
+            alloc,
+            self.rows.as_slice(),
+            other.rows.as_slice(),
+            Operator::Union,
+        )?;
+        let bounds = Bounds::of(self.bounds.rect().union(other.bounds.rect()));
+        Ok(Region { bounds, rows })
     }
 
     /// The region of these rows.

@@ -1,6 +1,5 @@
-use Rattle.std.proofs.Common.{◌≤ℤ◌, ◌<ℤ◌, rules, SFits, w32, arith, subst, sym}
+use Rattle.std.proofs.Common.{◌≤ℤ◌, ◌<ℤ◌, rules, SFits, w32, arith, subst}
 use Rattle.std.proofs.lemmas.Int.{ints, clamps, to_z-of_z}
-use Rattle.region_rows.specs.Seen.{sign}
 use Rattle.region_rows.proofs.SeenColumns.{point_passed, point_ahead}
 use Rattle.region_rows.proofs.columns.nearer.Goals as goal
 

@@ -1,4 +1,4 @@
-use Rattle.std.proofs.Common.{◌≤ℤ◌, ◌<ℤ◌, rules, SFits, w32, refl, arith, take, ap, ◌∙◌, sym, subst, ◌≡◌}
+use Rattle.std.proofs.Common.{rules, SFits, w32, arith, ◌∙◌, sym, subst, ◌≡◌}
 use Rattle.std.proofs.lemmas.Int.{ints, to_z-of_z}
 use Rattle.region_bytes.proofs.Rows.{nil_has}
 use Rattle.region_rows.specs.Columns.{seen_column}

@@ -1,7 +1,5 @@
-use Rattle.std.proofs.Common.{◌≤ℤ◌, ◌<ℤ◌, rules, SFits, w32, refl, pos, get_or, arith, take, ap, ◌∙◌, sym, ◌≡◌}
+use Rattle.std.proofs.Common.{rules, SFits, w32, refl, pos, get_or, arith, ◌∙◌, sym}
 use Rattle.std.proofs.lemmas.Int.{ints, to_z-of_z}
-use Rattle.region_rows.specs.Columns.{seen_column}
-use Rattle.region_rows.specs.Edges.{inside}
 use Rattle.region_bytes.proofs.Edges.{inside-nil}
 use Rattle.region_rows.proofs.SeenColumns.{points_more}
 use Rattle.region_rows.proofs.columns.next_point.Goals as goal

@@ -1,22 +1,19 @@
-use Rattle.std.proofs.Common.{◌≡◌, ◌&&◌, [], ap, sym, refl, ◌∙◌, rules}
+use Rattle.std.proofs.Common.{[], sym, refl, ◌∙◌}
 use Rattle.std.proofs.lemmas.Int.{to_z-of_z}
-use Rattle.std.proofs.lemmas.List.{nil_from_length}
 use Rattle.region_bytes.proofs.Edges.{IsRow-nil}
-use Rattle.region_rows.specs.Edges.{inside}
-use Rattle.region_rows.proofs.Edges.{none_in, shared_none, kept_alone, OnOk-weaker}
+use Rattle.region_rows.proofs.Edges.{none_in, OnOk-weaker}
+use Rattle.region_rows.proofs.Beside.{kept_beside}
 use Rattle.region_rows.proofs.merge.push_part.Goals as goal
 
 pub returns-in-Shared : goal.returns-in-Shared
 returns-in-Shared c =
-    let nil : c.args.other.now ≡ [] = nil_from_length _ (search rules) in
-    record { points = []; pixels = rw c.in-Shared.is (λ h. shared_none _ h ∙ ap (λ b. inside c.args.points.now h && b) (sym (none_in _ h nil))); row = IsRow-nil; pushed = refl }
+    record { points = []; pixels = rw c.in-Shared.is (λ h. none_in [] h refl ∙ sym (c.is_beside.ensures c.if-is_beside.true h)); row = IsRow-nil; pushed = refl }
 
 pub returns-in-Alone : goal.returns-in-Alone
 returns-in-Alone c =
     let fits_v = c.ranges.v in
-    let nil : c.args.other.now ≡ [] = nil_from_length _ (search rules) in
     let pushed = simp to_z-of_z at c.push_row.ensures in
-    OnOk-weaker c.push_row.result _ _ (λ e. record { points = c.args.points.now; pixels = λ h. kept_alone _ _ _ c.in-Alone.is (none_in _ h nil); row = c.requires.points; pushed = e }) pushed
+    OnOk-weaker c.push_row.result _ _ (λ e. record { points = c.args.points.now; pixels = λ h. kept_beside _ _ _ c.in-Alone.is (c.is_beside.ensures c.if-is_beside.true h); row = c.requires.points; pushed = e }) pushed
 
 pub returns : goal.returns
 returns c =

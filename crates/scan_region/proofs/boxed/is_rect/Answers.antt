@@ -1,4 +1,4 @@
-use Rattle.std.proofs.Common.{◌≡◌, ap, sym, subst, ◌∙◌, rules}
+use Rattle.std.proofs.Common.{◌≡◌, ap, sym, ◌∙◌, rules}
 use Rattle.tb_geom.specs.Rects.{rect_holds}
 use Rattle.region_rows.specs.Rows.{two_rows}
 use Rattle.scan_region.proofs.Held.{equal_sides, same_rect, same_sides}

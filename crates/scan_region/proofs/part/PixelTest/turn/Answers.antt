@@ -1,5 +1,5 @@
-use Rattle.std.proofs.Common.{◌<ℤ◌, rules, SFits, w32}
-use Rattle.std.proofs.lemmas.Int.{ints, to_z-of_z}
+use Rattle.std.proofs.Common.{rules, SFits, w32}
+use Rattle.std.proofs.lemmas.Int.{to_z-of_z}
 use Rattle.scan_region.proofs.SeenSteady.{fewer}
 use Rattle.scan_region.proofs.part.PixelTest.turn.Goals as goal
 
