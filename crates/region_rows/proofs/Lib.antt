@@ -23,4 +23,5 @@ pub mod LayerSteps
 pub mod SeenRows
 pub mod SeenColumns
 pub mod MetRows
+pub mod PairRows
 pub mod Beside

@@ -14,3 +14,4 @@ pub mod Layers
 pub mod Meets
 pub mod Moves
 pub mod Merges
+pub mod Pairs

@@ -1,5 +1,6 @@
-//! The combination of the rows of two regions, which has a short way where the one lies above the other.
-ghost use Rattle.std.specs.Prelude.{◌≡◌, ℤ, IsTrue, IfOk};
+//! The combination of the rows of two regions, which has a short way where the one lies above the other, and one for
+//! the union of two rectangles.
+ghost use Rattle.std.specs.Prelude.{◌≡◌, ◌||◌, ℤ, IsTrue, IfOk};
 ghost use Rattle.region_bytes.specs.Points.{in_rows};
 ghost use Rattle.region_rows.specs.Edges.{applied, applied_apart, differ};
 ghost use Rattle.region_rows.specs.Rows.{AreAbove, AreRows};
@@ -7,6 +8,7 @@ ghost use Rattle.region_rows.specs.Rows.{AreAbove, AreRows};
 use crate::copy::copy_rows;
 use crate::merge::merge_rows;
 use crate::operator::Operator;
+use crate::pair::{pair_of, pair_rows};
 use crate::row::Row;
 use std::alloc::{AllocError, Global};
 
@@ -46,6 +48,20 @@ fn apart_rows(
     }
 }
 
+/// The rows of the pixels of either region, which may be two rectangles.
+fn united_rows(alloc: Global, a: &[Row], b: &[Row]) -> Result<Vec<Row>, AllocError>
+    requires a_rows { AreRows a.now }
+    requires b_rows { AreRows b.now }
+    ensures pixels { IfOk result (λ rows. (h v : ℤ) → in_rows rows.items h v
+        ≡ (in_rows a.now h v || in_rows b.now h v)) }
+    ensures rows { IfOk result (λ rows. AreRows rows.items) }
+{
+    match pair_of(a, b) {
+        Some(pair) => pair_rows(alloc, pair),
+        None => merge_rows(alloc, a, b, Operator::Union),
+    }
+}
+
 /// The rows of the pixels that the operator keeps of two regions.
 pub fn combined_rows(
     alloc: Global,
@@ -65,5 +81,8 @@ pub fn combined_rows(
     if is_above(b, a) {
         return apart_rows(alloc, a, b, a, operator);
     }
-    merge_rows(alloc, a, b, operator)
+    match operator {
+        Operator::Union => united_rows(alloc, a, b),
+        _ => merge_rows(alloc, a, b, operator),
+    }
 }

@@ -15,8 +15,9 @@
 //! often two of them, in place.
 //! Where one operand turns, the points of the result are those of the turn that the operator lets through
 //! beside the other's row (`kernel::keep_part`), all of them or none where the two share no column; where
-//! both do, they are what either turn lets through, one after the other. Of two lists of which one lies above
-//! the other, or has no row, the rows are copied (`apart`).
+//! both do, they are what either turn lets through, one after the other. Of two lists of which one lies
+//! above the other, or has no row, the rows are copied (`apart`). Two rectangles that share rows are united
+//! by their sides, in four rows at most (`pair`).
 //!
 //! `rect_rows` and `copy_rows` make rows, and `move_rows` moves their numbers in place. `is_in_rows` answers
 //! from parity, `next_column` tells how far a row can be the same, and `rect_of` knows the rows of a rectangle
@@ -45,6 +46,7 @@ mod meets;
 mod merge;
 mod offset;
 mod operator;
+mod pair;
 mod rect;
 mod restore;
 mod row;

@@ -5,8 +5,9 @@
 //! (`laws::one_list_of_rows`), so that `equals`, which compares lists, compares sets.
 //!
 //! `union`, `sect`, `diff` and `xor` differ in the operator alone, under which the rows are merged. Beside a
-//! rectangle that holds its box a region is the answer, or the rectangle is (`Region::is_held_by`). The box of a
-//! union is the rectangle around both boxes; for the others the rows are asked.
+//! rectangle that holds its box a region is the answer, or the rectangle is (`Region::is_held_by`). Regions whose
+//! boxes are apart share nothing (`Region::is_apart`). The box of a union is the rectangle around both boxes; for
+//! the others the rows are asked.
 //!
 //! `empty`, `from_rect` and `copy` begin a region, and `offset` moves its numbers in place. `is_empty`,
 //! `bbox` and `contains` answer from the box and from parity, and `meets_rect` from the box and the rows of points.

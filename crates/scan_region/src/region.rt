@@ -121,10 +121,13 @@ impl Region {
         if other.is_held_by(self) {
             return other.copy(alloc);
         }
+        if self.is_apart(other) {
+            return Ok(Region::empty(alloc));
+        }
         self.combined(alloc, other, Operator::Intersection)
     }
 
-    /// The pixels of either region.
+    /// The pixels of either region, whose box is the rectangle around both boxes.
     pub fn union(&self, alloc: Global, other: &Region) -> Result<Region, AllocError>
         ensures { IfOk result (λ region. (p : Point)
             → holds region p ≡ (holds self.now p || holds other.now p)) }
@@ -135,7 +138,10 @@ impl Region {
         if other.is_held_by(self) {
             return self.copy(alloc);
         }
-        self.united(alloc, other)
+        let (a, b) = (self.rows.as_slice(), other.rows.as_slice());
+        let rows = combined_rows(alloc, a, b, Operator::Union)?;
+        let bounds = Bounds::of(self.bounds.rect().union(other.bounds.rect()));
+        Ok(Region { bounds, rows })
     }
 
     /// The pixels of this region that the other lacks.
@@ -145,6 +151,9 @@ impl Region {
     {
         if self.is_held_by(other) {
             return Ok(Region::empty(alloc));
+        }
+        if self.is_apart(other) {
+            return self.copy(alloc);
         }
         self.combined(alloc, other, Operator::Difference)
     }
@@ -176,7 +185,7 @@ impl Region {
         ensures { IfOk result (λ region. (p : Point)
             → holds region p ≡ (holds self p && not (holds other.now p))) }
     {
-        if self.bounds.rect().sect(other.bounds.rect()).is_empty() {
+        if self.is_apart(other) {
             return Ok(self);
         }
         self.diff(alloc, other)
@@ -343,6 +352,13 @@ impl Region {
         }
     }
 
+    /// Whether the boxes of the two regions are apart.
+    fn is_apart(&self, other: &Region) -> bool
+        ensures { IsTrue result → (p : Point) → (holds self.now p && holds other.now p) ≡ false }
+    {
+        self.bounds.rect().sect(other.bounds.rect()).is_empty()
+    }
+
     /// Whether the other region is a rectangle that holds the box of this one.
     fn is_held_by(&self, other: &Region) -> bool
         ensures { IsTrue result → (p : Point) → (holds self.now p && not (holds other.now p)) ≡ false }
@@ -369,21 +385,6 @@ impl Region {
     {
         let rows = combined_rows(alloc, self.rows.as_slice(), other.rows.as_slice(), operator)?;
         Ok(Region::of_rows(rows))
-    }
-
-    /// The pixels of either region. Its box is the rectangle around both boxes.
-    fn united(&self, alloc: Global, other: &Region) -> Result<Region, AllocError>
-        ensures { IfOk result (λ region. (p : Point)
-            → holds region p ≡ (holds self.now p || holds other.now p)) }
-    {
-        let rows = combined_rows(
-            alloc,
-            self.rows.as_slice(),
-            other.rows.as_slice(),
-            Operator::Union,
-        )?;
-        let bounds = Bounds::of(self.bounds.rect().union(other.bounds.rect()));
-        Ok(Region { bounds, rows })
     }
 
     /// The region of these rows.
