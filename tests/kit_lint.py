@@ -182,7 +182,7 @@ def the_tables_of_the_manual_are_read(_):
 def every_line_that_rows_have_answered_has_its_form(_):
     """Those of tests/rows, which were written by hand. A line that is not BadSyntax or TooLong has its form by the manual."""
     its, seen = forms(), set()
-    same("how many commands and operations there are", (len(its.commands), len(its.operations)), (95, 9))
+    same("how many commands and operations there are", (len(its.commands), len(its.operations)), (97, 9))
     for folder in folders_in(os.path.join(TOP, "tests", "rows")):
         for row in rows_of(folder):
             due = (row.output() or b"").split(b"\n")

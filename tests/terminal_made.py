@@ -79,7 +79,7 @@ def the_manual_page_is_one(place):
         ("find H V", "asks whose a point of the screen is. Answer: ok PART WINDOW."),
         ('title WINDOW "TITLE"', "gives a window another title. Answer: ok."),
         ("0; nothing", "the script was read to its end and each command was answered, also where the answers are refusals"),
-        ("15 BadSyntax", "the line is no command"),
+        ("15 BadSyntax", "the line is no command, or none of the script's version, or a version behind another line"),
         ("--which", "answers which program runs, proved PATH or unproved PATH, and compiles it first where that is due"),
     ]:
         same(f"what follows {line}", lines[lines.index(line) + 1] if line in lines else None, after)

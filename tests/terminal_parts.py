@@ -159,6 +159,7 @@ def the_manual_has_every_command_of_the_rows(_):
     same("those of the prompt alone", [it for it in OWN if it in forms], [])
     kinds = {
         "window": ["document", "nogrow", "zoom", "dialog", "plain", "shadow", "notched"],
+        "float": ["document", "nogrow", "zoom", "dialog", "plain", "shadow", "notched"],
         "control": ["button", "check", "radio", "scroll"],
         "list": ["text"],
     }
