@@ -9,6 +9,7 @@ mod work;
 
 use anyhow::{Context, Result};
 use std::env;
+use work::What;
 
 const USAGE: &str =
     "region_bench ROUNDS RECTANGLES WHAT.., where WHAT is union, sect, diff, xor, copy, less, cut_to, spans, \
@@ -28,9 +29,10 @@ fn main(rt: HostRuntime) -> Result<()> {
         .parse::<usize>()
         .context("RECTANGLES is a number")?;
     let pairs = work::pairs(alloc, rectangles)?;
-    for what in words {
-        let sum = work::all_rounds(alloc, pairs.as_slice(), &what, rounds).context(USAGE)?;
-        println!(rt; "{what} {sum}")?;
+    for word in words {
+        let what = What::named(&word).context(USAGE)?;
+        let sum = work::all_rounds(alloc, pairs.as_slice(), what, rounds)?;
+        println!(rt; "{word} {sum}")?;
     }
     Ok(())
 }

@@ -1,13 +1,50 @@
 //! What is measured.
 
 use crate::random::Random;
-use anyhow::{Result, bail};
 use scan_region::{Cut, Region, Span};
-use std::alloc::Global;
+use std::alloc::{AllocError, Global};
 use tb_geom::Rect;
 
 /// How many pairs of regions there are.
 const PAIRS: usize = 12;
+
+/// What is done with a pair of regions.
+#[derive(Clone, Copy)]
+pub enum What {
+    Union,
+    Sect,
+    Diff,
+    Xor,
+    Copy,
+    Less,
+    CutTo,
+    Spans,
+    SpansUp,
+    Meets,
+    Cut,
+    None,
+}
+
+impl What {
+    /// The one of this name. It is looked up before the first round, so that no round looks for it.
+    pub fn named(name: &str) -> Option<What> {
+        Some(match name {
+            "union" => What::Union,
+            "sect" => What::Sect,
+            "diff" => What::Diff,
+            "xor" => What::Xor,
+            "copy" => What::Copy,
+            "less" => What::Less,
+            "cut_to" => What::CutTo,
+            "spans" => What::Spans,
+            "spans_up" => What::SpansUp,
+            "meets" => What::Meets,
+            "cut" => What::Cut,
+            "none" => What::None,
+            _ => return None,
+        })
+    }
+}
 
 /// Two regions.
 #[derive(Drop)]
@@ -74,27 +111,26 @@ fn cut_of(region: Option<&Region>) -> Cut<'_> {
 }
 
 /// Does it once.
-fn one_round(alloc: Global, what: &str, pair: &Pair, sum: u32) -> Result<u32> {
+fn one_round(alloc: Global, what: What, pair: &Pair, sum: u32) -> Result<u32, AllocError> {
     let (a, b) = (&pair.first, &pair.second);
     Ok(match what {
-        "union" => plus_box(sum, a.union(alloc, b)?.bbox()),
-        "sect" => plus_box(sum, a.sect(alloc, b)?.bbox()),
-        "diff" => plus_box(sum, a.diff(alloc, b)?.bbox()),
-        "xor" => plus_box(sum, a.xor(alloc, b)?.bbox()),
-        "copy" => plus_box(sum, a.copy(alloc)?.bbox()),
-        "spans" => walked(a, sum),
-        "spans_up" => walked_up(a, sum),
-        "meets" => plus(sum, i32::from(a.meets_rect(b.bbox()))),
-        "cut" => walked_cut(&cut_of(Some(a)), 1024, 1024, sum),
-        "none" => walked_cut(&cut_of(None), 512, 342, sum),
-        "less" => plus_box(sum, a.copy(alloc)?.less(alloc, b)?.bbox()),
-        "cut_to" => plus_box(sum, a.copy(alloc)?.cut_to(alloc, b)?.bbox()),
-        _ => bail!("there is no {what}"),
+        What::Union => plus_box(sum, a.union(alloc, b)?.bbox()),
+        What::Sect => plus_box(sum, a.sect(alloc, b)?.bbox()),
+        What::Diff => plus_box(sum, a.diff(alloc, b)?.bbox()),
+        What::Xor => plus_box(sum, a.xor(alloc, b)?.bbox()),
+        What::Copy => plus_box(sum, a.copy(alloc)?.bbox()),
+        What::Spans => walked(a, sum),
+        What::SpansUp => walked_up(a, sum),
+        What::Meets => plus(sum, i32::from(a.meets_rect(b.bbox()))),
+        What::Cut => walked_cut(&cut_of(Some(a)), 1024, 1024, sum),
+        What::None => walked_cut(&cut_of(None), 512, 342, sum),
+        What::Less => plus_box(sum, a.copy(alloc)?.less(alloc, b)?.bbox()),
+        What::CutTo => plus_box(sum, a.copy(alloc)?.cut_to(alloc, b)?.bbox()),
     })
 }
 
 /// The pairs of regions, each of so many rectangles.
-pub fn pairs(alloc: Global, rectangles: usize) -> Result<Vec<Pair>> {
+pub fn pairs(alloc: Global, rectangles: usize) -> Result<Vec<Pair>, AllocError> {
     let mut random = Random::new();
     let mut pairs = Vec::new(alloc);
     for _ in 0..PAIRS {
@@ -106,7 +142,12 @@ pub fn pairs(alloc: Global, rectangles: usize) -> Result<Vec<Pair>> {
 }
 
 /// Does it in each round, with the next pair, and gives the checksum.
-pub fn all_rounds(alloc: Global, pairs: &[Pair], what: &str, rounds: u32) -> Result<u32> {
+pub fn all_rounds(
+    alloc: Global,
+    pairs: &[Pair],
+    what: What,
+    rounds: u32,
+) -> Result<u32, AllocError> {
     let mut sum = 1;
     for round in 0..rounds {
         if let Some(pair) = pairs.get((round % 12) as usize) {
