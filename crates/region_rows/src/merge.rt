@@ -1,7 +1,7 @@
 //! The merge of the rows of two regions.
-ghost use Rattle.std.specs.Prelude.{◌≡◌, [], false, ℕ, ◌+◌, ◌-◌, ◌<◌, ◌≤◌, ◌&&◌, length, ℤ, IsTrue, IfSome, IfNone, IfOk, OnOk};
+ghost use Rattle.std.specs.Prelude.{◌≡◌, [], false, ℕ, ◌+◌, ◌-◌, ◌%◌, ◌<◌, ◌≤◌, ◌&&◌, length, ℤ, IsTrue, IfSome, IfNone, IfOk, OnOk};
 ghost use Rattle.region_bytes.specs.Points.{in_rows};
-ghost use Rattle.region_rows.specs.Edges.{applied, by_first, by_second, inside, kept, IsCoordinate, IsEdges, IsRow};
+ghost use Rattle.region_rows.specs.Edges.{applied, by_first, by_second, inside, kept, EndsBefore, IsCoordinate, IsEdges, IsRow};
 ghost use Rattle.region_rows.specs.Rows.{with_row, AreRows, IsPushed};
 ghost use Rattle.region_rows.specs.RowsAt.{IsNextRow, IsRead};
 
@@ -93,12 +93,17 @@ fn push_row(alloc: Global, rows: &mut Vec<Row>, v: i32, points: &[i32]) -> Resul
     Ok(())
 }
 
-/// Whether no pixel of a row is one of the other row too, seen from the first and the last edges.
+/// Whether no pixel of a row is one of the other row too, seen from the first and the last edges: there are none of the
+/// other row, or one of the two ends left of the other one or where that begins.
 #[inline(always)]
 fn is_beside(points: &[i32], other: &[i32]) -> bool
     requires points { IsRow points.now }
     requires other { IsEdges other.now }
-    ensures { IsTrue result → (h : ℤ) → (inside points.now h && inside other.now h) ≡ false }
+    ensures apart { IsTrue result → (h : ℤ) → (inside points.now h && inside other.now h) ≡ false }
+    ensures empty { length other.now ≡ 0 → IsTrue result }
+    ensures before { 1 < length points.now → 1 < length other.now → EndsBefore points.now other.now → IsTrue result }
+    ensures after { 1 < length points.now → 1 < length other.now → length other.now % 2 ≡ 0
+        → EndsBefore other.now points.now → IsTrue result }
 {
     match (points, other) {
         ([first, .., last], [left, .., right]) => {

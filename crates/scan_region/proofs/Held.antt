@@ -5,18 +5,22 @@ use Rattle.std.proofs.lemmas.Bool.{true≢false, false≢true, and_parts}
 use Rattle.std.proofs.lemmas.Bool.Decides.{Decides-int_eq}
 use Rattle.tb_geom.specs.declared.point.Point.{Point}
 use Rattle.tb_geom.specs.declared.rect.Rect.{Rect}
-use Rattle.tb_geom.specs.Rects.{rect_holds}
+use Rattle.tb_geom.specs.Rects.{rect_holds, IsBoxOf}
 use Rattle.tb_geom.specs.Pixels.{Pixels, holds, pixels_where}
 use Rattle.region_bytes.specs.Points.{in_rows}
 use Rattle.region_rows.specs.Rows.{EdgeRow, two_rows}
 use Rattle.region_rows.specs.Hull.{IsRegion}
-use Rattle.region_rows.proofs.Hulls.{held}
+use Rattle.region_rows.proofs.Hulls.{box_same, held, hull_box}
 use Rattle.region_rows.proofs.Merged.{int_eq-same}
 use Rattle.region_rows.proofs.Plane.{has_viewed}
 
 -- a pixel of a region lies in its box
 pub in_box : (rows : List EdgeRow) (r : Rect) (s : Pixels) → IsRegion rows r → pixels_where (in_rows rows) ≡ s → (p : Point) → holds s p ≡ true → rect_holds r p ≡ true
 in_box rows r s g e p here = held rows r g p (sym (has_viewed rows s e g.are_rows p.h p.v) ∙ here)
+
+-- and that is the smallest rectangle around its pixels
+pub box_of : (rows : List EdgeRow) (r : Rect) (s : Pixels) → IsRegion rows r → pixels_where (in_rows rows) ≡ s → IsBoxOf r (holds s)
+box_of rows r s g e = box_same r (λ p. in_rows rows p.h p.v) (holds s) (λ p. has_viewed rows s e g.are_rows p.h p.v) (hull_box rows r g)
 
 pub not_both : (a b : Bool) → (a ≡ true → b ≡ true → ⊥) → (a && b) ≡ false
 not_both true true f = absurd (f refl refl)

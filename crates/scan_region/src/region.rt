@@ -1,6 +1,7 @@
 //! The public calls: each wraps a function of the rows.
 ghost use Rattle.std.specs.Prelude.{◌≡◌, true, false, ◌&&◌, ◌||◌, not, ◌↔◌, ℕ, List, ℤ, ◌≤ℤ◌, ◌<ℤ◌, IsTrue, IfOk, IfErr, OnOk, OnErr, MatchResult, reverse};
 ghost use Rattle.tb_geom.specs.declared.point.Point.{Point};
+ghost use Rattle.tb_geom.specs.declared.rect.Rect.{Rect};
 ghost use Rattle.tb_geom.specs.Points.{minus};
 ghost use Rattle.tb_geom.specs.Rects.{rect_holds, is_in_range, IsBoxOf, empty_rect};
 ghost use Rattle.tb_geom.specs.Pixels.{has, holds};
@@ -354,7 +355,9 @@ impl Region {
 
     /// Whether the boxes of the two regions are apart.
     fn is_apart(&self, other: &Region) -> bool
-        ensures { IsTrue result → (p : Point) → (holds self.now p && holds other.now p) ≡ false }
+        ensures none { IsTrue result → (p : Point) → (holds self.now p && holds other.now p) ≡ false }
+        ensures boxes { ((r s : Rect) → IsBoxOf r (holds self.now) → IsBoxOf s (holds other.now)
+            → (p : Point) → (rect_holds r p && rect_holds s p) ≡ false) → IsTrue result }
     {
         self.bounds.rect().sect(other.bounds.rect()).is_empty()
     }
