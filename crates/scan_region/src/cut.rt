@@ -1,5 +1,7 @@
 //! The pixels that several regions leave.
 ghost use Rattle.std.specs.Prelude.{◌≡◌};
+ghost use Rattle.tb_geom.specs.declared.point.Point.{Point};
+ghost use Rattle.tb_geom.specs.Pixels.{holds};
 ghost use Rattle.scan_region.specs.Cuts.{cut_holds, in_part, in_hole};
 
 use crate::region::Region;
@@ -22,6 +24,16 @@ impl Cut<'_> {
         ensures { result ≡ cut_holds self.now point }
     {
         self.inside.iter().all(|part| is_in_part(*part, point)) && !is_in_hole(self.outside, point)
+    }
+}
+
+/// What leaves the pixels of one region.
+pub fn alone(region: &Region) -> Cut<'_>
+    ensures { (p : Point) → cut_holds result p ≡ holds region.now p }
+{
+    Cut {
+        inside: [Some(region), None, None],
+        outside: None,
     }
 }
 

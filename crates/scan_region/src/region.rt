@@ -11,7 +11,7 @@ ghost use Rattle.region_rows.specs.Rows.{AreRows};
 
 use crate::bounds::Bounds;
 use crate::boxed::{Boxed, is_rect, seen_rect};
-use crate::cut::Cut;
+use crate::cut::alone;
 use crate::spans::Spans;
 use crate::spans_up::SpansUp;
 use region_bytes::RegionBytes;
@@ -265,7 +265,14 @@ impl Region {
         if is_rect(self.rows.as_slice(), bounds) {
             return true;
         }
-        meets_rows(self.rows.as_slice(), area)
+        if let Some(met) = meets_rows(self.rows.as_slice(), area) {
+            return met;
+        }
+        let mut spans = alone(self).spans_within(area);
+        if let Some(_) = spans.next() {
+            return true;
+        }
+        false
     }
 
     /// The smallest rectangle around the pixels of the region, in its coordinate space, 0 0 0 0 where
@@ -281,17 +288,14 @@ impl Region {
     pub fn spans(&self) -> Spans<'_>
         ensures { IsScan result self.now }
     {
-        Spans::new(self.alone().spans_within(self.bounds.rect()))
+        Spans::new(alone(self).spans_within(self.bounds.rect()))
     }
 
     /// The spans of the region the other way round: from the bottom up, and from right to left.
     pub fn spans_up(&self) -> SpansUp<'_>
         ensures { IsScan (reverse result) self.now }
     {
-        SpansUp::new(
-            self.alone()
-                .spans_seen(true, seen_rect(true, self.bounds.rect())),
-        )
+        SpansUp::new(alone(self).spans_seen(true, seen_rect(true, self.bounds.rect())))
     }
 
     /// The bytes of the region (*Inside Macintosh* I, "QuickDraw": the type `Region`): big-endian words,
@@ -340,16 +344,6 @@ impl Region {
         Boxed {
             bounds: seen_rect(up, bounds),
             is_full: is_rect(self.rows.as_slice(), bounds),
-        }
-    }
-
-    /// What leaves its pixels.
-    fn alone(&self) -> Cut<'_>
-        ensures { (p : Point) → cut_holds result p ≡ holds self.now p }
-    {
-        Cut {
-            inside: [Some(self), None, None],
-            outside: None,
         }
     }
 

@@ -7,6 +7,8 @@ use Rattle.region_bytes.specs.Points.{in_rows}
 use Rattle.scan_region.proofs.Boxes.{first_pixel}
 use Rattle.region_rows.proofs.Hulls.{held}
 use Rattle.region_rows.proofs.Plane.{has_viewed}
+use Rattle.scan_region.specs.Cuts.{cut_holds}
+use Rattle.scan_region.proofs.Scanned.{some_meets, none_meet}
 use Rattle.scan_region.proofs.Opened.{opened}
 use Rattle.scan_region.proofs.region.Region.meets_rect.Goals as goal
 
@@ -19,12 +21,12 @@ meets_rows-requires-clause-across c = (sides_rise c.sect-area.result (sym c.is_e
 pub meets_rows-requires-clause-down : goal.meets_rows-requires-clause-down
 meets_rows-requires-clause-down c = (sides_rise c.sect-area.result (sym c.is_empty.ensures.sides ∙ c.if-is_empty.false)).down
 
-pub returns : goal.returns
-returns c =
+pub returns-in-Some : goal.returns-in-Some
+returns-in-Some c =
     let s = c.self.inside in
     let r = (opened _ _ c.self.invariant).are_rows in
     let shared = rw c.rect-bounds.ensures at c.sect-area.ensures.pixels in
-    let told = rw c.as_slice-2.ensures.value at c.meets_rows.ensures in (
+    let told = rw c.as_slice-2.ensures.value at c.in-Some.ensures in (
       λ t.
           let m = told.0 t in
           let p = m.0 in
@@ -35,6 +37,18 @@ returns c =
           let within = held s.rows.items s.bounds (opened _ _ c.self.invariant) p here in
           told.1 (p, here, shared p ∙ (λ i. within i && m.2 i)),
     )
+
+pub returns-in-Some-next : goal.returns-in-Some-next
+returns-in-Some-next c =
+    let s = c.self.inside in
+    let scan = c.spans_within-spans.ensures in
+    (λ t. some_meets c.spans_within-spans.result c.next.new.self c.in-Some-next.field-0 c.args.self.now s.bounds c.args.rect c.sect-area.result (cut_holds c.alone.result) scan c.in-Some-next.ensures.steps c.alone.ensures (rw c.rect-bounds.ensures at c.sect-area.ensures.pixels), λ m. refl)
+
+pub returns : goal.returns
+returns c =
+    let s = c.self.inside in
+    let scan = c.spans_within-spans.ensures in
+    (λ t. absurd (false≢true t), λ m. absurd (none_meet s.rows.items c.spans_within-spans.result c.args.self.now s.bounds c.args.rect c.sect-area.result (cut_holds c.alone.result) (opened _ _ c.self.invariant) c.self.view_is scan c.in_default-next.ensures.steps.0 c.alone.ensures (rw c.rect-bounds.ensures at c.sect-area.ensures.pixels) m.0 m.1 m.2))
 
 pub returns-then-is_empty : goal.returns-then-is_empty
 returns-then-is_empty c =
