@@ -54,20 +54,16 @@ parts : (a b : Bool) → (a && b) ≡ true → (a ≡ true) × (b ≡ true)
 parts true b e = (refl, e)
 parts false b e = absurd (false≢true e)
 
-pub some_meets : (spans rest : List Span) (x : Span) (s : Pixels) (box r area : Rect) (q : PixelSet) → IsScanOf spans (λ p. rect_holds area p && q p) → spans ≡ x ∷ rest → ((p : Point) → q p ≡ holds s p) → ((p : Point) → rect_holds area p ≡ (rect_holds box p && rect_holds r p))
-    → (p : Point) × (holds s p ≡ true) × (rect_holds r p ≡ true)
-some_meets spans rest x s box r area q scan e same sides =
+pub some_meets : (spans rest : List Span) (x : Span) (s : Pixels) (area : Rect) (q : PixelSet) → IsScanOf spans (λ p. rect_holds area p && q p) → spans ≡ x ∷ rest → ((p : Point) → q p ≡ holds s p) → (p : Point) × (rect_holds area p ≡ true) × (holds s p ≡ true)
+some_meets spans rest x s area q scan e same =
     let p : Point = record { h = x.left; v = x.v } in
     let run = All-head IsRun x rest (subst (All IsRun) e scan.runs) in
     let t = parts (rect_holds area p) (q p) (scan.pixels p ∙ ap (λ l. list_any (λ span. span_holds span p) l) e ∙ in_first x rest run) in
-    let u = parts (rect_holds box p) (rect_holds r p) (sym (sides p) ∙ t.0) in
-    (p, sym (same p) ∙ t.1, u.1)
+    (p, t.0, sym (same p) ∙ t.1)
 
-pub none_meet : (rows : List EdgeRow) (spans : List Span) (s : Pixels) (box r area : Rect) (q : PixelSet) → IsRegion rows box → pixels_where (in_rows rows) ≡ s → IsScanOf spans (λ p. rect_holds area p && q p) → spans ≡ [] → ((p : Point) → q p ≡ holds s p) → ((p : Point) → rect_holds area p ≡ (rect_holds box p && rect_holds r p))
-    → (p : Point) → holds s p ≡ true → rect_holds r p ≡ true → ⊥
-none_meet rows spans s box r area q g e scan none same sides p h m =
-    let within = held rows box g p (sym (has_viewed rows s e g.are_rows p.h p.v) ∙ h) in
-    true≢false (sym (λ i. (sides p ∙ (λ j. within j && m j)) i && (same p ∙ h) i) ∙ scan.pixels p ∙ ap (λ l. list_any (λ span. span_holds span p) l) none)
+pub none_meet : (spans : List Span) (s : Pixels) (area : Rect) (q : PixelSet) → IsScanOf spans (λ p. rect_holds area p && q p) → spans ≡ [] → ((p : Point) → q p ≡ holds s p) → (p : Point) → rect_holds area p ≡ true → holds s p ≡ true → ⊥
+none_meet spans s area q scan none same p within h =
+    true≢false (sym (λ i. within i && (same p ∙ h) i) ∙ scan.pixels p ∙ ap (λ l. list_any (λ span. span_holds span p) l) none)
 
 -- ---- turned by half a turn
 

@@ -11,7 +11,7 @@ ghost use Rattle.region_rows.specs.Rows.{AreRows};
 
 use crate::bounds::Bounds;
 use crate::boxed::{Boxed, is_rect, seen_rect};
-use crate::cut::alone;
+use crate::cut::{alone, walk_meets};
 use crate::spans::Spans;
 use crate::spans_up::SpansUp;
 use region_bytes::RegionBytes;
@@ -268,11 +268,7 @@ impl Region {
         if let Some(met) = meets_rows(self.rows.as_slice(), area) {
             return met;
         }
-        let mut spans = alone(self).spans_within(area);
-        if let Some(_) = spans.next() {
-            return true;
-        }
-        false
+        walk_meets(self, area)
     }
 
     /// The smallest rectangle around the pixels of the region, in its coordinate space, 0 0 0 0 where

@@ -7,8 +7,6 @@ use Rattle.region_bytes.specs.Points.{in_rows}
 use Rattle.scan_region.proofs.Boxes.{first_pixel}
 use Rattle.region_rows.proofs.Hulls.{held}
 use Rattle.region_rows.proofs.Plane.{has_viewed}
-use Rattle.scan_region.specs.Cuts.{cut_holds}
-use Rattle.scan_region.proofs.Scanned.{some_meets, none_meet}
 use Rattle.scan_region.proofs.Opened.{opened}
 use Rattle.scan_region.proofs.region.Region.meets_rect.Goals as goal
 
@@ -38,17 +36,20 @@ returns-in-Some c =
           told.1 (p, here, shared p ∙ (λ i. within i && m.2 i)),
     )
 
-pub returns-in-Some-next : goal.returns-in-Some-next
-returns-in-Some-next c =
-    let s = c.self.inside in
-    let scan = c.spans_within-spans.ensures in
-    (λ t. some_meets c.spans_within-spans.result c.next.new.self c.in-Some-next.field-0 c.args.self.now s.bounds c.args.rect c.sect-area.result (cut_holds c.alone.result) scan c.in-Some-next.ensures.steps c.alone.ensures (rw c.rect-bounds.ensures at c.sect-area.ensures.pixels), λ m. refl)
-
 pub returns : goal.returns
 returns c =
     let s = c.self.inside in
-    let scan = c.spans_within-spans.ensures in
-    (λ t. absurd (false≢true t), λ m. absurd (none_meet s.rows.items c.spans_within-spans.result c.args.self.now s.bounds c.args.rect c.sect-area.result (cut_holds c.alone.result) (opened _ _ c.self.invariant) c.self.view_is scan c.in_default-next.ensures.steps.0 c.alone.ensures (rw c.rect-bounds.ensures at c.sect-area.ensures.pixels) m.0 m.1 m.2))
+    let shared = rw c.rect-bounds.ensures at c.sect-area.ensures.pixels in
+    let told = c.walk_meets.ensures in (
+      λ t.
+          let m = told.0 t in
+          (m.0, m.2, (and_parts (rect_holds s.bounds m.0) (rect_holds c.args.rect m.0) (sym (shared m.0) ∙ m.1)).1),
+      λ m.
+          let p = m.0 in
+          let here = sym (has_viewed s.rows.items c.args.self.now c.self.view_is (opened _ _ c.self.invariant).are_rows p.h p.v) ∙ m.1 in
+          let within = held s.rows.items s.bounds (opened _ _ c.self.invariant) p here in
+          told.1 (p, shared p ∙ (λ i. within i && m.2 i), m.1),
+    )
 
 pub returns-then-is_empty : goal.returns-then-is_empty
 returns-then-is_empty c =
