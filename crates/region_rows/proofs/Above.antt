@@ -125,6 +125,13 @@ above_by_ends a b p q ra rb some_a some_b ep eq l =
           omega (arith, ints);
     }
 
+-- and then the last one of the upper lies above the first one of the lower
+pub ends_of_above : (a b : List EdgeRow) (p q : EdgeRow) → 0 < length a → 0 < length b → p ≡ get_or a (length a - 1) p → q ≡ get_or b 0 q → AreAbove a b → p.0 <ℤ q.0
+ends_of_above a b p q some_a some_b ep eq r =
+    let up : p.0 ≤ℤ r.line = subst (λ (row : EdgeRow). row.0 ≤ℤ r.line) (sym ep) (r.upper (length a - 1) p (omega arith)) in
+    let low : r.line <ℤ q.0 = subst (λ (row : EdgeRow). r.line <ℤ row.0) (sym eq) (r.lower 0 q some_b) in
+    omega (arith, ints)
+
 -- no rows lie above all, and below
 pub none_first : (a b : List EdgeRow) → AreRows b → length a ≡ 0 → AreAbove a b
 none_first a b rb e = record {

@@ -76,7 +76,7 @@ inside_below low xs high h c l = inside_left xs h (λ k m. let a = above_low low
 pub inside_above : (low : ℤ) (xs : List ℤ) (high h : ℤ) → IsClimb low xs high → high ≤ℤ h → inside xs h ≡ is_odd (length xs)
 inside_above low xs high h c l = inside_right xs h (λ k m. let b = below_high low xs high k c m in omega (arith, ints))
 
-differ_of : (a b c : Bool) → differ (differ a b) c ≡ differ a (differ b c)
+pub differ_of : (a b c : Bool) → differ (differ a b) c ≡ differ a (differ b c)
 differ_of true true true = refl
 differ_of true true false = refl
 differ_of true false c = refl

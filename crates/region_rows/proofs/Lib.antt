@@ -4,8 +4,7 @@ pub mod Climbs
 pub mod Pushes
 pub mod RunEdges
 pub mod Turnings
-pub mod TurnedAt
-pub mod Shifted
+pub mod Gaps
 pub mod InPlace
 pub mod Merged
 pub mod Plane

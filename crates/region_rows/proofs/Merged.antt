@@ -18,7 +18,7 @@ use Rattle.region_bytes.proofs.Short.{none_canonical}
 use Rattle.region_rows.specs.declared.operator.Operator.{Operator}
 use Rattle.region_rows.specs.Edges.{applied, by_first, by_second, kept, differ, inside, IsRising, IsRow, IsEdges, IsCoordinate}
 use Rattle.region_rows.specs.Rows.{EdgeRow, with_row, AreRows}
-use Rattle.region_rows.specs.RowsAt.{RowsAt}
+use Rattle.region_rows.specs.RowsAt.{IsRead, RowsAt}
 use Rattle.region_rows.proofs.Edges.{applied-none, turned}
 use Rattle.region_rows.proofs.Climbs.{edges_of, row_of, inside_above}
 use Rattle.region_rows.proofs.Pushes.{IsRising-push, each_push}
@@ -70,6 +70,18 @@ RowsAt-hit rows next row v r n e is =
           let up = r.rises next (next + 1) (omega arith) (omega arith) in
           omega (arith, ints);
     }
+
+-- a row is read, or none
+pub read_hit : (rows : List EdgeRow) (next : ℕ) (row : EdgeRow) (v : ℤ) (points : List ℤ) → AreRows rows → next < length rows → row ≡ get_or rows next row → v ≡ row.0 → points ≡ row.1 → IsRead rows next (next + 1) v points
+read_hit rows next row v points r n e is same =
+    record {
+      row = subst IsRow (sym (same ∙ ap (λ (r : EdgeRow). r.1) e)) (row_edges rows next row r n);
+      pixels = λ h w. in_rows-more rows next row h w n e ∙ (λ i. differ (int_le (sym is i) w && inside (sym same i) h) (in_rows (take next rows) h w));
+      at = λ x s l. RowsAt-hit rows next row v r.canonical.are_rows.rising n e (sym is);
+    }
+
+pub read_miss : (rows : List EdgeRow) (next : ℕ) (v : ℤ) → (next < length rows → v <ℤ get_or (map top_of rows) next (pos 0)) → IsRead rows next next v []
+read_miss rows next v a = record { row = IsRow-nil; pixels = λ h w. none_turned _ _ w h; at = λ x s l. RowsAt-miss rows next x v s l a }
 
 -- no rows are those of a region
 pub AreRows-nil : AreRows []

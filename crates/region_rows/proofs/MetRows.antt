@@ -223,3 +223,13 @@ module _ (rows upper lower turning : List EdgeRow) (r : Rect) (s : IsParted rows
       let out : in_rows upper p.h r.top ≡ false = sym (same p.h r.top t.left t.right) ∙ out_between r.left r.right (λ h. in_rows turning h r.top) first p.h t.left t.right in
       let steady = past_rows upper p.h r.top p.v s.above up in
       true≢false (sym here ∙ both p.h p.v ∙ (λ i. differ ((sym steady ∙ out) i) (unturned lower r.bottom r.left r.right below p.h p.v t.left t.right t.bottom i)))
+
+-- ---- a row that is asked column by column
+
+pub still_on : (left h next : ℤ) → left ≤ℤ h → h <ℤ next → left ≤ℤ next
+still_on left h next on past = omega (arith, ints)
+
+-- up to the next column at which a row turns, the columns are as the one that was asked
+pub still_none : (rows : List EdgeRow) (v left h next : ℤ) → ((z : ℤ) → left ≤ℤ z → z <ℤ h → in_rows rows z v ≡ false) → in_rows rows h v ≡ false
+    → ((z w : ℤ) → h ≤ℤ z → z <ℤ next → in_rows rows z w ≡ in_rows rows h w) → (z : ℤ) → left ≤ℤ z → z <ℤ next → in_rows rows z v ≡ false
+still_none rows v left h next out none steady z from to = by_lt_z z h (λ before. out z from before) (λ after. steady z v after to ∙ none)

@@ -1,5 +1,5 @@
 -- How two rows of edges, and two regions, are combined.
-use Rattle.std.specs.Prelude.{Bool, true, false, not, ◌&&◌, ◌||◌, List, [], ◌∷◌, ℤ, pos, negsuc, ◌<ℤ◌, ◌≤ℤ◌}
+use Rattle.std.specs.Prelude.{Bool, true, false, not, ◌&&◌, ◌||◌, ◌-◌, List, [], ◌∷◌, length, slice_index_or, ℤ, pos, negsuc, ◌<ℤ◌, ◌≤ℤ◌}
 pub use Rattle.region_bytes.specs.Edges.{differ, IsRising, IsCoordinate, IsRow}
 unfoldable pub use Rattle.region_bytes.specs.Edges.{inside, is_odd}
 use Rattle.region_rows.specs.declared.kernel.Kept.{Kept}
@@ -15,6 +15,10 @@ IsClimb low (x ∷ xs) high = (low <ℤ x) × IsClimb x xs high
 -- they do, and are coordinates
 abbrev pub IsEdges : List ℤ → Type 0
 IsEdges xs = IsClimb (negsuc 16384) xs (pos 16383)
+
+-- the last number of the one is not above the first of the other
+abbrev pub EndsBefore : List ℤ → List ℤ → Type 0
+EndsBefore xs ys = slice_index_or xs (length xs - 1) (pos 0) ≤ℤ slice_index_or ys 0 (pos 0)
 
 -- whether the two are the same
 abbrev pub alike : Bool → Bool → Bool

@@ -1,5 +1,6 @@
 -- What the contracts speak of: the edges of a row, the rows of a region, how far they are read, lines and layers.
 pub mod Edges
+pub mod Gaps
 pub mod Cursor
 pub mod Rows
 pub mod RowsAt

@@ -1,6 +1,6 @@
 //! The combination of the rows of two regions, which has a short way where the one lies above the other, and one for
 //! the union of two rectangles.
-ghost use Rattle.std.specs.Prelude.{◌≡◌, ◌||◌, ℤ, IsTrue, IfOk};
+ghost use Rattle.std.specs.Prelude.{◌≡◌, ◌↔◌, ◌||◌, ℤ, IsTrue, IfOk};
 ghost use Rattle.region_bytes.specs.Points.{in_rows};
 ghost use Rattle.region_rows.specs.Edges.{applied, applied_apart, differ};
 ghost use Rattle.region_rows.specs.Rows.{AreAbove, AreRows};
@@ -16,7 +16,7 @@ use std::alloc::{AllocError, Global};
 fn is_above(a: &[Row], b: &[Row]) -> bool
     requires a_rows { AreRows a.now }
     requires b_rows { AreRows b.now }
-    ensures { IsTrue result → AreAbove a.now b.now }
+    ensures { IsTrue result ↔ AreAbove a.now b.now }
 {
     match (a.last(), b.first()) {
         (Some(p), Some(q)) => p.v() < q.v(),

@@ -11,8 +11,8 @@
 //! four lie in the row itself (`row`, in the kit's `smallvec`).
 //!
 //! The rows of two regions are combined under an `Operator` by one merge from the top (`merge`). Of each
-//! operand the row of pixels at hand is kept as its edges; a row of points turns them (`kernel::Turning`), most
-//! often two of them, in place.
+//! operand the row of pixels at hand is kept as its edges; a row of points turns them (`turning::Turning`),
+//! in place where its points are two with no edge between them.
 //! Where one operand turns, the points of the result are those of the turn that the operator lets through
 //! beside the other's row (`kernel::keep_part`), all of them or none where the two share no column; where
 //! both do, they are what either turn lets through, one after the other. Of two lists of which one lies
@@ -51,6 +51,7 @@ mod rect;
 mod restore;
 mod row;
 mod same;
+mod turning;
 mod written;
 
 pub use apart::combined_rows;

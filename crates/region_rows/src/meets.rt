@@ -1,5 +1,5 @@
 //! Whether rows have a pixel of a rectangle.
-ghost use Rattle.std.specs.Prelude.{◌≡◌, ◌↔◌, ℕ, ◌+◌, ◌<◌, ◌≤◌, length, true, ℤ, ◌<ℤ◌, ◌≤ℤ◌, IsTrue, All};
+ghost use Rattle.std.specs.Prelude.{◌≡◌, ◌↔◌, ℕ, ◌+◌, ◌<◌, ◌≤◌, length, true, ℤ, ◌<ℤ◌, ◌≤ℤ◌, IsTrue, IfSome, All};
 ghost use Rattle.tb_geom.specs.declared.point.Point.{Point};
 ghost use Rattle.tb_geom.specs.Rects.{rect_holds};
 ghost use Rattle.region_bytes.specs.Points.{ArePointRows, IsInRange, IsPointRow, in_rows};
@@ -64,19 +64,25 @@ fn turning_rows(rows: &[Row], left: i32, right: i32) -> &[Row]
     rest
 }
 
-/// Whether the row `v` has a pixel from the column `left` up to `right`.
-fn leaves_between(rows: &[Row], v: i32, left: i32, right: i32) -> bool
+/// As many columns of a row are asked at most, each of all rows.
+const TRIES: usize = 16;
+
+/// Whether the row `v` has a pixel from the column `left` up to `right`, if a few columns tell.
+fn leaves_between(rows: &[Row], v: i32, left: i32, right: i32) -> Option<bool>
     requires in_range { All IsInRange rows.now }
-    ensures { IsTrue result ↔ HasBetween left right (λ h. in_rows rows.now h v) }
+    ensures { IfSome result (λ found. IsTrue found ↔ HasBetween left right (λ h. in_rows rows.now h v)) }
 {
     let mut h = left;
-    while h < right {
+    for _ in 0..TRIES {
+        if right <= h {
+            return Some(false);
+        }
         if is_in_rows(rows, h, v) {
-            return true;
+            return Some(true);
         }
         h = next_column(rows, false, h, right);
     }
-    false
+    None
 }
 
 /// Whether one of the rows above `bottom` turns a column from `left` up to `right`.
@@ -97,15 +103,19 @@ fn has_turn(rows: &[Row], bottom: i32, left: i32, right: i32) -> bool
 }
 
 /// Whether rows have a pixel of the rectangle. One in its first row is what the rows of points up to there leave. Where that
-/// row has none in its columns, the next row of points that turns one of them has one.
-pub fn meets_rows(rows: &[Row], rect: Rect) -> bool
+/// row has none in its columns, the next row of points that turns one of them has one. None where a few columns of the
+/// first row do not tell, since each is asked of all rows above.
+pub fn meets_rows(rows: &[Row], rect: Rect) -> Option<bool>
     requires rows { AreRows rows.now }
     requires across { rect.left <ℤ rect.right }
     requires down { rect.top <ℤ rect.bottom }
-    ensures { IsTrue result ↔ ((p : Point) × (in_rows rows.now p.h p.v ≡ true) × (rect_holds rect p ≡ true)) }
+    ensures { IfSome result (λ met. IsTrue met ↔ ((p : Point) × (in_rows rows.now p.h p.v ≡ true) × (rect_holds rect p ≡ true))) }
 {
     let (upper, lower) = rows.split_at(rows_to(rows, rect.top));
     let turning = turning_rows(upper, rect.left, rect.right);
-    leaves_between(turning, rect.top, rect.left, rect.right)
-        || has_turn(lower, rect.bottom, rect.left, rect.right)
+    match leaves_between(turning, rect.top, rect.left, rect.right) {
+        Some(true) => Some(true),
+        Some(false) => Some(has_turn(lower, rect.bottom, rect.left, rect.right)),
+        None => None,
+    }
 }

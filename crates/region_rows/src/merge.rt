@@ -1,62 +1,84 @@
 //! The merge of the rows of two regions.
-ghost use Rattle.std.specs.Prelude.{◌≡◌, [], false, ◌⊎◌, ℕ, ◌+◌, ◌<◌, ◌≤◌, ◌&&◌, int_le, length, map, take, ℤ, pos, ◌<ℤ◌, ◌≤ℤ◌, slice_index_or, IsTrue, IfSome, IfNone, IfOk, OnOk};
-ghost use Rattle.region_bytes.specs.Points.{top_of, in_rows};
-ghost use Rattle.region_rows.specs.Edges.{applied, by_first, by_second, differ, inside, kept, IsCoordinate, IsEdges, IsRow};
+ghost use Rattle.std.specs.Prelude.{◌≡◌, [], false, ℕ, ◌+◌, ◌-◌, ◌%◌, ◌<◌, ◌≤◌, ◌&&◌, length, ℤ, IsTrue, IfSome, IfNone, IfOk, OnOk};
+ghost use Rattle.region_bytes.specs.Points.{in_rows};
+ghost use Rattle.region_rows.specs.Edges.{applied, by_first, by_second, inside, kept, EndsBefore, IsCoordinate, IsEdges, IsRow};
 ghost use Rattle.region_rows.specs.Rows.{with_row, AreRows, IsPushed};
-ghost use Rattle.region_rows.specs.RowsAt.{RowsAt};
+ghost use Rattle.region_rows.specs.RowsAt.{IsNextRow, IsRead};
 
-use crate::kernel::{Kept, Turning, keep_part};
+use crate::kernel::{Kept, keep_part};
 use crate::operator::Operator;
 use crate::row::Row;
+use crate::turning::Turning;
 use std::alloc::{AllocError, Global};
 
-/// The points of a row, none where the region has no such row, and the place of the row after it.
+/// A row of two regions: the points of both there, none where a region has no such row, and the places of the rows after
+/// it.
 #[derive(Clone, Copy)]
 pub struct RowRead<'a> {
-    pub points: &'a [i32],
-    pub next: usize,
+    pub v: i32,
+    pub in_a: &'a [i32],
+    pub in_b: &'a [i32],
+    pub i: usize,
+    pub j: usize,
 }
 
-/// Reads the row `v` of rows that are read up to `next`.
-fn read_row<'a>(rows: &'a [Row], next: usize, v: i32) -> RowRead<'a>
-    requires rows { AreRows rows.now }
-    requires within { next ≤ length rows.now }
-    requires least { next < length rows.now → v ≤ℤ slice_index_or (map top_of rows.now) next (pos 0) }
-    ensures row { IsRow result.points.now }
-    ensures pixels { (h w : ℤ) → in_rows (take result.next rows.now) h w
-        ≡ differ (int_le v w && inside result.points.now h) (in_rows (take next rows.now) h w) }
-    ensures at { (x : ℤ) → RowsAt rows.now next x → x <ℤ v → RowsAt rows.now result.next v }
-    ensures on { next ≤ result.next }
-    ensures hit { next < length rows.now → slice_index_or (map top_of rows.now) next (pos 0) ≡ v
-        → result.next ≡ next + 1 }
-{
-    match rows.get(next) {
-        Some(row) if row.v() == v => RowRead {
-            points: row.points(),
-            next: next + 1,
-        },
-        _ => RowRead { points: &[], next },
-    }
-}
-
-/// The next row of either region.
-fn next_row(a: &[Row], i: usize, b: &[Row], j: usize) -> Option<i32>
+/// The next row of either region, where they are read up to `i` and `j`.
+#[inline(always)]
+fn next_row<'a>(a: &'a [Row], i: usize, b: &'a [Row], j: usize) -> Option<RowRead<'a>>
     requires a_rows { AreRows a.now }
     requires b_rows { AreRows b.now }
     ensures none { IfNone result ((length a.now ≤ i) × (length b.now ≤ j)) }
-    ensures least_a { IfSome result (λ v.
-        i < length a.now → v ≤ℤ slice_index_or (map top_of a.now) i (pos 0)) }
-    ensures least_b { IfSome result (λ v.
-        j < length b.now → v ≤ℤ slice_index_or (map top_of b.now) j (pos 0)) }
-    ensures here { IfSome result (λ v.
-        ((i < length a.now) × (slice_index_or (map top_of a.now) i (pos 0) ≡ v))
-        ⊎ ((j < length b.now) × (slice_index_or (map top_of b.now) j (pos 0) ≡ v))) }
-    ensures in_range { IfSome result IsCoordinate }
+    ensures in_a { IfSome result (λ row. IsRead a.now i row.i row.v row.in_a.now) }
+    ensures in_b { IfSome result (λ row. IsRead b.now j row.j row.v row.in_b.now) }
+    ensures here { IfSome result (λ row. IsNextRow a.now i b.now j row.v) }
+    ensures in_range { IfSome result (λ row. IsCoordinate row.v) }
+    ensures on { IfSome result (λ row. (i ≤ row.i) × (j ≤ row.j)) }
+    ensures further { IfSome result (λ row. (length a.now - row.i) + (length b.now - row.j)
+        < (length a.now - i) + (length b.now - j)) }
 {
     match (a.get(i), b.get(j)) {
-        (Some(p), Some(q)) => Some(p.v().min(q.v())),
-        (Some(p), None) => Some(p.v()),
-        (None, Some(q)) => Some(q.v()),
+        (Some(p), Some(q)) => {
+            let (first, second) = (p.v(), q.v());
+            if first < second {
+                return Some(RowRead {
+                    v: first,
+                    in_a: p.points(),
+                    in_b: &[],
+                    i: i + 1,
+                    j,
+                });
+            }
+            if second < first {
+                return Some(RowRead {
+                    v: second,
+                    in_a: &[],
+                    in_b: q.points(),
+                    i,
+                    j: j + 1,
+                });
+            }
+            Some(RowRead {
+                v: first,
+                in_a: p.points(),
+                in_b: q.points(),
+                i: i + 1,
+                j: j + 1,
+            })
+        }
+        (Some(p), None) => Some(RowRead {
+            v: p.v(),
+            in_a: p.points(),
+            in_b: &[],
+            i: i + 1,
+            j,
+        }),
+        (None, Some(q)) => Some(RowRead {
+            v: q.v(),
+            in_a: &[],
+            in_b: q.points(),
+            i,
+            j: j + 1,
+        }),
         (None, None) => None,
     }
 }
@@ -72,12 +94,17 @@ fn push_row(alloc: Global, rows: &mut Vec<Row>, v: i32, points: &[i32]) -> Resul
     Ok(())
 }
 
-/// Whether no pixel of a row is one of the other row too, seen from the first and the last edges.
+/// Whether no pixel of a row is one of the other row too, seen from the first and the last edges: there are none of the
+/// other row, or one of the two ends left of the other one or where that begins.
 #[inline(always)]
 fn is_beside(points: &[i32], other: &[i32]) -> bool
     requires points { IsRow points.now }
     requires other { IsEdges other.now }
-    ensures { IsTrue result → (h : ℤ) → (inside points.now h && inside other.now h) ≡ false }
+    ensures apart { IsTrue result → (h : ℤ) → (inside points.now h && inside other.now h) ≡ false }
+    ensures empty { length other.now ≡ 0 → IsTrue result }
+    ensures before { 1 < length points.now → 1 < length other.now → EndsBefore points.now other.now → IsTrue result }
+    ensures after { 1 < length points.now → 1 < length other.now → length other.now % 2 ≡ 0
+        → EndsBefore other.now points.now → IsTrue result }
 {
     match (points, other) {
         ([first, .., last], [left, .., right]) => {
@@ -86,6 +113,26 @@ fn is_beside(points: &[i32], other: &[i32]) -> bool
         (_, []) => true,
         _ => false,
     }
+}
+
+/// Adds a row of those of these points that are kept beside another row that has pixels among them, if there are any.
+#[inline(never)]
+fn push_among(
+    alloc: Global,
+    rows: &mut Vec<Row>,
+    v: i32,
+    points: &[i32],
+    other: &[i32],
+    what: Kept,
+    room: &mut Vec<i32>,
+) -> Result<(), AllocError>
+    requires points { IsRow points.now }
+    requires other { IsEdges other.now }
+    ensures { OnOk result (IsPushed rows.old.items rows.new.items v
+        (λ h. kept what (inside points.now h) (inside other.now h))) }
+{
+    keep_part(room, points, other, what)?;
+    push_row(alloc, rows, v, room.as_slice())
 }
 
 /// Adds a row of those of these points that are kept beside another row, if there are any.
@@ -104,15 +151,13 @@ fn push_part(
     ensures { OnOk result (IsPushed rows.old.items rows.new.items v
         (λ h. kept what (inside points.now h) (inside other.now h))) }
 {
-    if is_beside(points, other) {
-        return match what {
-            Kept::Shared => Ok(()),
-            Kept::Alone | Kept::All => push_row(alloc, rows, v, points),
-        };
+    if !is_beside(points, other) {
+        return push_among(alloc, rows, v, points, other, what, room);
     }
-    keep_part(room, points, other, what)?;
-    push_row(alloc, rows, v, room.as_slice())?;
-    Ok(())
+    match what {
+        Kept::Shared => Ok(()),
+        Kept::Alone | Kept::All => push_row(alloc, rows, v, points),
+    }
 }
 
 /// The row of pixels at hand of either side, and room for what is kept of a turn.
@@ -230,12 +275,10 @@ pub fn merge_rows(
     let mut rows = Vec::with_capacity(alloc, a.len().saturating_add(b.len()))?;
     let (mut i, mut j) = (0, 0);
     let mut sides = Sides::new(alloc);
-    while let Some(v) = next_row(a, i, b, j) {
-        let in_a = read_row(a, i, v);
-        let in_b = read_row(b, j, v);
-        sides.turn(alloc, &mut rows, v, in_a.points, in_b.points, operator)?;
-        i = in_a.next;
-        j = in_b.next;
+    while let Some(row) = next_row(a, i, b, j) {
+        sides.turn(alloc, &mut rows, row.v, row.in_a, row.in_b, operator)?;
+        i = row.i;
+        j = row.j;
     }
     Ok(rows)
 }

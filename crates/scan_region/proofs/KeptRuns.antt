@@ -11,7 +11,7 @@ use Rattle.scan_region.specs.declared.descent.Descent.{Descent}
 use Rattle.scan_region.specs.declared.descent.Run.{Run}
 use Rattle.scan_region.specs.declared.spans.Span.{Span}
 use Rattle.scan_region.specs.declared.walk.Walk.{Walk}
-use Rattle.scan_region.proofs.WalkRuns.{rows-more, rows-end}
+use Rattle.scan_region.proofs.WalkRuns.{rows-more, rows-end, rows-past}
 
 -- a span in another row
 abbrev in_row : ℤ → Span → Span
@@ -142,6 +142,18 @@ spans_ended d s l e low = λ i. all_told d.v d.kept.items d.told l i ++ (e i ++ 
 
 pub spans_below : (d : Descent) (s : PixelSet) → length d.kept.items ≤ d.told → runs_left d.walk s ≡ [] → spans_left d s ≡ rows_runs s d.next d.left d.walk.right (count_to d.next d.bottom)
 spans_below d s l e = λ i. all_told d.v d.kept.items d.told l i ++ (e i ++ rows_runs s d.next d.left d.walk.right (count_to d.next d.bottom))
+
+-- ---- rows without runs
+
+pub descent_past : (d : Descent) (s : PixelSet) (w : ℤ) → d.next ≤ℤ w → IsDescent d s → IsDescent (record d { next = w }) s
+descent_past d s w l r =
+    let order = r.order in
+    record { walk = r.walk; sides = r.sides; order = omega (arith, ints); column = r.column; same = λ u a b. r.same u (omega (arith, ints)) b; whole = r.whole }
+
+pub spans_past : (d : Descent) (s : PixelSet) (w : ℤ) → d.kept.items ≡ [] → d.next ≤ℤ w → w ≤ℤ d.until → w ≤ℤ d.bottom → IsDescent d s → spans_left (record d { next = w }) s ≡ spans_left d s
+spans_past d s w none l m n r =
+    let empty : (u : ℤ) → d.next ≤ℤ u → u <ℤ w → row_runs s u d.left d.walk.right ≡ [] = λ u a b. r.same u a (omega (arith, ints)) ∙ ap (spans_of u) none in
+    ap (λ rest. spans_of d.v (drop d.told d.kept.items) ++ (runs_left d.walk s ++ rest)) (sym (rows-past s d.next w d.left d.walk.right d.bottom l n empty))
 
 -- ---- what is told of an answer
 

@@ -4,7 +4,7 @@ use Rattle.std.specs.List.{list_any, AllPairs}
 use Rattle.std.specs.Ordering.{int_eq}
 use Rattle.std.proofs.Math.Bool.{and-false}
 use Rattle.std.proofs.lemmas.Int.{ints, by_lt_z}
-use Rattle.std.proofs.lemmas.Bool.{false≢true}
+use Rattle.std.proofs.lemmas.Bool.{true≢false, false≢true}
 use Rattle.std.proofs.lemmas.List.{reverse-append, length-map, length-reverse, get_or-map, get_or-reverse}
 use Rattle.std.proofs.lemmas.List.Folds.{list_any-append, list_any_at}
 use Rattle.std.proofs.lemmas.List.Elements.{All-nil, All-cons, All-head, All-tail, All-append, All-map, All-weaker}
@@ -43,11 +43,29 @@ boxed rows r s g e p = by (holds s p) refl
 pub region_scan : (rows : List EdgeRow) (r : Rect) (s : Pixels) (q : PixelSet) (spans : List Span) → IsRegion rows r → pixels_where (in_rows rows) ≡ s → ((p : Point) → q p ≡ holds s p) → IsScanOf spans (λ p. rect_holds r p && q p) → IsScan spans s
 region_scan rows r s q spans g e same scan = IsScanOf-same spans (λ p. rect_holds r p && q p) (holds s) (λ p. boxed rows r s g e p ∙ ap (λ b. rect_holds r p && b) (sym (same p))) scan
 
--- ---- turned by half a turn
+-- ---- whether there are spans at all
+
+in_first : (x : Span) (rest : List Span) → IsRun x → list_any (λ span. span_holds span (record { h = x.left; v = x.v })) (x ∷ rest) ≡ true
+in_first x rest run =
+    let within : between x.left x.left x.right ≡ true = grind (arith, ints) in
+    λ i. (int_eq-same x.v i && within i) || list_any (λ span. span_holds span (record { h = x.left; v = x.v })) rest
 
 parts : (a b : Bool) → (a && b) ≡ true → (a ≡ true) × (b ≡ true)
 parts true b e = (refl, e)
 parts false b e = absurd (false≢true e)
+
+pub some_meets : (spans rest : List Span) (x : Span) (s : Pixels) (area : Rect) (q : PixelSet) → IsScanOf spans (λ p. rect_holds area p && q p) → spans ≡ x ∷ rest → ((p : Point) → q p ≡ holds s p) → (p : Point) × (rect_holds area p ≡ true) × (holds s p ≡ true)
+some_meets spans rest x s area q scan e same =
+    let p : Point = record { h = x.left; v = x.v } in
+    let run = All-head IsRun x rest (subst (All IsRun) e scan.runs) in
+    let t = parts (rect_holds area p) (q p) (scan.pixels p ∙ ap (λ l. list_any (λ span. span_holds span p) l) e ∙ in_first x rest run) in
+    (p, t.0, sym (same p) ∙ t.1)
+
+pub none_meet : (spans : List Span) (s : Pixels) (area : Rect) (q : PixelSet) → IsScanOf spans (λ p. rect_holds area p && q p) → spans ≡ [] → ((p : Point) → q p ≡ holds s p) → (p : Point) → rect_holds area p ≡ true → holds s p ≡ true → ⊥
+none_meet spans s area q scan none same p within h =
+    true≢false (sym (λ i. within i && (same p ∙ h) i) ∙ scan.pixels p ∙ ap (λ l. list_any (λ span. span_holds span p) l) none)
+
+-- ---- turned by half a turn
 
 pub twice : (p : Point) → seen_point true (seen_point true p) ≡ p
 twice p =

@@ -50,7 +50,7 @@ some_hull rows r = elim (cases_lt 0 (length rows)) [
 -- ---- and one alone
 
 -- two rectangles that have pixels, and are both the box of a set, are the same
-same_boxes : (r q : Rect) (s : PixelSet) → is_empty_rect r ≡ false → is_empty_rect q ≡ false → IsBoxOf r s → IsBoxOf q s → r ≡ q
+pub same_boxes : (r q : Rect) (s : PixelSet) → is_empty_rect r ≡ false → is_empty_rect q ≡ false → IsBoxOf r s → IsBoxOf q s → r ≡ q
 same_boxes r q s some_r some_q a b =
     let m = is_around r q (sides_rise r some_r) (λ p here. a.smallest q b.holds p here) in
     let n = is_around q r (sides_rise q some_q) (λ p here. b.smallest r a.holds p here) in
@@ -65,7 +65,7 @@ same_boxes r q s some_r some_q a b =
     same_rect r q (omega (arith, ints)) (omega (arith, ints)) (omega (arith, ints)) (omega (arith, ints))
 
 -- a rectangle that has a pixel is not empty
-not_empty : (r : Rect) (p : Point) → rect_holds r p ≡ true → is_empty_rect r ≡ false
+pub not_empty : (r : Rect) (p : Point) → rect_holds r p ≡ true → is_empty_rect r ≡ false
 not_empty r p here = by (is_empty_rect r) refl
   where
     by : (b : Bool) → is_empty_rect r ≡ b → b ≡ false

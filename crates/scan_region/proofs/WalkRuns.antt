@@ -126,6 +126,22 @@ pub rows-end : (s : PixelSet) (v left right bottom : ℤ) → bottom ≤ℤ v �
 unfolding rows_runs
 rows-end s v left right bottom l = ap (rows_runs s v left right) (count-none v bottom l)
 
+-- rows without runs add none
+pub rows-past : (s : PixelSet) (v w left right bottom : ℤ) → v ≤ℤ w → w ≤ℤ bottom → ((u : ℤ) → v ≤ℤ u → u <ℤ w → row_runs s u left right ≡ []) → rows_runs s v left right (count_to v bottom) ≡ rows_runs s w left right (count_to w bottom)
+rows-past s v w left right bottom l m none = by_count (count_to v w) v refl l none
+  where
+    by_count : (k : ℕ) (v : ℤ) → count_to v w ≡ k → v ≤ℤ w → ((u : ℤ) → v ≤ℤ u → u <ℤ w → row_runs s u left right ≡ []) → rows_runs s v left right (count_to v bottom) ≡ rows_runs s w left right (count_to w bottom)
+    by_count zero v e l none =
+        let x = count-is v w l in
+        let here : v ≡ w = omega (arith, ints, e) in
+        ap (λ u. rows_runs s u left right (count_to u bottom)) here
+    by_count (suc k) v e l none =
+        let x = count-is v w l in
+        let y = count-is (v +ℤ pos 1) w (omega (arith, ints, e)) in
+        rows-more s v left right bottom (omega (arith, ints, e))
+        ∙ (λ i. none v (omega (arith, ints)) (omega (arith, ints, e)) i ++ rows_runs s (v +ℤ pos 1) left right (count_to (v +ℤ pos 1) bottom))
+        ∙ by_count k (v +ℤ pos 1) (omega (arith, ints, e)) (omega (arith, ints, e)) (λ u a b. none u (omega (arith, ints)) b)
+
 -- past a row there are fewer
 pub rows-less : (v bottom : ℤ) → v <ℤ bottom → count_to (v +ℤ pos 1) bottom < count_to v bottom
 rows-less v bottom l =

@@ -36,3 +36,8 @@ pub record IsDescent (d : Descent) (s : PixelSet) : Type 0 where
 -- the spans that are left
 abbrev pub spans_left : Descent → PixelSet → List Span
 spans_left d s = spans_of d.v (drop d.told d.kept.items) ++ (runs_left d.walk s ++ rows_runs s d.next d.left d.walk.right (count_to d.next d.bottom))
+
+-- the descent has gone on from the one to the other, where all runs of the row at hand were told: the spans left are those of the rows below
+pub record IsDown (d n : Descent) (s : PixelSet) : Type 0 where
+  pub descent : IsDescent n s
+  pub spans : spans_left n s ≡ rows_runs s d.next d.left d.walk.right (count_to d.next d.bottom)

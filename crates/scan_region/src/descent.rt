@@ -1,10 +1,8 @@
 //! A walk from row to row, which keeps the runs of a row for the rows below it that are the same.
-ghost use Rattle.std.specs.Prelude.{◌≡◌, ◌++◌, ◌∷◌, [], ℤ, pos, ◌≤ℤ◌, ◌<ℤ◌, ◌+ℤ◌, IfSome, IfNone};
+ghost use Rattle.std.specs.Prelude.{◌≡◌, ◌⊎◌, ◌++◌, ◌∷◌, [], ℤ, pos, ◌≤ℤ◌, ◌<ℤ◌, IfSome, IfNone};
 ghost use Rattle.tb_geom.specs.Points.{PixelSet};
-ghost use Rattle.scan_region.specs.Descents.{AreKept, IsDescent, spans_left, spans_of};
+ghost use Rattle.scan_region.specs.Descents.{AreKept, IsDescent, IsDown, spans_left, spans_of};
 ghost use Rattle.scan_region.specs.Parts.{HasSides, IsWalk, runs_left};
-ghost use Rattle.region_rows.specs.Counts.{count_to};
-ghost use Rattle.scan_region.specs.Walks.{rows_runs};
 
 use crate::spans::Span;
 use crate::walk::Walk;
@@ -81,32 +79,61 @@ impl Descent<'_> {
         self.walk.row_span()
     }
 
-    /// Goes on to the next row, where all runs of the row at hand are told.
-    fn step(&mut self)
+    /// Goes past the next rows that have no runs, where none are kept.
+    #[inline(always)]
+    fn pass_empty(&mut self)
+        ensures descent { (s : PixelSet) → IsDescent self.old s → IsDescent self.new s }
+        ensures spans { (s : PixelSet) → IsDescent self.old s → spans_left self.new s ≡ spans_left self.old s }
+        ensures next { self.old.next ≤ℤ self.new.next }
+        ensures bottom { self.new.bottom ≡ self.old.bottom }
+        ensures past { self.old.kept.items ≡ [] → (self.old.until ≤ℤ self.new.next) ⊎ (self.old.bottom ≤ℤ self.new.next) }
+    {
+        if self.kept.is_empty() && self.next < self.until && self.next < self.bottom {
+            self.next = self.until.min(self.bottom);
+        }
+    }
+
+    /// Goes on to the next row, and reads it.
+    #[inline(never)]
+    fn read_row(&mut self)
         requires descent { (s : PixelSet) × IsDescent self.old s }
         requires below { self.old.next <ℤ self.old.bottom }
         requires row { self.old.next <ℤ pos 2147483647 }
-        ensures descent { (s : PixelSet) → IsDescent self.old s → runs_left self.old.walk s ≡ []
-            → IsDescent self.new s }
-        ensures spans { (s : PixelSet) → IsDescent self.old s → runs_left self.old.walk s ≡ []
-            → spans_left self.new s ≡ rows_runs s self.old.next self.old.left self.old.walk.right
-            (count_to self.old.next self.old.bottom) }
-        ensures next { self.new.next ≡ self.old.next +ℤ pos 1 }
+        ensures down { (s : PixelSet) → IsDescent self.old s → runs_left self.old.walk s ≡ []
+            → IsDown self.old self.new s }
+        ensures next { self.old.next <ℤ self.new.next }
         ensures bottom { self.new.bottom ≡ self.old.bottom }
     {
         self.v = self.next;
         self.next += 1;
         self.told = 0;
-        if self.v < self.until {
-            return;
-        }
         self.walk.down(self.left, self.v);
         self.kept.clear();
         self.until = keep_runs(&mut self.walk, &mut self.kept);
+        self.pass_empty();
+    }
+
+    /// Goes on to the next row, where all runs of the row at hand are told.
+    fn step(&mut self)
+        requires descent { (s : PixelSet) × IsDescent self.old s }
+        requires below { self.old.next <ℤ self.old.bottom }
+        requires row { self.old.next <ℤ pos 2147483647 }
+        ensures down { (s : PixelSet) → IsDescent self.old s → runs_left self.old.walk s ≡ []
+            → IsDown self.old self.new s }
+        ensures next { self.old.next <ℤ self.new.next }
+        ensures bottom { self.new.bottom ≡ self.old.bottom }
+    {
+        if self.until <= self.next {
+            self.read_row();
+            return;
+        }
+        self.v = self.next;
+        self.next += 1;
+        self.told = 0;
     }
 
     /// The next run.
-    #[inline(never)]
+    #[inline(always)]
     pub fn next_span(&mut self) -> Option<Span>
         requires { (s : PixelSet) × IsDescent self.old s }
         ensures descent { (s : PixelSet) → IsDescent self.old s → IsDescent self.new s }

@@ -17,9 +17,9 @@
 //! first; those of a `Layer` of `region_rows`; or, where the lines of wide regions do not fit side by side in
 //! the walk's one array of bits, those that a test of single pixels finds, asked only in the columns at which
 //! a row of the region turns. A `Walk` is up to four parts, and goes from turn to turn of a row. A `Descent`
-//! goes from row to row, and keeps the runs of a row for the rows below it at which no part turns. Where no
-//! region is left to be asked, the rows are those of the area, and no row is walked (`SpanRows`). Seen turned
-//! by half a turn, all goes from the bottom up. `spans`, `spans_up` and `Cut::spans_within` are
+//! goes from row to row, and keeps the runs of a row for the rows below it at which no part turns, past which
+//! it goes at once where they have no runs. Where no region is left to be asked, the rows are those of the
+//! area, and no row is walked (`SpanRows`). Seen turned by half a turn, all goes from the bottom up. `spans`, `spans_up` and `Cut::spans_within` are
 //! such rows. A set's list of spans is one too (`laws::one_list_of_spans`).
 //!
 //! `to_bytes` writes the rows as they are. `from_bytes` has the bytes judged in place first, and then copies

@@ -1,6 +1,7 @@
 //! The public calls: each wraps a function of the rows.
 ghost use Rattle.std.specs.Prelude.{◌≡◌, true, false, ◌&&◌, ◌||◌, not, ◌↔◌, ℕ, List, ℤ, ◌≤ℤ◌, ◌<ℤ◌, IsTrue, IfOk, IfErr, OnOk, OnErr, MatchResult, reverse};
 ghost use Rattle.tb_geom.specs.declared.point.Point.{Point};
+ghost use Rattle.tb_geom.specs.declared.rect.Rect.{Rect};
 ghost use Rattle.tb_geom.specs.Points.{minus};
 ghost use Rattle.tb_geom.specs.Rects.{rect_holds, is_in_range, IsBoxOf, empty_rect};
 ghost use Rattle.tb_geom.specs.Pixels.{has, holds};
@@ -10,7 +11,7 @@ ghost use Rattle.region_rows.specs.Rows.{AreRows};
 
 use crate::bounds::Bounds;
 use crate::boxed::{Boxed, is_rect, seen_rect};
-use crate::cut::Cut;
+use crate::cut::{alone, walk_meets};
 use crate::spans::Spans;
 use crate::spans_up::SpansUp;
 use region_bytes::RegionBytes;
@@ -264,7 +265,10 @@ impl Region {
         if is_rect(self.rows.as_slice(), bounds) {
             return true;
         }
-        meets_rows(self.rows.as_slice(), area)
+        if let Some(met) = meets_rows(self.rows.as_slice(), area) {
+            return met;
+        }
+        walk_meets(self, area)
     }
 
     /// The smallest rectangle around the pixels of the region, in its coordinate space, 0 0 0 0 where
@@ -280,17 +284,14 @@ impl Region {
     pub fn spans(&self) -> Spans<'_>
         ensures { IsScan result self.now }
     {
-        Spans::new(self.alone().spans_within(self.bounds.rect()))
+        Spans::new(alone(self).spans_within(self.bounds.rect()))
     }
 
     /// The spans of the region the other way round: from the bottom up, and from right to left.
     pub fn spans_up(&self) -> SpansUp<'_>
         ensures { IsScan (reverse result) self.now }
     {
-        SpansUp::new(
-            self.alone()
-                .spans_seen(true, seen_rect(true, self.bounds.rect())),
-        )
+        SpansUp::new(alone(self).spans_seen(true, seen_rect(true, self.bounds.rect())))
     }
 
     /// The bytes of the region (*Inside Macintosh* I, "QuickDraw": the type `Region`): big-endian words,
@@ -342,26 +343,21 @@ impl Region {
         }
     }
 
-    /// What leaves its pixels.
-    fn alone(&self) -> Cut<'_>
-        ensures { (p : Point) → cut_holds result p ≡ holds self.now p }
-    {
-        Cut {
-            inside: [Some(self), None, None],
-            outside: None,
-        }
-    }
-
     /// Whether the boxes of the two regions are apart.
     fn is_apart(&self, other: &Region) -> bool
-        ensures { IsTrue result → (p : Point) → (holds self.now p && holds other.now p) ≡ false }
+        ensures none { IsTrue result → (p : Point) → (holds self.now p && holds other.now p) ≡ false }
+        ensures boxes { ((r s : Rect) → IsBoxOf r (holds self.now) → IsBoxOf s (holds other.now)
+            → (p : Point) → (rect_holds r p && rect_holds s p) ≡ false) → IsTrue result }
     {
         self.bounds.rect().sect(other.bounds.rect()).is_empty()
     }
 
     /// Whether the other region is a rectangle that holds the box of this one.
     fn is_held_by(&self, other: &Region) -> bool
-        ensures { IsTrue result → (p : Point) → (holds self.now p && not (holds other.now p)) ≡ false }
+        ensures none { IsTrue result → (p : Point) → (holds self.now p && not (holds other.now p)) ≡ false }
+        ensures held { (r : Rect) → is_in_range r ≡ true → ((p : Point) → holds other.now p ≡ rect_holds r p)
+            → ((p : Point) → (holds self.now p && not (holds other.now p)) ≡ false)
+            → (q : Point) → holds self.now q ≡ true → IsTrue result }
     {
         let (own, others) = (self.bounds.rect(), other.bounds.rect());
         if own.left < others.left || others.right < own.right {

@@ -8,8 +8,8 @@ use Rattle.region_rows.proofs.meets.meets_rows.Goals as goal
 pub has_turn-requires-clause-rows : goal.has_turn-requires-clause-rows
 has_turn-requires-clause-rows c = subst ArePointRows (sym c.split_at.ensures.back) (rows_after c.rows_to.result c.args.rows.now c.requires.rows.canonical.are_rows)
 
-pub returns-then-leaves_between : goal.returns-then-leaves_between
-returns-then-leaves_between c =
+pub returns-in-Some-true : goal.returns-in-Some-true
+returns-in-Some-true c =
     let r = c.args.rect in
     let fits_l : SFits w32 r.left = search rules in
     let fits_t : SFits w32 r.top = search rules in
@@ -18,11 +18,11 @@ returns-then-leaves_between c =
     let s : IsParted c.args.rows.now c.split_at.result.0.now c.split_at.result.1.now r.top =
     rw (c.split_at.ensures.front, c.split_at.ensures.back) (parted c.args.rows.now c.rows_to.result r.top c.requires.rows.canonical.are_rows to.within to.upper to.lower) in
     let same = simp to_z-of_z at c.turning_rows-turning.ensures.pixels in
-    let t = (simp to_z-of_z at c.leaves_between.ensures).0 c.if-leaves_between.true in
-    (λ _. met_first c.args.rows.now _ _ c.turning_rows-turning.result.now r s same c.requires.down t, λ _. c.if-leaves_between.true)
+    let t = (simp to_z-of_z at c.in-Some-true.ensures).0 c.in-Some-true.field-0-test in
+    (λ _. met_first c.args.rows.now _ _ c.turning_rows-turning.result.now r s same c.requires.down t, λ _. refl)
 
-pub returns-else-leaves_between : goal.returns-else-leaves_between
-returns-else-leaves_between c =
+pub returns-in-Some-false : goal.returns-in-Some-false
+returns-in-Some-false c =
     let r = c.args.rect in
     let fits_l : SFits w32 r.left = search rules in
     let fits_t : SFits w32 r.top = search rules in
@@ -33,10 +33,10 @@ returns-else-leaves_between c =
     let s : IsParted c.args.rows.now c.split_at.result.0.now c.split_at.result.1.now r.top =
     rw (c.split_at.ensures.front, c.split_at.ensures.back) (parted c.args.rows.now c.rows_to.result r.top c.requires.rows.canonical.are_rows to.within to.upper to.lower) in
     let same = simp to_z-of_z at c.turning_rows-turning.ensures.pixels in
-    let first = (simp to_z-of_z at c.leaves_between.ensures).1 in
+    let first = (simp to_z-of_z at c.in-Some-false.ensures).1 in
     let below = simp to_z-of_z at c.has_turn.ensures in (
       λ t. met_below c.args.rows.now _ _ c.turning_rows-turning.result.now r s same c.requires.down good (below.0 t),
-      λ m. by c.has_turn.result c.has_turn.result refl (λ none. met_none c.args.rows.now _ _ c.turning_rows-turning.result.now r s same c.requires.down (λ t. true≢false (sym (first t) ∙ c.if-leaves_between.false)) (λ t. true≢false (sym (below.1 t) ∙ none)) m.0 m.1 m.2),
+      λ m. by c.has_turn.result c.has_turn.result refl (λ none. met_none c.args.rows.now _ _ c.turning_rows-turning.result.now r s same c.requires.down (λ t. true≢false (sym (first t) ∙ c.in-Some-false.field-0-test)) (λ t. true≢false (sym (below.1 t) ∙ none)) m.0 m.1 m.2),
     )
   where
     by : (b a : Bool) → a ≡ b → (a ≡ false → ⊥) → a ≡ true

@@ -4,16 +4,16 @@ use Rattle.region_rows.proofs.Beside.{ends_before, begins_after, beside_none, ev
 use Rattle.region_rows.proofs.Climbs.{edges_of}
 use Rattle.region_rows.proofs.merge.is_beside.Goals as goal
 
-pub returns-then-last-left : goal.returns-then-last-left
-returns-then-last-left c =
+pub returns-then-last-left-clause-apart : goal.returns-then-last-left-clause-apart
+returns-then-last-left-clause-apart c =
     let p = c.args.points.now in
     let q = c.args.other.now in
     let fits_p : SFits w32 (get_or p (length p - 1) (pos 0)) = search rules in
     let fits_q : SFits w32 (get_or q 0 (pos 0)) = search rules in
     λ t h. let order = simp to_z-of_z at t in ends_before p q h (edges_of p c.requires.points) c.requires.other c.requires.points.even (omega (arith, ints))
 
-pub returns-then-right-first : goal.returns-then-right-first
-returns-then-right-first c =
+pub returns-then-right-first-clause-apart : goal.returns-then-right-first-clause-apart
+returns-then-right-first-clause-apart c =
     let p = c.args.points.now in
     let q = c.args.other.now in
     let fits_p : SFits w32 (get_or p 0 (pos 0)) = search rules in
@@ -23,8 +23,8 @@ returns-then-right-first c =
     let halves : length q % 2 ≡ 0 = search rules in
     begins_after p q h (edges_of p c.requires.points) c.requires.other (even_halves (length q) halves) (omega (arith, ints))
 
-pub returns-in_default-empty : goal.returns-in_default-empty
-returns-in_default-empty c = λ t h. beside_none c.args.points.now c.args.other.now h (search rules)
+pub returns-in_default-empty-clause-apart : goal.returns-in_default-empty-clause-apart
+returns-in_default-empty-clause-apart c = λ t h. beside_none c.args.points.now c.args.other.now h (search rules)
 
-pub returns-in_default-empty-2 : goal.returns-in_default-empty-2
-returns-in_default-empty-2 c = λ t h. beside_none c.args.points.now c.args.other.now h (search rules)
+pub returns-in_default-empty-2-clause-apart : goal.returns-in_default-empty-2-clause-apart
+returns-in_default-empty-2-clause-apart c = λ t h. beside_none c.args.points.now c.args.other.now h (search rules)

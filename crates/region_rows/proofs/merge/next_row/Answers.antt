@@ -1,30 +1,80 @@
-use Rattle.std.proofs.Common.{arith, sym, subst, inl, inr}
-use Rattle.std.proofs.lemmas.Int.{ints, clamps, by_lt_z}
-use Rattle.region_bytes.specs.Points.{IsInRange}
-use Rattle.region_rows.proofs.Merged.{top_read}
+use Rattle.std.proofs.Common.{◌≡◌, ◌<ℤ◌, ◌∙◌, sym, rules, inl, inr, SFits, w32, to_z, of_z}
+use Rattle.std.proofs.lemmas.Int.{ints}
+use Rattle.region_rows.proofs.Merged.{read_hit, read_miss, top_read}
 use Rattle.region_rows.proofs.merge.next_row.Goals as goal
 
-pub returns-in-Some-Some-clause-least_a : goal.returns-in-Some-Some-clause-least_a
-returns-in-Some-Some-clause-least_a c = λ l.
-    let p = top_read c.args.a.now c.args.i c.in-Some-Some.p.now l c.in-Some-Some.ensures.lookup.1 in
-    omega (arith, ints, clamps, c.min.ensures.value, c.v.ensures, c.v-in-Some-Some.ensures)
+pub returns-then-first-second-clause-in_a : goal.returns-then-first-second-clause-in_a
+returns-then-first-second-clause-in_a c =
+    let fits : SFits w32 c.v-first.result = search rules in
+    let is : to_z w32 (of_z w32 c.v-first.result) ≡ c.in-Some-Some.p.now.0 = search rules in
+    read_hit c.args.a.now c.args.i c.in-Some-Some.p.now (to_z w32 (of_z w32 c.v-first.result)) c.points.result.now c.requires.a_rows c.in-Some-Some.ensures.lookup.3.0 c.in-Some-Some.ensures.lookup.1 is c.points.ensures
 
-pub returns-in-Some-Some-clause-here : goal.returns-in-Some-Some-clause-here
-returns-in-Some-Some-clause-here c =
-    let i = c.in-Some-Some.ensures.lookup.3.0 in
-    let j = c.in-Some-Some.ensures'.lookup.3.0 in
-    let p = top_read c.args.a.now c.args.i c.in-Some-Some.p.now i c.in-Some-Some.ensures.lookup.1 in
-    let q = top_read c.args.b.now c.args.j c.in-Some-Some.q.now j c.in-Some-Some.ensures'.lookup.1 in
-    by_lt_z c.v-in-Some-Some.result c.v.result
-    (λ m. inr (j, omega (arith, ints, clamps, c.min.ensures.value, c.v.ensures, c.v-in-Some-Some.ensures)))
-    (λ m. inl (i, omega (arith, ints, clamps, c.min.ensures.value, c.v.ensures, c.v-in-Some-Some.ensures)))
+pub returns-then-first-second-clause-in_b : goal.returns-then-first-second-clause-in_b
+returns-then-first-second-clause-in_b c =
+    let fits : SFits w32 c.v-first.result = search rules in
+    let fits_second : SFits w32 c.v-second.result = search rules in
+    let below : to_z w32 (of_z w32 c.v-first.result) <ℤ c.in-Some-Some.q.now.0 = search (rules, ints) in
+    read_miss c.args.b.now c.args.j (to_z w32 (of_z w32 c.v-first.result)) (λ l. rw (top_read c.args.b.now c.args.j c.in-Some-Some.q.now c.in-Some-Some.ensures'.lookup.3.0 c.in-Some-Some.ensures'.lookup.1) below)
 
-pub returns-in-Some-Some-clause-in_range : goal.returns-in-Some-Some-clause-in_range
-returns-in-Some-Some-clause-in_range c =
-    let i = c.in-Some-Some.ensures.lookup.3.0 in
-    let j = c.in-Some-Some.ensures'.lookup.3.0 in
-    let p = subst IsInRange (sym c.in-Some-Some.ensures.lookup.1) (c.requires.a_rows.in_range c.args.i c.in-Some-Some.p.now i) in
-    let q = subst IsInRange (sym c.in-Some-Some.ensures'.lookup.1) (c.requires.b_rows.in_range c.args.j c.in-Some-Some.q.now j) in (
-      omega (arith, ints, clamps, c.min.ensures.value, c.v.ensures, c.v-in-Some-Some.ensures, p.0.0, q.0.0),
-      omega (arith, ints, clamps, c.min.ensures.value, c.v.ensures, c.v-in-Some-Some.ensures, p.0.1, q.0.1),
-    )
+pub returns-then-first-second-clause-here : goal.returns-then-first-second-clause-here
+returns-then-first-second-clause-here c =
+    let fits : SFits w32 c.v-first.result = search rules in
+    let is : to_z w32 (of_z w32 c.v-first.result) ≡ c.in-Some-Some.p.now.0 = search rules in
+    inl (c.in-Some-Some.ensures.lookup.3.0, top_read c.args.a.now c.args.i c.in-Some-Some.p.now c.in-Some-Some.ensures.lookup.3.0 c.in-Some-Some.ensures.lookup.1 ∙ sym is)
+
+pub returns-then-second-first-clause-in_a : goal.returns-then-second-first-clause-in_a
+returns-then-second-first-clause-in_a c =
+    let fits : SFits w32 c.v-first.result = search rules in
+    let fits_second : SFits w32 c.v-second.result = search rules in
+    let below : to_z w32 (of_z w32 c.v-second.result) <ℤ c.in-Some-Some.p.now.0 = search (rules, ints) in
+    read_miss c.args.a.now c.args.i (to_z w32 (of_z w32 c.v-second.result)) (λ l. rw (top_read c.args.a.now c.args.i c.in-Some-Some.p.now c.in-Some-Some.ensures.lookup.3.0 c.in-Some-Some.ensures.lookup.1) below)
+
+pub returns-then-second-first-clause-in_b : goal.returns-then-second-first-clause-in_b
+returns-then-second-first-clause-in_b c =
+    let fits : SFits w32 c.v-second.result = search rules in
+    let is : to_z w32 (of_z w32 c.v-second.result) ≡ c.in-Some-Some.q.now.0 = search rules in
+    read_hit c.args.b.now c.args.j c.in-Some-Some.q.now (to_z w32 (of_z w32 c.v-second.result)) c.points-then-second-first.result.now c.requires.b_rows c.in-Some-Some.ensures'.lookup.3.0 c.in-Some-Some.ensures'.lookup.1 is c.points-then-second-first.ensures
+
+pub returns-then-second-first-clause-here : goal.returns-then-second-first-clause-here
+returns-then-second-first-clause-here c =
+    let fits : SFits w32 c.v-second.result = search rules in
+    let is : to_z w32 (of_z w32 c.v-second.result) ≡ c.in-Some-Some.q.now.0 = search rules in
+    inr (c.in-Some-Some.ensures'.lookup.3.0, top_read c.args.b.now c.args.j c.in-Some-Some.q.now c.in-Some-Some.ensures'.lookup.3.0 c.in-Some-Some.ensures'.lookup.1 ∙ sym is)
+
+pub returns-else-second-first-clause-in_a : goal.returns-else-second-first-clause-in_a
+returns-else-second-first-clause-in_a c =
+    let fits : SFits w32 c.v-first.result = search rules in
+    let is : to_z w32 (of_z w32 c.v-first.result) ≡ c.in-Some-Some.p.now.0 = search rules in
+    read_hit c.args.a.now c.args.i c.in-Some-Some.p.now (to_z w32 (of_z w32 c.v-first.result)) c.points-in-Some-Some.result.now c.requires.a_rows c.in-Some-Some.ensures.lookup.3.0 c.in-Some-Some.ensures.lookup.1 is c.points-in-Some-Some.ensures
+
+pub returns-else-second-first-clause-in_b : goal.returns-else-second-first-clause-in_b
+returns-else-second-first-clause-in_b c =
+    let fits : SFits w32 c.v-first.result = search rules in
+    let fits_second : SFits w32 c.v-second.result = search rules in
+    let alike : c.v-first.result ≡ c.v-second.result = search (rules, ints) in
+    let is : to_z w32 (of_z w32 c.v-first.result) ≡ c.in-Some-Some.q.now.0 = search (rules, ints) in
+    read_hit c.args.b.now c.args.j c.in-Some-Some.q.now (to_z w32 (of_z w32 c.v-first.result)) c.points-in-Some-Some-2.result.now c.requires.b_rows c.in-Some-Some.ensures'.lookup.3.0 c.in-Some-Some.ensures'.lookup.1 is c.points-in-Some-Some-2.ensures
+
+pub returns-else-second-first-clause-here : goal.returns-else-second-first-clause-here
+returns-else-second-first-clause-here c =
+    let fits : SFits w32 c.v-first.result = search rules in
+    let is : to_z w32 (of_z w32 c.v-first.result) ≡ c.in-Some-Some.p.now.0 = search rules in
+    inl (c.in-Some-Some.ensures.lookup.3.0, top_read c.args.a.now c.args.i c.in-Some-Some.p.now c.in-Some-Some.ensures.lookup.3.0 c.in-Some-Some.ensures.lookup.1 ∙ sym is)
+
+pub returns-in-Some-None-clause-in_a : goal.returns-in-Some-None-clause-in_a
+returns-in-Some-None-clause-in_a c =
+    let fits : SFits w32 c.v.result = search rules in
+    let is : to_z w32 (of_z w32 c.v.result) ≡ c.in-Some-None.p.now.0 = search rules in
+    read_hit c.args.a.now c.args.i c.in-Some-None.p.now (to_z w32 (of_z w32 c.v.result)) c.points-in-Some-None.result.now c.requires.a_rows c.in-Some-None.ensures.lookup.3.0 c.in-Some-None.ensures.lookup.1 is c.points-in-Some-None.ensures
+
+pub returns-in-Some-None-clause-in_b : goal.returns-in-Some-None-clause-in_b
+returns-in-Some-None-clause-in_b c = read_miss c.args.b.now c.args.j _ (λ l. absurd (search rules))
+
+pub returns-in-None-Some-clause-in_a : goal.returns-in-None-Some-clause-in_a
+returns-in-None-Some-clause-in_a c = read_miss c.args.a.now c.args.i _ (λ l. absurd (search rules))
+
+pub returns-in-None-Some-clause-in_b : goal.returns-in-None-Some-clause-in_b
+returns-in-None-Some-clause-in_b c =
+    let fits : SFits w32 c.v-in-None-Some.result = search rules in
+    let is : to_z w32 (of_z w32 c.v-in-None-Some.result) ≡ c.in-None-Some.q.now.0 = search rules in
+    read_hit c.args.b.now c.args.j c.in-None-Some.q.now (to_z w32 (of_z w32 c.v-in-None-Some.result)) c.points-in-None-Some.result.now c.requires.b_rows c.in-None-Some.ensures'.lookup.3.0 c.in-None-Some.ensures'.lookup.1 is c.points-in-None-Some.ensures

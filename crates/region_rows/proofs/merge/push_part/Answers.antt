@@ -7,16 +7,10 @@ use Rattle.region_rows.proofs.merge.push_part.Goals as goal
 
 pub returns-in-Shared : goal.returns-in-Shared
 returns-in-Shared c =
-    record { points = []; pixels = rw c.in-Shared.is (λ h. none_in [] h refl ∙ sym (c.is_beside.ensures c.if-is_beside.true h)); row = IsRow-nil; pushed = refl }
+    record { points = []; pixels = rw c.in-Shared.is (λ h. none_in [] h refl ∙ sym (c.is_beside.ensures.apart c.if-not-is_beside.false h)); row = IsRow-nil; pushed = refl }
 
 pub returns-in-Alone : goal.returns-in-Alone
 returns-in-Alone c =
     let fits_v = c.ranges.v in
     let pushed = simp to_z-of_z at c.push_row.ensures in
-    OnOk-weaker c.push_row.result _ _ (λ e. record { points = c.args.points.now; pixels = λ h. kept_beside _ _ _ c.in-Alone.is (c.is_beside.ensures c.if-is_beside.true h); row = c.requires.points; pushed = e }) pushed
-
-pub returns : goal.returns
-returns c =
-    let fits_v = c.ranges.v in
-    let pushed = simp (to_z-of_z, c.as_slice.ensures.value) at c.in_ok-push_row.ensures in
-    record { points = c.keep_part.new.out.items; pixels = c.in_ok-keep_part.ensures.pixels; row = c.in_ok-keep_part.ensures.row; pushed = pushed }
+    OnOk-weaker c.push_row.result _ _ (λ e. record { points = c.args.points.now; pixels = λ h. kept_beside _ _ _ c.in-Alone.is (c.is_beside.ensures.apart c.if-not-is_beside.false h); row = c.requires.points; pushed = e }) pushed

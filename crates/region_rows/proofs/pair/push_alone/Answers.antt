@@ -7,14 +7,14 @@ use Rattle.region_rows.proofs.pair.push_alone.Goals as goal
 
 pub returns-then-is_empty : goal.returns-then-is_empty
 returns-then-is_empty c =
-    let nil : c.columns_alone-points.result.items ≡ [] = nil_from_length _ (search rules) in
-    record { points = []; pixels = λ h. ap (λ xs. inside xs h) (sym nil) ∙ c.columns_alone-points.ensures.pixels h; row = IsRow-nil; pushed = refl }
+    let nil : c.edges_alone-points.result.items ≡ [] = nil_from_length _ (search rules) in
+    record { points = []; pixels = λ h. ap (λ xs. inside xs h) (sym nil) ∙ c.edges_alone-points.ensures.pixels h; row = IsRow-nil; pushed = refl }
 
 pub returns : goal.returns
 returns c =
     record {
-      points = c.columns_alone-points.result.items;
-      pixels = c.columns_alone-points.ensures.pixels;
-      row = c.columns_alone-points.ensures.row;
-      pushed = pushed_some c.args.rows.now.items c.push.new.self.items c.args.v c.columns_alone-points.result.items (search rules) (search rules);
+      points = c.edges_alone-points.result.items;
+      pixels = c.edges_alone-points.ensures.pixels;
+      row = c.edges_alone-points.ensures.row;
+      pushed = pushed_some c.args.rows.now.items c.push.new.self.items c.args.v c.edges_alone-points.result.items (search rules) (search rules);
     }

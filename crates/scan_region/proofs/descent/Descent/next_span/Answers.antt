@@ -58,10 +58,10 @@ rows-preserved c =
     let t = c.in_default-row_span.ensures in
     let told : length d.kept.items ≤ d.told = search rules in
     record {
-      descent = λ s r. let i = c.rows.invariant.descent s r in c.step.ensures.descent s (t.descent s i) (t.none s i).1;
+      descent = λ s r. let i = c.rows.invariant.descent s r in (c.step.ensures.down s (t.descent s i) (t.none s i).1).descent;
       spans = λ s r.
           let i = c.rows.invariant.descent s r in
           let none = t.none s i in
           c.rows.invariant.spans s r ∙ spans_walked d s c.row_span.new.self.walk [] told (none.0 ∙ sym none.1) t.right ∙ spans_below (record d { walk = c.row_span.new.self.walk }) s told none.1
-          ∙ ap (λ n. rows_runs s n.next n.left n.walk.right (count_to n.next n.bottom)) (sym t.kept) ∙ sym (c.step.ensures.spans s (t.descent s i) none.1);
+          ∙ ap (λ n. rows_runs s n.next n.left n.walk.right (count_to n.next n.bottom)) (sym t.kept) ∙ sym (c.step.ensures.down s (t.descent s i) none.1).spans;
     }

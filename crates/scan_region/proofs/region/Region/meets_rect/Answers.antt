@@ -19,12 +19,12 @@ meets_rows-requires-clause-across c = (sides_rise c.sect-area.result (sym c.is_e
 pub meets_rows-requires-clause-down : goal.meets_rows-requires-clause-down
 meets_rows-requires-clause-down c = (sides_rise c.sect-area.result (sym c.is_empty.ensures.sides ∙ c.if-is_empty.false)).down
 
-pub returns : goal.returns
-returns c =
+pub returns-in-Some : goal.returns-in-Some
+returns-in-Some c =
     let s = c.self.inside in
     let r = (opened _ _ c.self.invariant).are_rows in
     let shared = rw c.rect-bounds.ensures at c.sect-area.ensures.pixels in
-    let told = rw c.as_slice-2.ensures.value at c.meets_rows.ensures in (
+    let told = rw c.as_slice-2.ensures.value at c.in-Some.ensures in (
       λ t.
           let m = told.0 t in
           let p = m.0 in
@@ -34,6 +34,21 @@ returns c =
           let here = sym (has_viewed s.rows.items c.args.self.now c.self.view_is r p.h p.v) ∙ m.1 in
           let within = held s.rows.items s.bounds (opened _ _ c.self.invariant) p here in
           told.1 (p, here, shared p ∙ (λ i. within i && m.2 i)),
+    )
+
+pub returns : goal.returns
+returns c =
+    let s = c.self.inside in
+    let shared = rw c.rect-bounds.ensures at c.sect-area.ensures.pixels in
+    let told = c.walk_meets.ensures in (
+      λ t.
+          let m = told.0 t in
+          (m.0, m.2, (and_parts (rect_holds s.bounds m.0) (rect_holds c.args.rect m.0) (sym (shared m.0) ∙ m.1)).1),
+      λ m.
+          let p = m.0 in
+          let here = sym (has_viewed s.rows.items c.args.self.now c.self.view_is (opened _ _ c.self.invariant).are_rows p.h p.v) ∙ m.1 in
+          let within = held s.rows.items s.bounds (opened _ _ c.self.invariant) p here in
+          told.1 (p, shared p ∙ (λ i. within i && m.2 i), m.1),
     )
 
 pub returns-then-is_empty : goal.returns-then-is_empty
