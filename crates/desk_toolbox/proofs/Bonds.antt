@@ -12,7 +12,6 @@ use Rattle.desk_call.specs.declared.window.WindowReply.{WindowReply}
 use Rattle.window_list.specs.Classes.{back_place, front_place}
 use Rattle.std.specs.List.{insert}
 use Rattle.vis_update.specs.Records.{WindowRecord, is_floating}
-use Rattle.vis_update.specs.Touches.{is_this}
 use Rattle.window_mgr.specs.declared.arrange.Activation.{Activation}
 use Rattle.window_mgr.specs.declared.arrange.Activation.TheVariants.{Stays, Becomes}
 use Rattle.window_mgr.specs.Arrange.{Arrangement, with_highlighting, activated, activation_of, with_shown, with_placement, at_place, without, put_behind, put_next, in_front, behind_this, brought, sent, changed, placed}

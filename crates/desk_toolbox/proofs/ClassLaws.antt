@@ -19,7 +19,6 @@ use Rattle.desk_call.specs.declared.event.EventCall.TheVariants.{Post, Next, Ava
 use Rattle.desk_call.specs.declared.event.EventReply.{EventReply}
 use Rattle.vis_update.specs.Records.{WindowRecord, is_floating}
 use Rattle.window_mgr.specs.Finding.{record_with}
-use Rattle.window_mgr.specs.Refused.{is_missing}
 use Rattle.desk_toolbox.specs.declared.events.Events.{Events}
 use Rattle.desk_toolbox.specs.Activations.{IsNeverDisposed, activate_event_told, disposed_by, if_activate, is_activate}
 use Rattle.desk_toolbox.specs.Classes.{AreClassed, IsOfClass, IsOrdinary}
@@ -29,7 +28,7 @@ use Rattle.desk_toolbox.specs.Run.{IsEventAnswer, IsRunOfCalls, IsStep, replied}
 use Rattle.desk_toolbox.specs.ToolboxStates.{ToolboxState}
 use Rattle.desk_toolbox.proofs.Consistent.{step_keeps_consistent}
 use Rattle.desk_toolbox.proofs.EachManager.{HoldsOfEach, of_step}
-use Rattle.desk_toolbox.proofs.Histories.{IsOneStep, one_step}
+use Rattle.desk_toolbox.proofs.Histories.{one_step}
 use Rattle.desk_toolbox.proofs.Stands.{stands}
 use Rattle.desk_toolbox.proofs.StepCounts.{Apart, right_is_numbered, stays}
 use Rattle.desk_toolbox.proofs.Telling.{queued_is_no_activate}

@@ -2,15 +2,13 @@
 use Rattle.std.proofs.Common.{◌≡◌, ℕ, zero, suc, ◌+◌, ◌==◌, Bool, true, false, if◌then◌else◌, List, [], ◌∷◌, ◌++◌, length, map, Option, None, Some, refl, sym, ap, ◌∙◌, subst, arith}
 use Rattle.std.specs.Prelude.{All}
 use Rattle.std.specs.List.{insert, prefix_len}
-use Rattle.std.proofs.lemmas.List.Edits.{insert_end}
 use Rattle.std.proofs.lemmas.List.Elements.{All-nil, All-cons, All-head, All-tail}
-use Rattle.desk_call.specs.declared.window.SendBehind.{SendBehind}
 use Rattle.window_list.specs.Classes.{back_place, front_place, put_back, put_front}
 use Rattle.window_list.proofs.ClassLemmas.{prefix_map}
 use Rattle.vis_update.specs.Records.{WindowRecord, is_floating}
 use Rattle.window_mgr.specs.declared.arrange.Activation.{Activation}
 use Rattle.window_mgr.specs.declared.arrange.Activation.TheVariants.{Stays, Becomes}
-use Rattle.window_mgr.specs.Arrange.{activated, brought, changed, in_front, put_behind, put_next, with_highlighting, without}
+use Rattle.window_mgr.specs.Arrange.{activated, brought, changed, in_front, put_next, with_highlighting, without}
 use Rattle.window_mgr.specs.Finding.{record_with}
 use Rattle.window_mgr.proofs.DimLemmas.{either}
 use Rattle.desk_toolbox.specs.Classes.{AreClassed, AreTrueFirst}

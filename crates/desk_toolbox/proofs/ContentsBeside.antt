@@ -1,5 +1,5 @@
 -- The controls and the lists of a desk stay whole, and its windows show them, beside the calls of the other managers.
-use Rattle.std.proofs.Common.{◌≡◌, inl, inr, ℕ, ◌≤◌, ◌==◌, Bool, true, false, if◌then◌else◌, List, [], ◌∷◌, Result, Ok, Err, refl, sym, ◌∙◌, subst, arith}
+use Rattle.std.proofs.Common.{◌≡◌, ℕ, ◌≤◌, ◌==◌, Bool, true, false, if◌then◌else◌, List, [], ◌∷◌, Result, refl, sym, ◌∙◌, subst, arith}
 use Rattle.std.proofs.lemmas.Bool.{eqb-true}
 use Rattle.std.proofs.lemmas.List.Elements.{All-head, All-tail, All-weaker}
 use Rattle.std.specs.Prelude.{All}
@@ -7,11 +7,8 @@ use Rattle.tb_geom.specs.declared.refusal.Refusal.{Refusal}
 use Rattle.def_iface.specs.News.{News, told_title, told_highlighted, told_tracked}
 use Rattle.control_list.specs.Lists.{controls_of}
 use Rattle.desk_call.specs.declared.frame.FrameCall.{FrameCall}
-use Rattle.desk_call.specs.declared.frame.FrameCall.TheVariants.{SetTitle, Hilite, TrackGoAway, StepGoAway, EndGoAway}
 use Rattle.desk_call.specs.declared.frame.FrameReply.{FrameReply}
-use Rattle.desk_call.specs.declared.frame.FrameReply.TheVariants.{Done, Tracked}
 use Rattle.desk_call.specs.declared.activity.Standing.{Standing}
-use Rattle.desk_call.specs.declared.activity.Standing.TheVariants.{Asks, Updates, Tracks, Pulls, TracksControl, Drags, Grows, Changes}
 use Rattle.desk_call.specs.declared.menu.MenuCall.{MenuCall}
 use Rattle.desk_call.specs.declared.update.UpdateCall.{UpdateCall}
 use Rattle.desk_call.specs.declared.window.WindowReply.{WindowReply}
@@ -24,10 +21,11 @@ use Rattle.window_mgr.specs.DeskStates.{DeskState}
 use Rattle.window_mgr.specs.FrameNotices.{IsFrameNotified}
 use Rattle.window_mgr.specs.FullDesk.{FullDesk, FullState, IsRightState}
 use Rattle.window_mgr.specs.Refused.{is_missing}
-use Rattle.window_frame.specs.Followers.{Flag, Telling, AreNotified, IsCaughtUpBy, told_flag, with_heard}
+use Rattle.window_frame.specs.Followers.{Flag, IsCaughtUpBy, told_flag, with_heard}
 use Rattle.window_frame.specs.Followers.Flag.{Highlighting, Zooming}
-use Rattle.window_frame.specs.FrameSteps.{IsFrameStep, IsFrameEffect, IsBegunAt, IsTrackingNotified, with_flag, with_title, with_tracked}
+use Rattle.window_frame.specs.FrameSteps.{IsFrameStep, with_flag, with_title, with_tracked}
 use Rattle.window_frame.proofs.FrameKeeps.{frame_keeps}
+use Rattle.window_frame.proofs.ToldSteps.{HoldsOfFrames, of_caught_up, of_frame}
 use Rattle.control_mgr.specs.ControlDesks.{ControlRecord, ControlsState, controls_show}
 use Rattle.control_mgr.specs.ControlSteps.{AreLayersOf}
 use Rattle.control_mgr.specs.WholeControls.{AreWholeControls}
@@ -137,44 +135,26 @@ module _ (B : Bond) where
   heard_holds Highlighting w h = h
   heard_holds Zooming w h = h
 
-  are_told_holds : (ss : List Telling) (before after : FullState) → AreNotified ss before after → Every B before.desk.windows → Every B after.desk.windows
-  are_told_holds [] before after same h = subst (λ (s : FullState). Every B s.desk.windows) (sym same) h
-  are_told_holds (s ∷ ss) before after (middle, one, rest) h =
-      are_told_holds ss middle after rest (told_holds s.window (told_flag s.flag) (with_heard s.flag) (heard_holds s.flag) before middle one.told h)
+  abbrev StaysHeld : FullState → FullState → Type 0
+  StaysHeld before after = Every B before.desk.windows → Every B after.desk.windows
+
+  frames_hold : HoldsOfFrames StaysHeld
+  frames_hold = record {
+    unchanged = λ before after same h. subst (λ (d : FullDesk). Every B d.windows) (sym same.desk) h;
+    titled = λ title s before after told h. told_holds s (λ _. told_title title) (with_title title) (λ w k. k) before after told h;
+    highlighted = λ on s before after told h. told_holds s (λ _. told_highlighted on) (with_flag on) (λ w k. k) before after told h;
+    tracked = λ inside s before after told h. told_holds s (λ _. told_tracked inside) (with_tracked inside) (λ w k. k) before after told h;
+  }
 
   pub caught_up_holds : (standing : Standing) (before after : FullState) → IsCaughtUpBy standing before after → Every B before.desk.windows → Every B after.desk.windows
-  caught_up_holds Asks before after same h = subst (λ (s : FullState). Every B s.desk.windows) (sym same) h
-  caught_up_holds (Updates s) before after (ss, told, informed) h = are_told_holds ss before after told h
-  caught_up_holds Tracks before after (ss, told, informed) h = are_told_holds ss before after told h
-  caught_up_holds Pulls before after (ss, told, informed) h = are_told_holds ss before after told h
-  caught_up_holds TracksControl before after (ss, told, informed) h = are_told_holds ss before after told h
-  caught_up_holds Drags before after (ss, told, informed) h = are_told_holds ss before after told h
-  caught_up_holds Grows before after (ss, told, informed) h = are_told_holds ss before after told h
-  caught_up_holds Changes before after (ss, told, informed) h = are_told_holds ss before after told h
-
-  tracking_holds : (inside : Bool) (s : ℕ) (before after : FullState) → IsTrackingNotified inside s before after → Every B before.desk.windows → Every B after.desk.windows
-  tracking_holds inside s before after (inl (missing, same)) h = subst (λ (x : FullState). Every B x.desk.windows) (sym same) h
-  tracking_holds inside s before after (inr told) h = told_holds s (λ _. told_tracked inside) (with_tracked inside) (λ w k. k) before after told h
-
-  begun_holds : (s : ℕ) (inside : Bool) (before after : DeskState) → IsBegunAt s inside before after → Every B before.windows.desk.windows → Every B after.windows.desk.windows
-  begun_holds s true before after (tracked, told) h = tracking_holds true s before.windows after.windows told h
-  begun_holds s false before after same h = subst (λ (d : FullDesk). Every B d.windows) (sym same.windows.desk) h
-
-  effect_holds : (call : FrameCall) (answer : FrameReply) (before after : DeskState) → IsFrameEffect call answer before after → Every B before.windows.desk.windows → Every B after.windows.desk.windows
-  effect_holds (SetTitle n) Done before after (same, told) h = told_holds n.window (λ _. told_title n.title) (with_title n.title) (λ w k. k) before.windows after.windows told h
-  effect_holds (Hilite n) Done before after (same, told) h = told_holds n.window (λ _. told_highlighted n.highlighted) (with_flag n.highlighted) (λ w k. k) before.windows after.windows told h
-  effect_holds (TrackGoAway g) (Tracked inside) before after (is, begun) h = begun_holds g.window inside before after begun h
-  effect_holds (StepGoAway p) (Tracked inside) before after (same, tracked) h = tracking_holds inside tracked.window before.windows after.windows tracked.told h
-  effect_holds (EndGoAway p) (Tracked inside) before after (idle, tracked) h = tracking_holds false tracked.window before.windows after.windows tracked.told h
-  effect_holds (SetTitle n) (Tracked inside) before after wrong h = absurd wrong
-  effect_holds (Hilite n) (Tracked inside) before after wrong h = absurd wrong
-  effect_holds (TrackGoAway g) Done before after wrong h = absurd wrong
-  effect_holds (StepGoAway p) Done before after wrong h = absurd wrong
-  effect_holds (EndGoAway p) Done before after wrong h = absurd wrong
+  caught_up_holds = of_caught_up StaysHeld (record {
+    same = λ s h. h;
+    joined = λ first middle last one next h. next (one h);
+    told = λ flag s before after told h. told_holds s (told_flag flag) (with_heard flag) (heard_holds flag) before after told h;
+  })
 
   frame_holds : (call : FrameCall) (answer : Result FrameReply Refusal) (before after : DeskState) → IsFrameStep call answer before after → Every B before.windows.desk.windows → Every B after.windows.desk.windows
-  frame_holds call (Ok answer) before after step h = effect_holds call answer before after step.1 h
-  frame_holds call (Err e) before after step h = subst (λ (d : FullDesk). Every B d.windows) (sym step.1.windows.desk) h
+  frame_holds = of_frame StaysHeld frames_hold
 
 -- ---- windows that have the same serials and layers
 

@@ -1,5 +1,5 @@
 -- The stock of windows has all definitions but those of the windows that are there, whatever is called.
-use Rattle.std.proofs.Common.{◌≡◌, inl, inr, ℕ, ◌+◌, ◌==◌, Bool, true, false, if◌then◌else◌, List, [], ◌∷◌, ◌++◌, map, Option, None, Some, Result, Ok, Err, refl, sym, ap, ◌∙◌, subst, arith, zero, suc}
+use Rattle.std.proofs.Common.{◌≡◌, ℕ, ◌+◌, ◌==◌, Bool, true, false, if◌then◌else◌, List, [], ◌∷◌, ◌++◌, map, Option, None, Some, Result, Ok, Err, refl, sym, ap, ◌∙◌, subst, arith, zero, suc}
 use Rattle.std.specs.Prelude.{slice_get}
 use Rattle.tb_geom.specs.declared.refusal.Refusal.{Refusal}
 use Rattle.tb_geom.specs.Points.{PixelSet, plus}
@@ -7,14 +7,9 @@ use Rattle.def_iface.specs.declared.window_def.Stage.{Stage}
 use Rattle.def_iface.specs.Meaning.{Definition}
 use Rattle.def_iface.specs.News.{News, told_highlighted, told_title, told_tracked}
 use Rattle.def_iface.specs.Stocked.{SlotView}
-use Rattle.desk_call.specs.declared.activity.Standing.{Standing}
-use Rattle.desk_call.specs.declared.activity.Standing.TheVariants.{Asks, Updates, Tracks, Pulls, TracksControl, Drags, Grows, Changes}
 use Rattle.desk_call.specs.declared.call.Call.{Call}
 use Rattle.desk_call.specs.declared.call.Reply.{Reply}
-use Rattle.desk_call.specs.declared.frame.FrameCall.{FrameCall}
-use Rattle.desk_call.specs.declared.frame.FrameCall.TheVariants.{SetTitle, Hilite, TrackGoAway, StepGoAway, EndGoAway}
-use Rattle.desk_call.specs.declared.frame.FrameReply.{FrameReply}
-use Rattle.desk_call.specs.declared.frame.FrameReply.TheVariants.{Done, Tracked}
+use Rattle.desk_call.specs.declared.frame.FrameReply.TheVariants.{Done}
 use Rattle.desk_call.specs.declared.window.MoveWindow.{MoveWindow}
 use Rattle.desk_call.specs.declared.window.NewWindow.{NewWindow}
 use Rattle.desk_call.specs.declared.window.SendBehind.{SendBehind}
@@ -26,7 +21,6 @@ use Rattle.window_list.specs.Classes.{back_place, front_place}
 use Rattle.std.specs.List.{insert}
 use Rattle.desk_toolbox.proofs.Totals.{alone}
 use Rattle.vis_update.specs.Records.{WindowRecord, is_floating}
-use Rattle.vis_update.specs.Touches.{is_this}
 use Rattle.window_mgr.specs.declared.arrange.Activation.{Activation}
 use Rattle.window_mgr.specs.declared.arrange.Activation.TheVariants.{Stays, Becomes}
 use Rattle.window_mgr.specs.Arrange.{Arrangement, activated, activation_of, at_place, behind_this, brought, changed, in_front, put_behind, put_next, sent, with_highlighting, with_placement, with_shown, without}
@@ -39,9 +33,10 @@ use Rattle.window_mgr.specs.FrameNotices.{IsFrameNotified}
 use Rattle.window_mgr.specs.FullDesk.{FullDesk, FullState}
 use Rattle.window_mgr.specs.Placings.{Placing, sized, zoomed}
 use Rattle.window_mgr.proofs.DimLemmas.{either}
-use Rattle.window_frame.specs.Followers.{AreNotified, Flag, IsCaughtUpBy, Telling, told_flag, with_heard}
+use Rattle.window_frame.specs.Followers.{Flag, told_flag, with_heard}
 use Rattle.window_frame.specs.Followers.Flag.{Highlighting, Zooming}
-use Rattle.window_frame.specs.FrameSteps.{IsBegunAt, IsFrameEffect, IsFrameStep, IsTrackingNotified, with_flag, with_title, with_tracked}
+use Rattle.window_frame.specs.FrameSteps.{with_flag, with_title, with_tracked}
+use Rattle.window_frame.proofs.ToldSteps.{HoldsOfFollowing, HoldsOfFrames, of_caught_up, of_frame}
 use Rattle.control_mgr.specs.InUse.{AreStocked, IsUsedBy, uses}
 use Rattle.control_mgr.proofs.ControlBits.{bare}
 use Rattle.control_mgr.proofs.ControlFacts.{control_facts}
@@ -264,53 +259,30 @@ heard_slot : (flag : Flag) (w : WindowRecord) → (with_heard flag w).slot ≡ w
 heard_slot Highlighting w = refl
 heard_slot Zooming w = refl
 
-are_told_stocked : (ts : List Telling) (before after : FullState) → AreNotified ts before after → AreWindowsStocked before.desk → AreWindowsStocked after.desk
-are_told_stocked [] before after same h = same_stocked before.desk after.desk (same_desk before.desk after.desk (ap (λ (s : FullState). s.desk) same)) h
-are_told_stocked (t ∷ ts) before after (middle, one, rest) h =
-    are_told_stocked ts middle after rest (told_takes t.window (told_flag t.flag) (with_heard t.flag) (heard_slot t.flag) before middle one.told h)
+abbrev StaysStocked : FullState → FullState → Type 0
+StaysStocked before after = AreWindowsStocked before.desk → AreWindowsStocked after.desk
 
-caught_up_stocked : (standing : Standing) (before after : FullState) → IsCaughtUpBy standing before after → AreWindowsStocked before.desk → AreWindowsStocked after.desk
-caught_up_stocked Asks before after same h = same_stocked before.desk after.desk (same_desk before.desk after.desk (ap (λ (s : FullState). s.desk) same)) h
-caught_up_stocked (Updates s) before after (ts, told, informed) h = are_told_stocked ts before after told h
-caught_up_stocked Tracks before after (ts, told, informed) h = are_told_stocked ts before after told h
-caught_up_stocked Pulls before after (ts, told, informed) h = are_told_stocked ts before after told h
-caught_up_stocked TracksControl before after (ts, told, informed) h = are_told_stocked ts before after told h
-caught_up_stocked Drags before after (ts, told, informed) h = are_told_stocked ts before after told h
-caught_up_stocked Grows before after (ts, told, informed) h = are_told_stocked ts before after told h
-caught_up_stocked Changes before after (ts, told, informed) h = are_told_stocked ts before after told h
+following_stocked : HoldsOfFollowing StaysStocked
+following_stocked = record {
+  same = λ s h. h;
+  joined = λ first middle last one next h. next (one h);
+  told = λ flag s before after told h. told_takes s (told_flag flag) (with_heard flag) (heard_slot flag) before after told h;
+}
+
+frames_stocked : HoldsOfFrames StaysStocked
+frames_stocked = record {
+  unchanged = λ before after same h. same_stocked before.desk after.desk (same_desk before.desk after.desk same.desk) h;
+  titled = λ title s before after told h. told_takes s (λ _. told_title title) (with_title title) (λ w. refl) before after told h;
+  highlighted = λ on s before after told h. told_takes s (λ _. told_highlighted on) (with_flag on) (λ w. refl) before after told h;
+  tracked = λ inside s before after told h. told_takes s (λ _. told_tracked inside) (with_tracked inside) (λ w. refl) before after told h;
+}
 
 made_stocked : (call : WindowCall) (answer : Result WindowReply Refusal) (before after : ToolboxState) → IsWindowMade call answer before after → AreWindowsStocked before.desk.windows.desk → AreWindowsStocked after.desk.windows.desk
 made_stocked call (Ok answer) before after made h =
     same_stocked made.told.desk after.desk.windows.desk (record { stock = ap (λ (s : FullState). s.desk.stock) made.shown; all = λ k. ap (λ (s : FullState). takes k s.desk.windows) made.shown })
-    (caught_up_stocked (window_standing call) made.middle.windows made.told made.caught_up (answer_stocked (narrowed call before.desk.activity before.desk.begun) call answer before.desk made.middle made.answered h))
+    (of_caught_up StaysStocked following_stocked (window_standing call) made.middle.windows made.told made.caught_up (answer_stocked (narrowed call before.desk.activity before.desk.begun) call answer before.desk made.middle made.answered h))
 made_stocked call (Err e) before after step h =
     same_stocked before.desk.windows.desk after.desk.windows.desk (same_desk before.desk.windows.desk after.desk.windows.desk (refused_keeps_desk (narrowed call before.desk.activity before.desk.begun) call e before.desk after.desk step.0)) h
-
--- ---- calls about frames
-
-tracking_stocked : (inside : Bool) (s : ℕ) (before after : FullState) → IsTrackingNotified inside s before after → AreWindowsStocked before.desk → AreWindowsStocked after.desk
-tracking_stocked inside s before after (inl (missing, same)) h = same_stocked before.desk after.desk (same_desk before.desk after.desk (ap (λ (x : FullState). x.desk) same)) h
-tracking_stocked inside s before after (inr told) h = told_takes s (λ _. told_tracked inside) (with_tracked inside) (λ w. refl) before after told h
-
-begun_stocked : (s : ℕ) (inside : Bool) (before after : DeskState) → IsBegunAt s inside before after → AreWindowsStocked before.windows.desk → AreWindowsStocked after.windows.desk
-begun_stocked s true before after (tracked, told) h = tracking_stocked true s before.windows after.windows told h
-begun_stocked s false before after same h = same_stocked before.windows.desk after.windows.desk (same_desk before.windows.desk after.windows.desk same.windows.desk) h
-
-frame_effect_stocked : (call : FrameCall) (answer : FrameReply) (before after : DeskState) → IsFrameEffect call answer before after → AreWindowsStocked before.windows.desk → AreWindowsStocked after.windows.desk
-frame_effect_stocked (SetTitle n) Done before after (same, told) h = told_takes n.window (λ _. told_title n.title) (with_title n.title) (λ w. refl) before.windows after.windows told h
-frame_effect_stocked (Hilite n) Done before after (same, told) h = told_takes n.window (λ _. told_highlighted n.highlighted) (with_flag n.highlighted) (λ w. refl) before.windows after.windows told h
-frame_effect_stocked (TrackGoAway g) (Tracked inside) before after (is, begun) h = begun_stocked g.window inside before after begun h
-frame_effect_stocked (StepGoAway p) (Tracked inside) before after (same, tracked) h = tracking_stocked inside tracked.window before.windows after.windows tracked.told h
-frame_effect_stocked (EndGoAway p) (Tracked inside) before after (idle, tracked) h = tracking_stocked false tracked.window before.windows after.windows tracked.told h
-frame_effect_stocked (SetTitle n) (Tracked inside) before after wrong h = absurd wrong
-frame_effect_stocked (Hilite n) (Tracked inside) before after wrong h = absurd wrong
-frame_effect_stocked (TrackGoAway g) Done before after wrong h = absurd wrong
-frame_effect_stocked (StepGoAway p) Done before after wrong h = absurd wrong
-frame_effect_stocked (EndGoAway p) Done before after wrong h = absurd wrong
-
-frame_stocked : (call : FrameCall) (answer : Result FrameReply Refusal) (before after : DeskState) → IsFrameStep call answer before after → AreWindowsStocked before.windows.desk → AreWindowsStocked after.windows.desk
-frame_stocked call (Ok answer) before after step h = frame_effect_stocked call answer before after step.1 h
-frame_stocked call (Err e) before after step h = same_stocked before.windows.desk after.windows.desk (same_desk before.windows.desk after.windows.desk step.1.windows.desk) h
 
 -- ---- any step
 
@@ -330,7 +302,7 @@ each_keeps_stocked = record {
   hidden = λ p before after same h. still_stocked before after same.desk.windows.desk h;
   window = λ call answer before after may step h. made_stocked call answer before after step h;
   update = λ call answer before after may step rest h. still_stocked before after (update_keeps_desk call answer before.desk after.desk step) h;
-  frame = λ call answer before after may step rest h. frame_stocked call answer before.desk after.desk step h;
+  frame = λ call answer before after may step rest h. of_frame StaysStocked frames_stocked call answer before.desk after.desk step h;
   control = λ call answer before after may step events lists menus h.
       let facts = (control_facts call answer (with_controls before) (with_controls after) step).0 in
       same_stocked before.desk.windows.desk after.desk.windows.desk

@@ -1,20 +1,15 @@
 -- Whatever is called, the windows that float stand in front of the others.
-use Rattle.std.proofs.Common.{◌≡◌, inl, inr, ℕ, ◌==◌, Bool, true, false, not, if◌then◌else◌, List, [], ◌∷◌, ◌++◌, map, Option, None, Some, Result, Ok, Err, refl, sym, ap, ◌∙◌, subst, arith}
+use Rattle.std.proofs.Common.{◌≡◌, ℕ, ◌==◌, Bool, true, false, not, if◌then◌else◌, List, [], ◌∷◌, map, Option, None, Some, Result, Ok, Err, refl, sym, ap, ◌∙◌, subst, arith}
 use Rattle.std.proofs.lemmas.Bool.Decides.{nat_tests}
 use Rattle.std.specs.Prelude.{is_none}
 use Rattle.tb_geom.specs.declared.refusal.Refusal.{Refusal}
 use Rattle.tb_geom.specs.declared.refusal.Refusal.TheVariants.{NoSuchWindow, OutOfRange}
-use Rattle.tb_geom.specs.Points.{PixelSet, plus}
+use Rattle.tb_geom.specs.Points.{PixelSet}
 use Rattle.tb_geom.specs.Refusals.{first_refusal}
 use Rattle.def_iface.specs.News.{News, told_highlighted, told_title, told_tracked}
-use Rattle.desk_call.specs.declared.activity.Standing.{Standing}
-use Rattle.desk_call.specs.declared.activity.Standing.TheVariants.{Asks, Updates, Tracks, Pulls, TracksControl, Drags, Grows, Changes}
 use Rattle.desk_call.specs.declared.call.Call.{Call}
 use Rattle.desk_call.specs.declared.call.Reply.{Reply}
-use Rattle.desk_call.specs.declared.frame.FrameCall.{FrameCall}
-use Rattle.desk_call.specs.declared.frame.FrameCall.TheVariants.{SetTitle, Hilite, TrackGoAway, StepGoAway, EndGoAway}
-use Rattle.desk_call.specs.declared.frame.FrameReply.{FrameReply}
-use Rattle.desk_call.specs.declared.frame.FrameReply.TheVariants.{Done, Tracked}
+use Rattle.desk_call.specs.declared.frame.FrameReply.TheVariants.{Done}
 use Rattle.desk_call.specs.declared.window.MoveWindow.{MoveWindow}
 use Rattle.desk_call.specs.declared.window.NewWindow.{NewWindow}
 use Rattle.desk_call.specs.declared.window.SendBehind.{SendBehind}
@@ -35,10 +30,11 @@ use Rattle.window_mgr.specs.FrameNotices.{IsFrameNotified}
 use Rattle.window_mgr.specs.FullDesk.{FullDesk, FullState}
 use Rattle.window_mgr.specs.Placings.{Placing, sized, zoomed}
 use Rattle.window_mgr.specs.Refused.{IsRefusal, are_apart, behind_refusals, is_missing, is_named_missing, named_record}
-use Rattle.window_frame.specs.Followers.{AreNotified, Flag, IsCaughtUpBy, Telling, told_flag, with_heard}
+use Rattle.window_frame.specs.Followers.{Flag, told_flag, with_heard}
 use Rattle.window_frame.specs.Followers.Flag.{Highlighting, Zooming}
 use Rattle.window_frame.proofs.Relighting.{without_other}
-use Rattle.window_frame.specs.FrameSteps.{IsBegunAt, IsFrameEffect, IsFrameStep, IsTrackingNotified, with_flag, with_title, with_tracked}
+use Rattle.window_frame.specs.FrameSteps.{with_flag, with_title, with_tracked}
+use Rattle.window_frame.proofs.ToldSteps.{HoldsOfFollowing, HoldsOfFrames, of_caught_up, of_frame}
 use Rattle.control_mgr.proofs.ControlBits.{bare}
 use Rattle.control_mgr.proofs.ControlFacts.{control_facts}
 use Rattle.list_mgr.proofs.ListFacts.{list_facts}
@@ -205,56 +201,33 @@ heard_floating : (flag : Flag) (w : WindowRecord) → (with_heard flag w).floati
 heard_floating Highlighting w = refl
 heard_floating Zooming w = refl
 
-are_told_alike : (ts : List Telling) (before after : FullState) → AreNotified ts before after → Alike before.desk after.desk
-are_told_alike [] before after same = same_alike before.desk after.desk (ap (λ (s : FullState). s.desk) same)
-are_told_alike (t ∷ ts) before after (middle, one, rest) =
-    are_told_alike ts middle after rest ∙ told_alike t.window (told_flag t.flag) (with_heard t.flag) (heard_floating t.flag) before middle one.told
+abbrev StaysAlike : FullState → FullState → Type 0
+StaysAlike before after = Alike before.desk after.desk
 
-caught_up_alike : (standing : Standing) (before after : FullState) → IsCaughtUpBy standing before after → Alike before.desk after.desk
-caught_up_alike Asks before after same = same_alike before.desk after.desk (ap (λ (s : FullState). s.desk) same)
-caught_up_alike (Updates s) before after (ts, told, informed) = are_told_alike ts before after told
-caught_up_alike Tracks before after (ts, told, informed) = are_told_alike ts before after told
-caught_up_alike Pulls before after (ts, told, informed) = are_told_alike ts before after told
-caught_up_alike TracksControl before after (ts, told, informed) = are_told_alike ts before after told
-caught_up_alike Drags before after (ts, told, informed) = are_told_alike ts before after told
-caught_up_alike Grows before after (ts, told, informed) = are_told_alike ts before after told
-caught_up_alike Changes before after (ts, told, informed) = are_told_alike ts before after told
+following_alike : HoldsOfFollowing StaysAlike
+following_alike = record {
+  same = λ s. refl;
+  joined = λ first middle last one next. next ∙ one;
+  told = λ flag s before after told. told_alike s (told_flag flag) (with_heard flag) (heard_floating flag) before after told;
+}
+
+frames_alike : HoldsOfFrames StaysAlike
+frames_alike = record {
+  unchanged = λ before after same. same_alike before.desk after.desk same.desk;
+  titled = λ title s before after told. told_alike s (λ _. told_title title) (with_title title) (λ w. refl) before after told;
+  highlighted = λ on s before after told. told_alike s (λ _. told_highlighted on) (with_flag on) (λ w. refl) before after told;
+  tracked = λ inside s before after told. told_alike s (λ _. told_tracked inside) (with_tracked inside) (λ w. refl) before after told;
+}
 
 window_classed : (call : WindowCall) (answer : Result WindowReply Refusal) (before after : ToolboxState) → IsWindowMade call answer before after → AreClassed before.desk.windows.desk.windows → AreClassed after.desk.windows.desk.windows
 window_classed call (Ok answer) before after made h =
     let asked = narrowed call before.desk.activity before.desk.begun in
     subst (λ (s : FullState). AreClassed s.desk.windows) (sym made.shown)
-    (then_classed made.middle.windows.desk made.told.desk (caught_up_alike (window_standing call) made.middle.windows made.told made.caught_up)
+    (then_classed made.middle.windows.desk made.told.desk (of_caught_up StaysAlike following_alike (window_standing call) made.middle.windows made.told made.caught_up)
     (answer_classed asked call answer before.desk made.middle made.answered h))
 window_classed call (Err e) before after step h =
     let asked = narrowed call before.desk.activity before.desk.begun in
     then_classed before.desk.windows.desk after.desk.windows.desk (same_alike before.desk.windows.desk after.desk.windows.desk (refused_keeps_desk asked call e before.desk after.desk step.0)) h
-
--- ---- calls about frames
-
-tracking_alike : (inside : Bool) (s : ℕ) (before after : FullState) → IsTrackingNotified inside s before after → Alike before.desk after.desk
-tracking_alike inside s before after (inl (missing, same)) = same_alike before.desk after.desk (ap (λ (x : FullState). x.desk) same)
-tracking_alike inside s before after (inr told) = told_alike s (λ _. told_tracked inside) (with_tracked inside) (λ w. refl) before after told
-
-begun_alike : (s : ℕ) (inside : Bool) (before after : DeskState) → IsBegunAt s inside before after → Alike before.windows.desk after.windows.desk
-begun_alike s true before after (tracked, told) = tracking_alike true s before.windows after.windows told
-begun_alike s false before after same = same_alike before.windows.desk after.windows.desk same.windows.desk
-
-frame_effect_alike : (call : FrameCall) (answer : FrameReply) (before after : DeskState) → IsFrameEffect call answer before after → Alike before.windows.desk after.windows.desk
-frame_effect_alike (SetTitle n) Done before after (same, told) = told_alike n.window (λ _. told_title n.title) (with_title n.title) (λ w. refl) before.windows after.windows told
-frame_effect_alike (Hilite n) Done before after (same, told) = told_alike n.window (λ _. told_highlighted n.highlighted) (with_flag n.highlighted) (λ w. refl) before.windows after.windows told
-frame_effect_alike (TrackGoAway g) (Tracked inside) before after (is, begun) = begun_alike g.window inside before after begun
-frame_effect_alike (StepGoAway p) (Tracked inside) before after (same, tracked) = tracking_alike inside tracked.window before.windows after.windows tracked.told
-frame_effect_alike (EndGoAway p) (Tracked inside) before after (idle, tracked) = tracking_alike false tracked.window before.windows after.windows tracked.told
-frame_effect_alike (SetTitle n) (Tracked inside) before after wrong = absurd wrong
-frame_effect_alike (Hilite n) (Tracked inside) before after wrong = absurd wrong
-frame_effect_alike (TrackGoAway g) Done before after wrong = absurd wrong
-frame_effect_alike (StepGoAway p) Done before after wrong = absurd wrong
-frame_effect_alike (EndGoAway p) Done before after wrong = absurd wrong
-
-frame_alike : (call : FrameCall) (answer : Result FrameReply Refusal) (before after : DeskState) → IsFrameStep call answer before after → Alike before.windows.desk after.windows.desk
-frame_alike call (Ok answer) before after step = frame_effect_alike call answer before after step.1
-frame_alike call (Err e) before after step = same_alike before.windows.desk after.windows.desk step.1.windows.desk
 
 -- ---- any step
 
@@ -274,7 +247,7 @@ each_stays_classed = record {
   hidden = λ p before after same h. still_classed before after same.desk.windows.desk h;
   window = λ call answer before after may step h. window_classed call answer before after step h;
   update = λ call answer before after may step rest h. still_classed before after (update_keeps_desk call answer before.desk after.desk step) h;
-  frame = λ call answer before after may step rest h. then_classed before.desk.windows.desk after.desk.windows.desk (frame_alike call answer before.desk after.desk step) h;
+  frame = λ call answer before after may step rest h. then_classed before.desk.windows.desk after.desk.windows.desk (of_frame StaysAlike frames_alike call answer before.desk after.desk step) h;
   control = λ call answer before after may step events lists menus h.
       let facts = (control_facts call answer (with_controls before) (with_controls after) step).0 in
       then_classed before.desk.windows.desk after.desk.windows.desk (bare_alike before.desk.windows.desk.windows after.desk.windows.desk.windows facts.windows) h;

@@ -1,5 +1,5 @@
 -- Each window's definition is live, was told its size, and goes by what the record says that it heard, whatever is called.
-use Rattle.std.proofs.Common.{◌≡◌, inl, inr, ℕ, ◌==◌, Bool, true, false, if◌then◌else◌, List, [], ◌∷◌, ◌++◌, map, Option, None, Some, Result, Ok, Err, refl, sym, ap, subst, zero, suc}
+use Rattle.std.proofs.Common.{◌≡◌, ℕ, ◌==◌, Bool, true, false, if◌then◌else◌, List, [], ◌∷◌, ◌++◌, map, Option, None, Some, Result, Ok, Err, refl, sym, subst, zero, suc}
 use Rattle.std.specs.Prelude.{All}
 use Rattle.std.specs.Option.{is_some}
 use Rattle.std.proofs.lemmas.List.Elements.{All-cons, All-head, All-nil, All-tail}
@@ -8,14 +8,9 @@ use Rattle.tb_geom.specs.Points.{PixelSet, plus}
 use Rattle.def_iface.specs.Meaning.{Definition}
 use Rattle.def_iface.specs.News.{News, told_highlighted, told_placed, told_title, told_tracked}
 use Rattle.def_iface.proofs.Hearing.{goes_by_all, goes_by_news}
-use Rattle.desk_call.specs.declared.activity.Standing.{Standing}
-use Rattle.desk_call.specs.declared.activity.Standing.TheVariants.{Asks, Updates, Tracks, Pulls, TracksControl, Drags, Grows, Changes}
 use Rattle.desk_call.specs.declared.call.Call.{Call}
 use Rattle.desk_call.specs.declared.call.Reply.{Reply}
-use Rattle.desk_call.specs.declared.frame.FrameCall.{FrameCall}
-use Rattle.desk_call.specs.declared.frame.FrameCall.TheVariants.{SetTitle, Hilite, TrackGoAway, StepGoAway, EndGoAway}
-use Rattle.desk_call.specs.declared.frame.FrameReply.{FrameReply}
-use Rattle.desk_call.specs.declared.frame.FrameReply.TheVariants.{Done, Tracked}
+use Rattle.desk_call.specs.declared.frame.FrameReply.TheVariants.{Done}
 use Rattle.desk_call.specs.declared.window.MoveWindow.{MoveWindow}
 use Rattle.desk_call.specs.declared.window.NewWindow.{NewWindow}
 use Rattle.desk_call.specs.declared.window.WindowCall.{WindowCall}
@@ -25,7 +20,6 @@ use Rattle.desk_call.specs.Gates.{window_standing}
 use Rattle.window_list.specs.Classes.{back_place, front_place}
 use Rattle.std.specs.List.{insert}
 use Rattle.vis_update.specs.Records.{WindowRecord, news_of, is_floating}
-use Rattle.vis_update.specs.Touches.{is_this}
 use Rattle.window_mgr.specs.declared.arrange.Activation.{Activation}
 use Rattle.window_mgr.specs.declared.arrange.Activation.TheVariants.{Stays, Becomes}
 use Rattle.window_mgr.specs.Arrange.{activated, activation_of, at_place, behind_this, brought, changed, in_front, put_behind, put_next, sent, with_highlighting, with_placement, with_shown, without}
@@ -38,9 +32,10 @@ use Rattle.window_mgr.specs.FrameNotices.{IsFrameNotified}
 use Rattle.window_mgr.specs.FullDesk.{FullDesk, FullState}
 use Rattle.window_mgr.specs.Placings.{Placing, sized, zoomed}
 use Rattle.window_mgr.proofs.DimLemmas.{either}
-use Rattle.window_frame.specs.Followers.{AreNotified, Flag, IsCaughtUpBy, Telling, told_flag, with_heard}
+use Rattle.window_frame.specs.Followers.{Flag, told_flag, with_heard}
 use Rattle.window_frame.specs.Followers.Flag.{Highlighting, Zooming}
-use Rattle.window_frame.specs.FrameSteps.{IsBegunAt, IsFrameEffect, IsFrameStep, IsTrackingNotified, with_flag, with_title, with_tracked}
+use Rattle.window_frame.specs.FrameSteps.{with_flag, with_title, with_tracked}
+use Rattle.window_frame.proofs.ToldSteps.{HoldsOfFollowing, HoldsOfFrames, of_caught_up, of_frame}
 use Rattle.control_mgr.proofs.ControlBits.{bare}
 use Rattle.control_mgr.proofs.ControlFacts.{control_facts}
 use Rattle.list_mgr.proofs.ListFacts.{list_facts}
@@ -283,53 +278,30 @@ heard_told Zooming w d was told = record {
   goes_by = goes_by_news (told_flag Zooming w) (news_of w) (news_of (record (with_heard Zooming w) { definition = d })) w.definition d (λ n. refl) (λ n. refl) was.goes_by told.heard;
 }
 
-are_told_live : (ts : List Telling) (before after : FullState) → AreNotified ts before after → HaveLive before.desk.windows → HaveLive after.desk.windows
-are_told_live [] before after same h = same_live before after (ap (λ (s : FullState). s.desk) same) h
-are_told_live (t ∷ ts) before after (middle, one, rest) h =
-    are_told_live ts middle after rest (told_live t.window (told_flag t.flag) (with_heard t.flag) (heard_told t.flag) before middle one.told h)
+abbrev StaysLive : FullState → FullState → Type 0
+StaysLive before after = HaveLive before.desk.windows → HaveLive after.desk.windows
 
-caught_up_live : (standing : Standing) (before after : FullState) → IsCaughtUpBy standing before after → HaveLive before.desk.windows → HaveLive after.desk.windows
-caught_up_live Asks before after same h = same_live before after (ap (λ (s : FullState). s.desk) same) h
-caught_up_live (Updates s) before after (ts, told, informed) h = are_told_live ts before after told h
-caught_up_live Tracks before after (ts, told, informed) h = are_told_live ts before after told h
-caught_up_live Pulls before after (ts, told, informed) h = are_told_live ts before after told h
-caught_up_live TracksControl before after (ts, told, informed) h = are_told_live ts before after told h
-caught_up_live Drags before after (ts, told, informed) h = are_told_live ts before after told h
-caught_up_live Grows before after (ts, told, informed) h = are_told_live ts before after told h
-caught_up_live Changes before after (ts, told, informed) h = are_told_live ts before after told h
+following_live : HoldsOfFollowing StaysLive
+following_live = record {
+  same = λ s h. h;
+  joined = λ first middle last one next h. next (one h);
+  told = λ flag s before after told h. told_live s (told_flag flag) (with_heard flag) (heard_told flag) before after told h;
+}
+
+frames_live : HoldsOfFrames StaysLive
+frames_live = record {
+  unchanged = λ before after same h. same_live before after same.desk h;
+  titled = λ title s before after told h. told_live s (λ _. told_title title) (with_title title) (title_told title) before after told h;
+  highlighted = λ on s before after told h. told_live s (λ _. told_highlighted on) (with_flag on) (flag_told on) before after told h;
+  tracked = λ inside s before after told h. told_live s (λ _. told_tracked inside) (with_tracked inside) (tracked_told inside) before after told h;
+}
 
 made_live : (call : WindowCall) (answer : Result WindowReply Refusal) (before after : ToolboxState) → IsWindowMade call answer before after → HaveLive before.desk.windows.desk.windows → HaveLive after.desk.windows.desk.windows
 made_live call (Ok answer) before after made h =
     subst (λ (s : FullState). HaveLive s.desk.windows) (sym made.shown)
-    (caught_up_live (window_standing call) made.middle.windows made.told made.caught_up (answer_live (narrowed call before.desk.activity before.desk.begun) call answer before.desk made.middle made.answered h))
+    (of_caught_up StaysLive following_live (window_standing call) made.middle.windows made.told made.caught_up (answer_live (narrowed call before.desk.activity before.desk.begun) call answer before.desk made.middle made.answered h))
 made_live call (Err e) before after step h =
     same_live before.desk.windows after.desk.windows (refused_keeps_desk (narrowed call before.desk.activity before.desk.begun) call e before.desk after.desk step.0) h
-
--- ---- calls about frames
-
-tracking_live : (inside : Bool) (s : ℕ) (before after : FullState) → IsTrackingNotified inside s before after → HaveLive before.desk.windows → HaveLive after.desk.windows
-tracking_live inside s before after (inl (missing, same)) h = same_live before after (ap (λ (x : FullState). x.desk) same) h
-tracking_live inside s before after (inr told) h = told_live s (λ _. told_tracked inside) (with_tracked inside) (tracked_told inside) before after told h
-
-begun_live : (s : ℕ) (inside : Bool) (before after : DeskState) → IsBegunAt s inside before after → HaveLive before.windows.desk.windows → HaveLive after.windows.desk.windows
-begun_live s true before after (tracked, told) h = tracking_live true s before.windows after.windows told h
-begun_live s false before after same h = same_live before.windows after.windows same.windows.desk h
-
-frame_effect_live : (call : FrameCall) (answer : FrameReply) (before after : DeskState) → IsFrameEffect call answer before after → HaveLive before.windows.desk.windows → HaveLive after.windows.desk.windows
-frame_effect_live (SetTitle n) Done before after (same, told) h = told_live n.window (λ _. told_title n.title) (with_title n.title) (title_told n.title) before.windows after.windows told h
-frame_effect_live (Hilite n) Done before after (same, told) h = told_live n.window (λ _. told_highlighted n.highlighted) (with_flag n.highlighted) (flag_told n.highlighted) before.windows after.windows told h
-frame_effect_live (TrackGoAway g) (Tracked inside) before after (is, begun) h = begun_live g.window inside before after begun h
-frame_effect_live (StepGoAway p) (Tracked inside) before after (same, tracked) h = tracking_live inside tracked.window before.windows after.windows tracked.told h
-frame_effect_live (EndGoAway p) (Tracked inside) before after (idle, tracked) h = tracking_live false tracked.window before.windows after.windows tracked.told h
-frame_effect_live (SetTitle n) (Tracked inside) before after wrong h = absurd wrong
-frame_effect_live (Hilite n) (Tracked inside) before after wrong h = absurd wrong
-frame_effect_live (TrackGoAway g) Done before after wrong h = absurd wrong
-frame_effect_live (StepGoAway p) Done before after wrong h = absurd wrong
-frame_effect_live (EndGoAway p) Done before after wrong h = absurd wrong
-
-frame_live : (call : FrameCall) (answer : Result FrameReply Refusal) (before after : DeskState) → IsFrameStep call answer before after → HaveLive before.windows.desk.windows → HaveLive after.windows.desk.windows
-frame_live call (Ok answer) before after step h = frame_effect_live call answer before after step.1 h
-frame_live call (Err e) before after step h = same_live before.windows after.windows step.1.windows.desk h
 
 -- ---- windows that are the same but for their layers
 
@@ -357,7 +329,7 @@ each_keeps_live = record {
   hidden = λ p before after same h. same_live before.desk.windows after.desk.windows same.desk.windows.desk h;
   window = λ call answer before after may step h. made_live call answer before after step h;
   update = λ call answer before after may step rest h. same_live before.desk.windows after.desk.windows (update_keeps_desk call answer before.desk after.desk step) h;
-  frame = λ call answer before after may step rest h. frame_live call answer before.desk after.desk step h;
+  frame = λ call answer before after may step rest h. of_frame StaysLive frames_live call answer before.desk after.desk step h;
   control = λ call answer before after may step events lists menus h.
       same_but_layers before.desk.windows.desk.windows after.desk.windows.desk.windows (control_facts call answer (with_controls before) (with_controls after) step).0.windows h;
   list = λ call answer before after may step events menus h.

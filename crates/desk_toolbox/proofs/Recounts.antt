@@ -9,12 +9,12 @@ use Rattle.desk_call.specs.declared.window.WindowCall.{WindowCall}
 use Rattle.desk_call.specs.declared.window.WindowCall.TheVariants as asks
 use Rattle.desk_call.specs.declared.window.WindowReply.{WindowReply}
 use Rattle.window_list.specs.Lists.{serial_after}
-use Rattle.window_list.specs.Classes.{back_place, front_place}
+use Rattle.window_list.specs.Classes.{front_place}
 use Rattle.vis_update.specs.Records.{WindowRecord, is_floating}
 use Rattle.vis_update.specs.Touches.{is_this}
 use Rattle.window_mgr.specs.declared.arrange.Activates.{Activates}
 use Rattle.window_mgr.specs.declared.arrange.Activates.TheVariants.{Nothing, Itself, ItselfIfFront, FrontInItsPlace, NextInItsPlace}
-use Rattle.window_mgr.specs.Arrange.{Arrangement, with_highlighting, activated, active_after, activation_of, if_active, next_active, if_leading, is_visible, with_shown, with_placement, at_place, without, in_front, brought, changed, placed}
+use Rattle.window_mgr.specs.Arrange.{Arrangement, with_highlighting, activated, active_after, activation_of, if_active, next_active, if_leading, is_visible, with_shown, with_placement, at_place, without, brought, changed, placed}
 use Rattle.window_mgr.specs.Effects.{Effect, IsEffect, IsNewWindow, IsArrangement, IsWindowDisposed, begins_active, effect_of, new_record, places, with_drawn, with_new_picture, with_scrolled}
 use Rattle.window_mgr.specs.Effects.Effect.{Makes, Disposes, Draws, Pictures, Scrolls, Arranges, Places, Tells, Describes}
 use Rattle.window_mgr.specs.Finding.{record_with, front_of, is_leading}

@@ -1,5 +1,5 @@
 -- What holds of a reached state, with windows counted, after calls on windows and about events.
-use Rattle.std.proofs.Common.{◌≡◌, ℕ, ◌≤◌, Bool, true, false, List, Option, None, Some, Result, Ok, Err, refl, sym, ap, ◌∙◌, subst, arith}
+use Rattle.std.proofs.Common.{◌≡◌, ◌⊎◌, inl, inr, ℕ, ◌≤◌, Bool, false, List, Option, None, Some, Result, Ok, Err, refl, sym, ap, ◌∙◌, subst, arith}
 use Rattle.std.specs.Prelude.{All}
 use Rattle.std.specs.Option.{option_map}
 use Rattle.tb_geom.specs.declared.refusal.Refusal.{Refusal}
@@ -7,7 +7,7 @@ use Rattle.tb_geom.specs.Points.{PixelSet}
 use Rattle.desk_call.specs.declared.activity.Activity.{Activity}
 use Rattle.desk_call.specs.declared.activity.Activity.TheVariants.{Idle, Updating, Tracking, Pulling, TrackingControl, Dragging, Growing}
 use Rattle.desk_call.specs.declared.activity.Standing.{Standing}
-use Rattle.desk_call.specs.declared.activity.Standing.TheVariants.{Asks, Updates, Tracks, Pulls, TracksControl, Drags, Grows, Changes}
+use Rattle.desk_call.specs.declared.activity.Standing.TheVariants.{Asks, Changes}
 use Rattle.desk_call.specs.declared.event.EventCall.{EventCall}
 use Rattle.desk_call.specs.declared.event.EventReply.{EventReply}
 use Rattle.desk_call.specs.declared.window.WindowCall.{WindowCall}
@@ -25,8 +25,9 @@ use Rattle.control_mgr.specs.WholeControls.{IsTrackable}
 use Rattle.list_mgr.specs.GivenBars.{AreBarsGiven}
 use Rattle.menu_list.specs.Lists.{titles_of}
 use Rattle.menu_mgr.specs.MenuDesks.{IsBarOf, MenusState}
-use Rattle.window_frame.specs.Followers.{AreInformed, IsCaughtUpBy}
+use Rattle.window_frame.specs.Followers.{AreInformed, IsCaughtUp, IsCaughtUpBy}
 use Rattle.window_frame.proofs.FrameKeeps.{caught_up_keeps}
+use Rattle.window_frame.proofs.ToldSteps.{caught_up_cases}
 use Rattle.desk_toolbox.specs.declared.events.Events.{Events}
 use Rattle.desk_toolbox.specs.Activations.{to_dispose}
 use Rattle.desk_toolbox.specs.Classes.{AreClassed, IsOrdinary}
@@ -212,14 +213,11 @@ answer_keeps_desk (Some set) call answer before after step e = step.1.windows.de
 
 -- where definitions were told, they know, and else nothing changed
 caught_up_informs : (standing : Standing) (first before after : FullState) → IsCaughtUpBy standing before after → (standing ≡ Asks → before.desk ≡ first.desk) → AreInformed first.desk.windows → AreInformed after.desk.windows
-caught_up_informs Asks first before after same kept was = subst (λ (d : FullDesk). AreInformed d.windows) (sym (ap (λ (s : FullState). s.desk) same ∙ kept refl)) was
-caught_up_informs (Updates s) first before after (ts, told, informed) kept was = informed
-caught_up_informs Tracks first before after (ts, told, informed) kept was = informed
-caught_up_informs Pulls first before after (ts, told, informed) kept was = informed
-caught_up_informs TracksControl first before after (ts, told, informed) kept was = informed
-caught_up_informs Drags first before after (ts, told, informed) kept was = informed
-caught_up_informs Grows first before after (ts, told, informed) kept was = informed
-caught_up_informs Changes first before after (ts, told, informed) kept was = informed
+caught_up_informs standing first before after caught kept was = by_case (caught_up_cases standing before after caught)
+  where
+    by_case : ((standing ≡ Asks) × (after ≡ before)) ⊎ IsCaughtUp before after → AreInformed after.desk.windows
+    by_case (inl (asks, same)) = subst (λ (d : FullDesk). AreInformed d.windows) (sym (ap (λ (s : FullState). s.desk) same ∙ kept asks)) was
+    by_case (inr (ts, told, informed)) = informed
 
 -- no control is tracked while its window is disposed of
 pub left_trackable : (call : WindowCall) (before after : ToolboxState) → gate before.desk.activity (window_standing call) ≡ None → after.desk.activity ≡ before.desk.activity → AreControlsLeft call before.controls after.controls → IsTrackable before.desk.activity before.controls.controls → IsTrackable after.desk.activity after.controls.controls

@@ -1,5 +1,5 @@
 -- What holds of a reached state, with windows counted, after calls on updates and frames.
-use Rattle.std.proofs.Common.{◌≡◌, inl, inr, ℕ, ◌≤◌, ◌==◌, Bool, true, false, not, if◌then◌else◌, List, [], ◌∷◌, Option, None, Result, Ok, Err, refl, sym, ap, ◌∙◌, subst, arith}
+use Rattle.std.proofs.Common.{◌≡◌, ℕ, ◌≤◌, ◌==◌, Bool, true, false, not, if◌then◌else◌, List, [], ◌∷◌, Option, None, Result, Ok, Err, refl, sym, ap, ◌∙◌, subst, arith}
 use Rattle.std.proofs.lemmas.List.Elements.{All-cons, All-head, All-tail}
 use Rattle.std.specs.Prelude.{All}
 use Rattle.tb_geom.specs.declared.refusal.Refusal.{Refusal}
@@ -29,8 +29,9 @@ use Rattle.window_update.specs.UpdateSteps.{IsUpdateStep, IsUpdateEffect}
 use Rattle.window_frame.specs.Followers.{Knows, AreInformed}
 use Rattle.window_frame.specs.Followers.Flag.{Highlighting, Zooming}
 use Rattle.window_frame.specs.FrameRefusals.{frame_refusals}
-use Rattle.window_frame.specs.FrameSteps.{IsFrameStep, IsFrameEffect, IsBegunAt, IsTrackingNotified, with_flag, with_title, with_tracked}
+use Rattle.window_frame.specs.FrameSteps.{IsFrameStep, IsFrameEffect, IsBegunAt, with_flag, with_title, with_tracked}
 use Rattle.window_frame.proofs.FrameKeeps.{frame_keeps}
+use Rattle.window_frame.proofs.ToldSteps.{HoldsOfFrames, of_effect}
 use Rattle.desk_toolbox.specs.declared.events.Events.{Events}
 use Rattle.desk_toolbox.specs.Reached.{open_window}
 use Rattle.desk_toolbox.specs.Run.{IsRestKept}
@@ -129,25 +130,16 @@ told_informs s news kept keeps before after told was =
     subst (λ (d : FullDesk). AreInformed d.windows) (sym told.desk)
     (all_changed IsInformedOf s (λ w. record (kept w) { definition = told.definition }) keeps before.desk.windows was)
 
-tracking_informs : (inside : Bool) (s : ℕ) (before after : FullState) → IsTrackingNotified inside s before after → AreInformed before.desk.windows → AreInformed after.desk.windows
-tracking_informs inside s before after (inl (missing, same)) was = subst (λ (x : FullState). AreInformed x.desk.windows) (sym same) was
-tracking_informs inside s before after (inr told) was = told_informs s (λ _. told_tracked inside) (with_tracked inside) (λ w h. h) before after told was
+abbrev StaysInformed : FullState → FullState → Type 0
+StaysInformed before after = AreInformed before.desk.windows → AreInformed after.desk.windows
 
-begun_informs : (s : ℕ) (inside : Bool) (before after : DeskState) → IsBegunAt s inside before after → AreInformed before.windows.desk.windows → AreInformed after.windows.desk.windows
-begun_informs s true before after (tracked, told) was = tracking_informs true s before.windows after.windows told was
-begun_informs s false before after same was = subst (λ (d : FullDesk). AreInformed d.windows) (sym same.windows.desk) was
-
-frame_informs : (call : FrameCall) (answer : FrameReply) (before after : DeskState) → IsFrameEffect call answer before after → AreInformed before.windows.desk.windows → AreInformed after.windows.desk.windows
-frame_informs (SetTitle n) Done before after (same, told) was = told_informs n.window (λ _. told_title n.title) (with_title n.title) (λ w h. h) before.windows after.windows told was
-frame_informs (Hilite h) Done before after (same, told) was = told_informs h.window (λ _. told_highlighted h.highlighted) (with_flag h.highlighted) (λ w k. (refl, k.1)) before.windows after.windows told was
-frame_informs (TrackGoAway g) (Tracked inside) before after (is, begun) was = begun_informs g.window inside before after begun was
-frame_informs (StepGoAway p) (Tracked inside) before after (same, tracked) was = tracking_informs inside tracked.window before.windows after.windows tracked.told was
-frame_informs (EndGoAway p) (Tracked inside) before after (idle, tracked) was = tracking_informs false tracked.window before.windows after.windows tracked.told was
-frame_informs (SetTitle n) (Tracked inside) before after wrong was = absurd wrong
-frame_informs (Hilite h) (Tracked inside) before after wrong was = absurd wrong
-frame_informs (TrackGoAway g) Done before after wrong was = absurd wrong
-frame_informs (StepGoAway p) Done before after wrong was = absurd wrong
-frame_informs (EndGoAway p) Done before after wrong was = absurd wrong
+frames_inform : HoldsOfFrames StaysInformed
+frames_inform = record {
+  unchanged = λ before after same was. subst (λ (d : FullDesk). AreInformed d.windows) (sym same.desk) was;
+  titled = λ title s before after told was. told_informs s (λ _. told_title title) (with_title title) (λ w h. h) before after told was;
+  highlighted = λ on s before after told was. told_informs s (λ _. told_highlighted on) (with_flag on) (λ w k. (refl, k.1)) before after told was;
+  tracked = λ inside s before after told was. told_informs s (λ _. told_tracked inside) (with_tracked inside) (λ w h. h) before after told was;
+}
 
 begun_opens : (s : ℕ) (inside : Bool) (before after : DeskState) → 1 ≤ copies s before.windows.desk.windows → IsBegunAt s inside before after → Present (open_window before.activity) before.windows.desk.windows → Present (open_window after.activity) before.windows.desk.windows
 begun_opens s true before after here (tracked, told) was = subst (λ a. Present (open_window a) before.windows.desk.windows) (sym tracked) here
@@ -213,7 +205,7 @@ frame_stands call (Ok answer) before after may was right step rest =
       told = subst (λ (e : Events). Ordinary e.told ws) (sym rest.events) (stay (of_class false) before.events.told was.told);
       opened = stay either_class (open_window after.desk.activity) (frame_opens call answer before.desk after.desk step.0 step.1 was.opened);
       queued = subst (λ (e : Events). ArePosted e.queue.events) (sym rest.events) was.queued;
-      informed = frame_informs call answer before.desk after.desk step.1 was.informed;
+      informed = of_effect StaysInformed frames_inform call answer before.desk after.desk step.1 was.informed;
       tracked = frame_misleads_none call answer before.desk after.desk may was.right step.1 was.tracked;
       bar = bar_stays before after (frame_keeps (λ d. d.bar.titles) (λ d ws. refl) call (Ok answer) before.desk after.desk step) rest.menus was.bar;
       apart = apart_stays before after rest.menus was.apart;

@@ -1,16 +1,13 @@
 -- What any call does to the count of windows, to the next number, and to the active window.
-use Rattle.std.proofs.Common.{◌≡◌, ◌⊎◌, inl, inr, ℕ, ◌+◌, ◌≤◌, ◌^◌, ◌==◌, nat_lt, Bool, true, false, if◌then◌else◌, List, [], ◌∷◌, map, Option, None, Some, Result, Ok, Err, refl, sym, ap, ◌∙◌, subst, arith}
+use Rattle.std.proofs.Common.{◌≡◌, ◌⊎◌, inl, inr, ℕ, ◌+◌, ◌≤◌, ◌^◌, ◌==◌, nat_lt, Bool, true, false, if◌then◌else◌, List, map, Option, None, Some, Result, Ok, refl, sym, ap, ◌∙◌, subst, arith}
 use Rattle.std.proofs.lemmas.Bool.Decides.{nat_tests}
 use Rattle.tb_geom.specs.declared.refusal.Refusal.{Refusal}
 use Rattle.tb_geom.specs.Points.{PixelSet}
 use Rattle.def_iface.specs.News.{News, told_title, told_highlighted, told_tracked}
 use Rattle.desk_call.specs.declared.activity.Activity.{Activity}
 use Rattle.desk_call.specs.declared.activity.Standing.{Standing}
-use Rattle.desk_call.specs.declared.activity.Standing.TheVariants.{Asks, Updates, Tracks, Pulls, TracksControl, Drags, Grows, Changes}
 use Rattle.desk_call.specs.declared.frame.FrameCall.{FrameCall}
-use Rattle.desk_call.specs.declared.frame.FrameCall.TheVariants.{SetTitle, Hilite, TrackGoAway, StepGoAway, EndGoAway}
 use Rattle.desk_call.specs.declared.frame.FrameReply.{FrameReply}
-use Rattle.desk_call.specs.declared.frame.FrameReply.TheVariants.{Done, Tracked}
 use Rattle.desk_call.specs.declared.menu.MenuCall.{MenuCall}
 use Rattle.desk_call.specs.declared.menu.MenuReply.{MenuReply}
 use Rattle.desk_call.specs.declared.window.WindowCall.{WindowCall}
@@ -28,10 +25,11 @@ use Rattle.window_mgr.specs.FullDesk.{AreSerials, FullDesk, FullState, IsGiven, 
 use Rattle.window_mgr.specs.Placings.{Placing, sized, zoomed}
 use Rattle.window_mgr.specs.Refused.{is_missing}
 use Rattle.window_mgr.specs.DeskStates.{DeskState, narrowed}
-use Rattle.window_frame.specs.Followers.{Flag, Telling, AreNotified, IsCaughtUpBy, told_flag, with_heard}
+use Rattle.window_frame.specs.Followers.{Flag, IsCaughtUpBy, told_flag, with_heard}
 use Rattle.window_frame.specs.Followers.Flag.{Highlighting, Zooming}
 use Rattle.window_frame.proofs.FrameKeeps.{caught_up_keeps}
-use Rattle.window_frame.specs.FrameSteps.{IsFrameStep, IsFrameEffect, IsBegunAt, IsTrackingNotified, with_flag, with_title, with_tracked}
+use Rattle.window_frame.specs.FrameSteps.{IsFrameStep, with_flag, with_title, with_tracked}
+use Rattle.window_frame.proofs.ToldSteps.{HoldsOfFrames, of_caught_up, of_frame}
 use Rattle.control_mgr.specs.ControlDesks.{ControlRecord}
 use Rattle.list_mgr.specs.ListDesks.{KeptList}
 use Rattle.menu_mgr.specs.MenuDesks.{MenuDesk}
@@ -88,20 +86,15 @@ module _ (g : Weight) where
   heard_weight Highlighting w = refl
   heard_weight Zooming w = refl
 
-  are_told_total : (ss : List Telling) (before after : FullState) → AreNotified ss before after → total g after.desk.windows ≡ total g before.desk.windows
-  are_told_total [] before after same = ap (λ (s : FullState). total g s.desk.windows) same
-  are_told_total (s ∷ ss) before after (middle, one, rest) =
-      are_told_total ss middle after rest ∙ told_total s.window (told_flag s.flag) (with_heard s.flag) (λ w its. heard_weight s.flag w) before middle one.told
+  abbrev StaysTotal : FullState → FullState → Type 0
+  StaysTotal before after = total g after.desk.windows ≡ total g before.desk.windows
 
   pub caught_up_total : (standing : Standing) (before after : FullState) → IsCaughtUpBy standing before after → total g after.desk.windows ≡ total g before.desk.windows
-  caught_up_total Asks before after same = ap (λ (s : FullState). total g s.desk.windows) same
-  caught_up_total (Updates s) before after (ss, told, informed) = are_told_total ss before after told
-  caught_up_total Tracks before after (ss, told, informed) = are_told_total ss before after told
-  caught_up_total Pulls before after (ss, told, informed) = are_told_total ss before after told
-  caught_up_total TracksControl before after (ss, told, informed) = are_told_total ss before after told
-  caught_up_total Drags before after (ss, told, informed) = are_told_total ss before after told
-  caught_up_total Grows before after (ss, told, informed) = are_told_total ss before after told
-  caught_up_total Changes before after (ss, told, informed) = are_told_total ss before after told
+  caught_up_total = of_caught_up StaysTotal (record {
+    same = λ s. refl;
+    joined = λ first middle last one next. next ∙ one;
+    told = λ flag s before after told. told_total s (told_flag flag) (with_heard flag) (λ w its. heard_weight flag w) before after told;
+  })
 
 pub caught_up_counts : (standing : Standing) (before after : FullState) → IsCaughtUpBy standing before after → HasSame before.desk after.desk
 caught_up_counts standing before after told = record {
@@ -117,29 +110,19 @@ told_counts s news kept same before after told = record {
 
 -- ---- calls about frames
 
-tracking_counts : (inside : Bool) (s : ℕ) (before after : FullState) → IsTrackingNotified inside s before after → HasSame before.desk after.desk
-tracking_counts inside s before after (inl (missing, same)) = same_desk before.desk after.desk (ap (λ (x : FullState). x.desk) same)
-tracking_counts inside s before after (inr told) = told_counts s (λ _. told_tracked inside) (with_tracked inside) (λ c x w. refl) before after told
+abbrev StaysCounted : FullState → FullState → Type 0
+StaysCounted before after = HasSame before.desk after.desk
 
-begun_counts : (s : ℕ) (inside : Bool) (before after : DeskState) → IsBegunAt s inside before after → HasSame before.windows.desk after.windows.desk
-begun_counts s true before after (tracked, told) = tracking_counts true s before.windows after.windows told
-begun_counts s false before after same = same_desk before.windows.desk after.windows.desk same.windows.desk
-
-effect_counts : (call : FrameCall) (answer : FrameReply) (before after : DeskState) → IsFrameEffect call answer before after → HasSame before.windows.desk after.windows.desk
-effect_counts (SetTitle n) Done before after (same, told) = told_counts n.window (λ _. told_title n.title) (with_title n.title) (λ c x w. refl) before.windows after.windows told
-effect_counts (Hilite h) Done before after (same, told) = told_counts h.window (λ _. told_highlighted h.highlighted) (with_flag h.highlighted) (λ c x w. refl) before.windows after.windows told
-effect_counts (TrackGoAway g) (Tracked inside) before after (is, begun) = begun_counts g.window inside before after begun
-effect_counts (StepGoAway p) (Tracked inside) before after (same, tracked) = tracking_counts inside tracked.window before.windows after.windows tracked.told
-effect_counts (EndGoAway p) (Tracked inside) before after (idle, tracked) = tracking_counts false tracked.window before.windows after.windows tracked.told
-effect_counts (SetTitle n) (Tracked inside) before after wrong = absurd wrong
-effect_counts (Hilite h) (Tracked inside) before after wrong = absurd wrong
-effect_counts (TrackGoAway g) Done before after wrong = absurd wrong
-effect_counts (StepGoAway p) Done before after wrong = absurd wrong
-effect_counts (EndGoAway p) Done before after wrong = absurd wrong
+frames_counted : HoldsOfFrames StaysCounted
+frames_counted = record {
+  unchanged = λ before after same. same_desk before.desk after.desk same.desk;
+  titled = λ title s before after told. told_counts s (λ _. told_title title) (with_title title) (λ c x w. refl) before after told;
+  highlighted = λ on s before after told. told_counts s (λ _. told_highlighted on) (with_flag on) (λ c x w. refl) before after told;
+  tracked = λ inside s before after told. told_counts s (λ _. told_tracked inside) (with_tracked inside) (λ c x w. refl) before after told;
+}
 
 pub frame_counts : (call : FrameCall) (answer : Result FrameReply Refusal) (before after : DeskState) → IsFrameStep call answer before after → HasSame before.windows.desk after.windows.desk
-frame_counts call (Ok answer) before after step = effect_counts call answer before after step.1
-frame_counts call (Err e) before after step = same_desk before.windows.desk after.windows.desk step.1.windows.desk
+frame_counts = of_frame StaysCounted frames_counted
 
 -- ---- calls about menus
 

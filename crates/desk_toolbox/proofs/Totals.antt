@@ -9,7 +9,6 @@ use Rattle.desk_call.specs.declared.window.SendBehind.{SendBehind}
 use Rattle.window_list.specs.Classes.{back_place, front_place}
 use Rattle.std.specs.List.{insert}
 use Rattle.vis_update.specs.Records.{WindowRecord, Look, layered_window, is_floating}
-use Rattle.vis_update.specs.Touches.{is_this}
 use Rattle.window_mgr.specs.declared.arrange.Activation.{Activation}
 use Rattle.window_mgr.specs.declared.arrange.Activation.TheVariants.{Stays, Becomes}
 use Rattle.window_mgr.specs.Arrange.{with_highlighting, activated, without, put_behind, put_next, in_front, behind_this, brought, sent, changed}

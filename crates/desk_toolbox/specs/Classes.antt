@@ -1,5 +1,5 @@
 -- Windows of two classes: those that float stand in front of the others, and none of them is active.
-use Rattle.std.specs.Prelude.{◌≡◌, ℕ, Bool, true, false, List, [], ◌∷◌, map, All, Option, Some, IfSome}
+use Rattle.std.specs.Prelude.{◌≡◌, ℕ, Bool, false, List, [], ◌∷◌, map, All, Option, Some, IfSome}
 use Rattle.std.specs.Option.{option_map}
 use Rattle.vis_update.specs.Records.{WindowRecord, is_floating}
 use Rattle.window_mgr.specs.Finding.{record_with}

@@ -6,7 +6,6 @@ use Rattle.tb_geom.specs.declared.refusal.Refusal.{Refusal}
 use Rattle.def_iface.specs.declared.taken.Taken.{Taken}
 use Rattle.def_iface.specs.Meaning.{Loan}
 use Rattle.desk_call.specs.declared.activity.Standing.{Standing}
-use Rattle.desk_call.specs.declared.activity.Standing.TheVariants as standings
 use Rattle.desk_call.specs.declared.window.WindowCall.{WindowCall}
 use Rattle.desk_call.specs.declared.window.WindowCall.TheVariants.{Dispose, Show, Hide, ShowHide, Select, SendBehind, Move, Size}
 use Rattle.desk_call.specs.declared.window.WindowReply.{WindowReply}
@@ -26,8 +25,9 @@ use Rattle.window_mgr.specs.Step.{IsWindowStep}
 use Rattle.window_mgr.specs.Updating.{LeavesState}
 use Rattle.window_frame.specs.Economy.{AreOthersLeft, Economical, IsEconomical, LeavesOthers, darkened, light, relit, same_light, windows_of}
 use Rattle.window_frame.specs.Followers.{AreInformed, IsCaughtUpBy, is_behind}
-use Rattle.window_frame.proofs.Relighting.{activated_dark, brought_other, changed_other, not_behind_then, notified_light, sent_other, sparing_in, without_other}
+use Rattle.window_frame.proofs.Relighting.{activated_dark, brought_other, changed_other, not_behind_then, sent_other, sparing_in, told_light, without_other}
 use Rattle.window_frame.proofs.Repainting.{sparing_then}
+use Rattle.window_frame.proofs.ToldSteps.{of_caught_up}
 use Rattle.window_mgr.proofs.Sparing.{spares_same}
 
 -- ---- what a call leaves of other windows' records
@@ -40,14 +40,9 @@ arranged_dark a before middle its n e =
 
 -- definitions that are told how their windows stand leave the lights
 caught_up_light : (n : ℕ) (standing : Standing) (before after : FullState) → IsCaughtUpBy standing before after → light (record_with n after.desk.windows) ≡ light (record_with n before.desk.windows)
-caught_up_light n standings.Asks before after same = ap (λ (s : FullState). light (record_with n s.desk.windows)) same
-caught_up_light n (standings.Updates w) before after (ts, told, informed) = notified_light n ts before after told
-caught_up_light n standings.Tracks before after (ts, told, informed) = notified_light n ts before after told
-caught_up_light n standings.Pulls before after (ts, told, informed) = notified_light n ts before after told
-caught_up_light n standings.TracksControl before after (ts, told, informed) = notified_light n ts before after told
-caught_up_light n standings.Drags before after (ts, told, informed) = notified_light n ts before after told
-caught_up_light n standings.Grows before after (ts, told, informed) = notified_light n ts before after told
-caught_up_light n standings.Changes before after (ts, told, informed) = notified_light n ts before after told
+caught_up_light n =
+    of_caught_up (λ before after. light (record_with n after.desk.windows) ≡ light (record_with n before.desk.windows))
+    (record { same = λ s. refl; joined = λ first middle last one next. next ∙ one; told = told_light n })
 
 or_parts : (a b : Bool) → (a || b) ≡ false → (a ≡ false) × (b ≡ false)
 or_parts true b e = absurd (false≢true (sym e))

@@ -18,10 +18,11 @@ use Rattle.window_mgr.specs.declared.arrange.Activation.{Activation}
 use Rattle.window_mgr.specs.declared.arrange.Activation.TheVariants.{Stays, Becomes}
 use Rattle.window_mgr.specs.Arrange.{activated, behind_this, brought, changed, in_front, put_behind, put_next, sent, with_highlighting, without}
 use Rattle.window_mgr.specs.Finding.{record_with}
+use Rattle.window_mgr.specs.FrameNotices.{IsFrameNotified}
 use Rattle.window_mgr.specs.FullDesk.{FullState}
 use Rattle.window_mgr.specs.Sparing.{IsSparing}
 use Rattle.window_frame.specs.Economy.{dark, darkened, light, same_light}
-use Rattle.window_frame.specs.Followers.{AreInformed, AreNotified, Flag, Knows, Telling, is_behind, is_informed, with_heard}
+use Rattle.window_frame.specs.Followers.{AreInformed, Flag, Knows, is_behind, is_informed, told_flag, with_heard}
 use Rattle.window_frame.specs.Followers.Flag.{Highlighting, Zooming}
 
 -- ---- what is not about a window's highlighting
@@ -146,12 +147,11 @@ heard_light n s f (w ∷ ws) same alike = by_test (w.serial == s) (heard_light n
     by_test true rest = ap (λ k. light (if k == n then Some (f w) else record_with n ws)) (same w) ∙ by_number (w.serial == n)
     by_test false rest = rest_light (w.serial == n) rest
 
-pub notified_light : (n : ℕ) (ts : List Telling) (before after : FullState) → AreNotified ts before after → light (record_with n after.desk.windows) ≡ light (record_with n before.desk.windows)
-notified_light n [] before after same = ap (λ (s : FullState). light (record_with n s.desk.windows)) same
-notified_light n (t ∷ ts) before after (middle, one, rest) =
-    notified_light n ts middle after rest
-    ∙ ap (λ d. light (record_with n d.windows)) one.told.desk
-    ∙ heard_light n t.window (λ w. record (with_heard t.flag w) { definition = one.told.definition }) before.desk.windows (λ w. serial_of t.flag w) (λ w. light_of t.flag w)
+-- a definition that is told how its window stands leaves the lights
+pub told_light : (n : ℕ) (flag : Flag) (s : ℕ) (before after : FullState) → IsFrameNotified s (told_flag flag) (with_heard flag) before after → light (record_with n after.desk.windows) ≡ light (record_with n before.desk.windows)
+told_light n flag s before after told =
+    ap (λ d. light (record_with n d.windows)) told.desk
+    ∙ heard_light n s (λ w. record (with_heard flag w) { definition = told.definition }) before.desk.windows (λ w. serial_of flag w) (λ w. light_of flag w)
   where
     serial_of : (g : Flag) (w : WindowRecord) → (with_heard g w).serial ≡ w.serial
     serial_of Highlighting w = refl
