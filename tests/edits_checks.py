@@ -12,7 +12,7 @@ import traceback
 
 import edits_read
 from edits_read import rt
-from edits_record import NEW, name_of
+from edits_record import WAITING, name_of
 
 ONE_JOB = ("--jobs", "1")
 
@@ -93,7 +93,7 @@ class Batch:
 
 
 class Run:
-    """One run over batches of edits, of which those that are not new are begun while time is left.
+    """One run over batches of edits, of which those that may wait are begun while time is left.
 
     sums     those of each edit, by its name
     end      when the time is over, by time.monotonic(), or None
@@ -102,7 +102,7 @@ class Run:
 
     def __init__(self, sums, texts, record, lanes, room, is_built=False, end=None):
         self.sums, self.texts, self.record, self.room, self.is_built = sums, texts, record, room, is_built
-        is_late = lambda rank: end is not None and rank[0] != NEW and time.monotonic() >= end
+        is_late = lambda rank: end is not None and rank[0] in WAITING and time.monotonic() >= end
         self.lanes, self.refused, self.told, self.printing = Lanes(lanes, is_late), set(), set(), threading.Lock()
 
     def go(self, todo):

@@ -15,10 +15,12 @@ from edits_read import data_of, rt, sum_of
 JUDGEMENT = 1
 PARTS = ("src", "specs", "proofs")
 
-# Why an edit is to be tried: it is new or was itself changed; its crate was, since it was seen refused; or only what its
-# crate cites of the crates below was. The first are always tried, the others while time is left, in this order.
-NEW, OWN, CITED = range(3)
-KINDS = ("new or changed", "of a changed crate", "over changed text below")
+# Why an edit is to be tried: it is new or was itself changed; its crate was, since it was seen refused, or what that cites of
+# the crates below, and the edit changes more than the body of a function; its crate was; or only what that cites was. The
+# first are always tried, the others while time is left, in this order.
+NEW, MORE, OWN, CITED = range(4)
+KINDS = ("new or changed", "of more than a body", "of a changed crate", "over changed text below")
+WAITING = (MORE, OWN, CITED)
 
 # The sums of an edit, of its crate as a check reads it, and of what that cites of the crates below.
 Sums = collections.namedtuple("Sums", "edit own cited")
