@@ -1,7 +1,6 @@
 -- How often the pixels of a map were written.
 use Rattle.std.specs.Prelude.{ℕ, suc, ◌*◌, ◌/◌, ◌%◌, pos, List, map, slice_index_or, if◌then◌else◌}
 use Rattle.std.specs.List.{range_with_len}
-use Rattle.tb_geom.specs.declared.point.Point.{Point}
 use Rattle.tb_geom.specs.Points.{PixelSet}
 
 -- a number for each pixel of a map row by row, 0 where the list has none

@@ -1,8 +1,7 @@
 -- The value of a setting lies between its bounds, and setting it again changes nothing.
 use Rattle.std.proofs.Common.{◌≡◌, ℤ, ◌≤ℤ◌, ap, arith}
 use Rattle.std.proofs.lemmas.Int.{ints, clamps}
-use Rattle.std.specs.Int.{int_min, int_max}
-use Rattle.control_values.specs.Settings.{Setting, nearest, settled, IsSettled}
+use Rattle.control_values.specs.Settings.{nearest, settled, IsSettled}
 
 pub settled_lies_within : (low high z : ℤ) → low ≤ℤ high → IsSettled (settled low high z)
 settled_lies_within low high z l = record { above = grind (arith, ints, clamps); below = grind (arith, ints, clamps) }

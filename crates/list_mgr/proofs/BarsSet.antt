@@ -10,7 +10,6 @@ use Rattle.def_iface.specs.ControlMeaning.{ControlLoan}
 use Rattle.def_iface.specs.ListMeaning.{ListLoan}
 use Rattle.def_iface.specs.Meaning.{Loan}
 use Rattle.desk_call.specs.declared.activity.Activity.TheVariants.{Idle}
-use Rattle.desk_call.specs.declared.control.ControlOf.{ControlOf}
 use Rattle.desk_call.specs.declared.list.ListOf.{ListOf}
 use Rattle.list_records.specs.declared.list_record.ListRecord.{ListRecord}
 use Rattle.list_records.specs.Seen.{seen}

@@ -9,7 +9,6 @@ use Rattle.def_iface.specs.ListMeaning.{ListLoan}
 use Rattle.def_iface.specs.Meaning.{Loan}
 use Rattle.list_cells.specs.Grids.{Grid, columns_deleted, rows_deleted}
 use Rattle.list_cells.specs.Runs.{count_to_delete, delete_refusals, place_to_add}
-use Rattle.list_view.specs.Views.{View}
 use Rattle.list_records.specs.declared.list_record.ListRecord.{ListRecord}
 use Rattle.list_records.specs.Seen.{seen}
 use Rattle.desk_call.specs.declared.list.ListOf.{ListOf}

@@ -1,9 +1,9 @@
 -- What a list shows outside of its view, and outside of a cell that was given other data.
-use Rattle.std.proofs.Common.{◌≡◌, ℕ, ◌+◌, ◌*◌, ◌<◌, ◌≤◌, ◌==◌, ◌&&◌, Bool, true, false, if◌then◌else◌, List, ℤ, pos, negsuc, Option, None, Some, refl, sym, ap, ◌∙◌, arith, eqb-true}
-use Rattle.std.specs.Prelude.{get_or, int_le, int_lt, nat_abs, nat_lt}
+use Rattle.std.proofs.Common.{◌≡◌, ℕ, ◌+◌, ◌*◌, ◌<◌, ◌≤◌, ◌==◌, ◌&&◌, Bool, true, false, if◌then◌else◌, List, ℤ, pos, negsuc, Option, None, Some, refl, sym, ap, ◌∙◌, arith}
+use Rattle.std.specs.Prelude.{int_le, int_lt, nat_abs, nat_lt}
 use Rattle.std.specs.Option.{option_map_or}
 use Rattle.std.proofs.Math.Nat.{mul-le-mul_right}
-use Rattle.std.proofs.lemmas.Bool.{and_parts, eq-eqb, false≢true}
+use Rattle.std.proofs.lemmas.Bool.{and_parts, false≢true}
 use Rattle.std.proofs.lemmas.Int.{ints}
 use Rattle.std.proofs.lemmas.List.{get_or-set_other}
 use Rattle.tb_geom.specs.declared.point.Point.{Point}
@@ -12,7 +12,7 @@ use Rattle.tb_geom.specs.Rects.{rect_holds}
 use Rattle.def_iface.specs.ListMeaning.{ListDefinition, cell_bit}
 use Rattle.list_cells.specs.declared.cell.Cell.{Cell}
 use Rattle.list_cells.specs.Contents.{Content, empty_content}
-use Rattle.list_cells.specs.Grids.{Grid, IsGrid, content_of, is_cell, place_of, with_bytes}
+use Rattle.list_cells.specs.Grids.{Grid, content_of, is_cell, place_of, with_bytes}
 use Rattle.list_view.specs.Views.{IsView, View, any_cell_at, cell_at, cell_rect, is_before, view_rect}
 use Rattle.list_view.proofs.LawLemmas.{found_is_cell, holder_is_found}
 use Rattle.list_paint.specs.Shown.{cell_shown, in_cell, list_shown}

@@ -1,5 +1,5 @@
 -- The words of the commands for lists.
-use Rattle.std.specs.Prelude.{ℕ, Bool, List, [], ◌∷◌, Option, Ok, codes, if◌then◌else◌}
+use Rattle.std.specs.Prelude.{ℕ, List, [], ◌∷◌, Option, Ok, codes, if◌then◌else◌}
 use Rattle.def_iface.specs.declared.size.Size.{Size}
 use Rattle.list_cells.specs.declared.cell.Cell.{Cell}
 use Rattle.desk_call.specs.declared.list.CellOf.{CellOf}

@@ -10,8 +10,8 @@ use Rattle.script_text.specs.declared.command.Command.{Command}
 use Rattle.script_text.specs.declared.command.Command.TheVariants.{Version, Call}
 use Rattle.script_text.specs.Lines.{said}
 use Rattle.script_runner.specs.FirstVersion.{AnswersBefore, WrittenBefore, said_before, says_version, begins_with_version}
-use Rattle.script_runner.specs.Script.{ScriptState, first_state, begun, Takes, SaidAnswers, Written, why_unread}
-use Rattle.script_runner.specs.Session.{SessionState, unmade, Obeys}
+use Rattle.script_runner.specs.Script.{ScriptState, first_state, Takes, SaidAnswers, Written, why_unread}
+use Rattle.script_runner.specs.Session.{unmade, Obeys}
 
 module _ (raw : Bool) where
   -- a line was answered as before, and leaves a script of version 1; `follows` says whether a version is said first in what

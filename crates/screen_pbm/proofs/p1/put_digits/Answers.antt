@@ -1,4 +1,4 @@
-use Rattle.std.proofs.Common.{◌≡◌, ◌+◌, ◌-◌, ◌*◌, ◌∙◌, length, ap, rules, arith}
+use Rattle.std.proofs.Common.{◌≡◌, ◌+◌, ◌-◌, ◌*◌, ◌∙◌, length, rules, arith}
 use Rattle.bit_map.specs.Patterns.{bit_of}
 use Rattle.screen_pbm.proofs.Digits.{digits_put}
 use Rattle.screen_pbm.proofs.p1.put_digits.Goals as goal

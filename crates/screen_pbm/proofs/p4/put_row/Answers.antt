@@ -1,7 +1,6 @@
-use Rattle.std.proofs.Common.{◌≡◌, ℕ, ◌+◌, ◌-◌, ◌*◌, ◌/◌, ◌%◌, ◌^◌, ◌<◌, pos, List, get_or, length, ap, ◌∙◌, arith, rules}
+use Rattle.std.proofs.Common.{◌≡◌, ℕ, ◌+◌, ◌-◌, ◌*◌, ◌/◌, ◌%◌, ◌^◌, ◌<◌, ◌∙◌, arith, rules}
 use Rattle.bit_map.specs.Bits.{bit}
-use Rattle.screen_pbm.proofs.PackedLaws.{is_black}
-use Rattle.screen_pbm.proofs.Words.{IsRow, row_is, row_of_words, cut_row}
+use Rattle.screen_pbm.proofs.Words.{row_is, row_of_words, cut_row}
 use Rattle.screen_pbm.proofs.p4.put_row.Goals as goal
 
 pub returns-else-width-gt0-clause-row : goal.returns-else-width-gt0-clause-row

@@ -1,6 +1,5 @@
 use Rattle.std.proofs.Common.{◌≡◌, ◌+◌, ◌-◌, ◌*◌, ◌∙◌, arith}
 use Rattle.std.specs.Int.{to_be_bytes, w64}
-use Rattle.screen_pbm.specs.Packed.{IsPut}
 use Rattle.screen_pbm.proofs.Words.{put_is}
 use Rattle.screen_pbm.proofs.p4.put_word.Goals as goal
 

@@ -1,4 +1,4 @@
-use Rattle.std.proofs.Common.{◌≡◌, ◌<◌, ◌^◌, ◌-◌, ◌≤ℤ◌, ◌<ℤ◌, pos, SFits, w32, rules, arith}
+use Rattle.std.proofs.Common.{◌≡◌, ◌<◌, ◌^◌, ◌-◌, ◌≤ℤ◌, ◌<ℤ◌, pos, SFits, w32, rules}
 use Rattle.std.proofs.lemmas.Int.{ints, to_z-of_z}
 use Rattle.strike_font.proofs.WordsLemmas.{own_left, own_right}
 use Rattle.strike_font.proofs.glyph.narrow_own.Goals as goal

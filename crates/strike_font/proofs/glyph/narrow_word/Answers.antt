@@ -1,4 +1,3 @@
-use Rattle.std.proofs.Common.{arith}
 use Rattle.strike_font.proofs.WordsLemmas.{short_bit}
 use Rattle.strike_font.proofs.glyph.narrow_word.Goals as goal
 

@@ -1,4 +1,4 @@
-use Rattle.std.proofs.Common.{◌≡◌, ℕ, ◌+◌, ◌*◌, ◌/◌, ◌%◌, ◌∙◌, ap, get_or, arith}
+use Rattle.std.proofs.Common.{◌≡◌, ℕ, ◌+◌, ◌*◌, ◌/◌, ◌%◌, ◌∙◌, get_or, arith}
 use Rattle.bit_map.specs.Patterns.{bit_of}
 use Rattle.strike_font.proofs.WordsLemmas.{short_bit, strike_bit}
 use Rattle.strike_font.proofs.glyph.strike_word.Goals as goal

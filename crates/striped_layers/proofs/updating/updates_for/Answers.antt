@@ -1,7 +1,7 @@
-use Rattle.std.proofs.Common.{◌≡◌, ◌∙◌, ap, nat_abs, pos, rules, subst, SFits, w32}
+use Rattle.std.proofs.Common.{◌≡◌, ◌∙◌, ap, nat_abs, rules, subst, SFits, w32}
 use Rattle.std.proofs.lemmas.Int.{to_z-of_z}
 use Rattle.tb_geom.specs.declared.rect.Rect.{Rect}
-use Rattle.bit_map.specs.Bits.{Bits, bounds_of}
+use Rattle.bit_map.specs.Bits.{bounds_of}
 use Rattle.desk_call.specs.declared.activity.Activity.{Activity}
 use Rattle.desk_call.specs.declared.activity.Activity.TheVariants.{Updating}
 use Rattle.striped_layers.proofs.updating.updates_for.Goals as goal

@@ -1,5 +1,4 @@
 use Rattle.std.proofs.Common.{◌≡◌, true, ◌&&◌, rules, SFits, w32}
-use Rattle.std.proofs.lemmas.Int.{to_z-of_z}
 use Rattle.tb_geom.specs.declared.point.Point.{Point}
 use Rattle.tb_geom.specs.Points.{minus}
 use Rattle.tb_geom.specs.Pixels.{holds}

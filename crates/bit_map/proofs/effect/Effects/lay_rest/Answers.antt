@@ -1,5 +1,5 @@
 use Rattle.std.proofs.Common.{◌+◌, ◌*◌, arith}
-use Rattle.bit_map.proofs.LayLemmas.{laid_word, laid_next}
+use Rattle.bit_map.proofs.LayLemmas.{laid_next}
 use Rattle.bit_map.proofs.effect.Effects.lay_rest.Goals as goal
 
 pub loop-k-preserved : goal.loop-k-preserved

@@ -1,4 +1,4 @@
-use Rattle.std.proofs.Common.{◌≡◌, true, false, if◌then◌else◌, length, Some, refl, sym, ap, ◌∙◌, arith}
+use Rattle.std.proofs.Common.{◌≡◌, true, false, if◌then◌else◌, length, Some, sym, ap, ◌∙◌, arith}
 use Rattle.window_list.specs.Classes.{front_place}
 use Rattle.window_list.specs.Lists.{floats, leads}
 use Rattle.window_list.proofs.ClassLemmas.{remove_none, made_way, way_length, added_to}
