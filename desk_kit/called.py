@@ -1,41 +1,48 @@
-"""How the tools are called: their words, the program that they run, and the statuses with which they give up.
-The status is 1 where a file or the program is at fault, 2 for words that are wrong, and 3 where there is no program."""
+"""How the tools are called: their words, the program that they run, and the script that they begin with."""
 
 import argparse
 import os
 import shutil
-import sys
 
+from desk_kit.ends import AT_FAULT, NO_PROGRAM, WRONG_WORDS, give_up, naming, say
 from desk_kit.which import program_of
 
-AT_FAULT, WRONG_WORDS, NO_PROGRAM = 1, 2, 3
 TOP = os.path.dirname(os.path.dirname(os.path.realpath(__file__)))
 NOT_PROVED = "this program is not proved. './desk --prove' proves and builds it."
 
 
-def say(tool, what):
-    print(f"{tool}: {what}", file=sys.stderr)
+def version_here():
+    """The version of all tools: the first one that the changelog has."""
+    path = os.path.join(TOP, "CHANGELOG.md")
+    with naming(path), open(path, encoding="utf-8") as file:
+        return next((line[3:].strip() for line in file if line.startswith("## ")), "of no version")
 
 
-def give_up(tool, status, why):
-    """Ends with this sentence."""
-    say(tool, why)
-    sys.exit(status)
+class Version(argparse.Action):
+    """Prints the name and the version of a tool, and ends it."""
+
+    def __call__(self, parser, *_):
+        print(parser.prog, version_here())
+        parser.exit()
 
 
 class Parser(argparse.ArgumentParser):
-    """The words of the command line. --help prints all of the text."""
+    """The words of the command line. --help prints all of the text, and --version the version."""
 
     def __init__(self, tool, usage, text):
         super().__init__(tool, usage=usage, allow_abbrev=False)
         self.all_text = text
         self.add_argument("--program")
+        self.add_argument("--version", action=Version, nargs=0)
 
     def error(self, message):
         give_up(self.prog, WRONG_WORDS, f"{message}. Call it so: {self.usage}")
 
     def format_help(self):
         return self.all_text
+
+    def print_help(self, file=None):
+        print(self.format_help(), end="", file=file)
 
 
 def number_to(most):
@@ -63,3 +70,12 @@ def program_named(tool, name, desk=os.path.join(TOP, "desk")):
     if not is_proved:
         say(tool, NOT_PROVED)
     return program
+
+
+def read_script(tool, path):
+    """The bytes of a script."""
+    try:
+        with open(path, "rb") as file:
+            return file.read()
+    except OSError as error:
+        give_up(tool, AT_FAULT, f"the script {path} cannot be read: {error.strerror}")

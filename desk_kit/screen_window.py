@@ -141,10 +141,9 @@ class ScreenWindow:
             self.tell(self.loop.key_up, code, *self.mouse, modifiers_of(event.state))
 
     def pass_time(self):
-        """Tells again and again that time has passed."""
-        if not self.is_at_fault:
-            self.tell(self.loop.time_passed)
-            self.root.after(PERIOD, self.pass_time)
+        """Tells again and again that time has passed. Tk lets Python see a signal then, and else only once the mouse moves."""
+        self.tell(self.loop.time_passed)
+        self.root.after(PERIOD, self.pass_time)
 
     def tell(self, action, *words):
         """Tells the loop of something, and shows what came of it. Once the program is at fault nothing is told any more."""

@@ -225,7 +225,8 @@ def words_that_exclude_each_other_are_told(program, folder):
         called = [sys.executable, os.path.join(TOP, "desk-view"), "--program", program, *words]
         ran = subprocess.run(called, capture_output=True, timeout=SECONDS)
         same("the status", ran.returncode, 2)
-        same("it says", ran.stderr.decode().splitlines()[-1], f"desk-view: error: {said}")
+        usage = "desk-view [--program PROGRAM] [--scale N] [--record FILE] [SCRIPT], or desk-view --replay FILE"
+        same("it says", ran.stderr.decode(), f"desk-view: {said}. Call it so: {usage}\n")
     same("the script", read(script), SHOWN)
 
 

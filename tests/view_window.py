@@ -235,9 +235,10 @@ def a_click_in_a_rear_window_brings_it_to_front(viewer):
 
 
 def a_window_is_dragged_by_its_title(viewer):
+    """As long as the outline follows the mouse, the window stays where it is, behind the active one."""
     viewer.mouse(150, 60, "mousedown", 1)
     viewer.mouse(140, 50)
-    viewer.wants(("info 2", "ok 60 70 140 70 1 1"))
+    viewer.wants(("frontwin", "ok 1"), ("info 2", "ok 60 70 140 70 1 0"))
     viewer.mouse(160, 66, "mouseup", 1)
     viewer.wants(("frontwin", "ok 2"), ("info 2", "ok 70 76 140 70 1 1"))
 
@@ -344,6 +345,18 @@ def a_script_is_replayed_with_pauses_and_steps(viewer):
     viewer.wants(("frontwin", "ok 2"))
 
 
+def a_signal_ends_the_viewer(viewer):
+    """The window is shown and waits, and so does its program, which ends with it."""
+    viewer.ran.terminate()
+    with open(viewer.errors) as file:
+        found = viewer.ran.wait(SECONDS), file.read()
+    if found != (143, "desk-view: it was told to end.\n"):
+        raise Differs(f"the status and what is said are {found}")
+    with open(viewer.number) as file:
+        program = int(file.read())
+    eventually(lambda: not os.path.exists(f"/proc/{program}"), "the end of the program")
+
+
 TESTS = [
     the_window_shows_the_screen,
     a_click_in_a_rear_window_brings_it_to_front,
@@ -357,7 +370,7 @@ TESTS = [
     a_key_records_an_image_of_what_is_shown,
     a_program_that_ends_is_told_and_nothing_more_is_done,
 ]
-REPLAY_TESTS = [a_script_is_replayed_with_pauses_and_steps]
+REPLAY_TESTS = [a_script_is_replayed_with_pauses_and_steps, a_signal_ends_the_viewer]
 
 
 def tried(viewer, tests):
