@@ -24,6 +24,9 @@ WAITING = (MORE, OWN, CITED)
 
 # The sums of an edit, of its crate as a check reads it, and of what that cites of the crates below.
 Sums = collections.namedtuple("Sums", "edit own cited")
+# What is recorded of an edit: the sums at which it was seen refused; since when it waits, and one sum of those at which it was
+# compiled last, or '' and '' where it does not wait or was not compiled.
+Line = collections.namedtuple("Line", "sums since compiled", defaults=("", ""))
 
 
 def name_of(crate, path):
@@ -32,6 +35,11 @@ def name_of(crate, path):
 
 def short_sum(*parts):
     return sum_of(*parts)[:16]
+
+
+def one_sum(sums):
+    """One sum of the sums of an edit."""
+    return short_sum(*sums)
 
 
 def logic():
@@ -83,27 +91,30 @@ class Texts:
 
 
 class Record:
-    """The file of the sums at which edits were seen refused, and since when each waits to be tried again, if it does. Each
-    change is written whole, at once, while others wait.
+    """The file of the sums at which edits were seen refused, since when each waits to be tried again, if it does, and at which
+    sums it was compiled meanwhile. Each change is written whole, at once, while others wait.
     """
 
     HEAD = (
         "# Written by tests/edits alone. A line: sums of the edit, of its crate, and of what that cites of the crates below, as they\n"
-        "# were when it was last seen refused; since when it waits to be tried again, if one of these changed; and its name.\n"
+        "# were when it was last seen refused; since when it waits to be tried again, if one of these changed; a sum of the three as\n"
+        "# they were when it was compiled, if that is as they are now; and its name.\n"
         "# An edit that waits was seen refused over earlier texts, and is tried over those of today as time allows.\n"
     )
-    LINE = re.compile(r"(?m)^([0-9a-f]{16}) ([0-9a-f]{16}) ([0-9a-f]{16}) (-|[0-9T:-]{16}) ([\w./-]+)$")
+    SUM = "([0-9a-f]{16})"
+    LINE = re.compile(rf"(?m)^{SUM} {SUM} {SUM} (-|[0-9T:-]{{16}})(?: (-|[0-9a-f]{{16}}))? ([\w./-]+)$")
 
     def __init__(self, file):
         self.file, self.folder = file, os.path.dirname(file)
 
     def lines(self):
-        """The sums, and since when it waits ('' where it does not), by name."""
+        """The lines, by the names of the edits."""
         try:
             text = data_of(self.file).decode(errors="replace")
         except FileNotFoundError:
             return {}
-        return {name: (Sums(*sums), since.strip("-")) for *sums, since, name in self.LINE.findall(text)}
+        found = self.LINE.findall(text)
+        return {name: Line(Sums(*sums), since.strip("-"), compiled.strip("-")) for *sums, since, compiled, name in found}
 
     def change(self, alter):
         """Alters the lines."""
@@ -112,7 +123,7 @@ class Record:
             fcntl.flock(lock, fcntl.LOCK_EX)
             known = self.lines()
             alter(known)
-            rows = [f"{' '.join(sums)} {since or '-'} {name}\n" for name, (sums, since) in sorted(known.items())]
+            rows = [f"{' '.join(it.sums)} {it.since or '-'} {it.compiled or '-'} {name}\n" for name, it in sorted(known.items())]
             with tempfile.NamedTemporaryFile("w", prefix="edits.seen.", dir=self.folder, delete=False) as new:
                 new.write(self.HEAD + "".join(rows))
             os.chmod(new.name, 0o644)
@@ -121,7 +132,16 @@ class Record:
             os.close(lock)
 
     def keep(self, name, sums):
-        self.change(lambda known: known.update({name: (sums, "")}))
+        self.change(lambda known: known.update({name: Line(sums)}))
+
+    def keep_compiled(self, sums):
+        """Records that these edits compile, by their names, each at the sums of today."""
+
+        def alter(known):
+            for name in sums.keys() & known.keys():
+                known[name] = known[name]._replace(compiled=one_sum(sums[name]))
+
+        self.change(alter)
 
     def drop(self, name):
         self.change(lambda known: known.pop(name, None))
@@ -134,8 +154,11 @@ class Record:
             for name in [it for it in known if it not in names]:
                 del known[name]
             for name in sums.keys() & known.keys():
-                seen, since = known[name]
-                known[name] = seen, "" if seen == sums[name] else since or now
+                seen, since, compiled = known[name]
+                if seen == sums[name]:
+                    known[name] = Line(seen)
+                else:
+                    known[name] = Line(seen, since or now, compiled if compiled == one_sum(sums[name]) else "")
 
         self.change(alter)
 

@@ -3,6 +3,7 @@ proof is begun, so one check of a few seconds tells it of many edits.
 """
 
 import collections
+import time
 
 import edits_read
 from edits_checks import ONE_JOB, Lanes
@@ -33,31 +34,37 @@ def refusal(crate, texts):
 
 
 class Reading:
-    """One run over edits of bodies.
+    """One run over edits of bodies, which begins no check past the end of the time, where that has one.
 
-    bad  why each edit is not known to compile, by its name: at first since it was not read
+    read  the names of those that compile, each of which is recorded
+    bad   why each of the others does not, by its name. Those for which no time was left are neither.
     """
 
-    def __init__(self, lanes):
-        self.lanes, self.bad = Lanes(lanes), {}
+    def __init__(self, sums, record, lanes, end=None):
+        is_late = lambda rank: end is not None and time.monotonic() >= end
+        self.sums, self.record, self.lanes, self.read, self.bad = sums, record, Lanes(lanes, is_late), set(), {}
 
     def go(self, waiting):
         """Reads edits: for each crate a list of paths."""
+        names = set()
         for crate, paths in waiting.items():
             functions = edits_read.functions_in(crate)
             edits = [edits_read.Edit(crate, it, functions) for it in paths]
-            self.bad |= {it.name: "it was not read" for it in edits}
+            names |= {it.name for it in edits}
             for group in apart(edits):
-                self.lanes.add(-len(group), self.read, crate, group)
+                self.lanes.add(-len(group), self.compile, crate, group)
         self.lanes.run()
+        if self.lanes.is_broken:
+            self.bad = {it: "it was not read" for it in names - self.read} | self.bad
 
-    def read(self, crate, edits):
+    def compile(self, crate, edits):
         said = refusal(crate, edits_read.combined(crate, edits))
         if not said:
-            for it in edits:
-                del self.bad[it.name]
+            names = {it.name for it in edits}
+            self.record.keep_compiled({it: self.sums[it] for it in names})
+            self.read |= names
         elif len(edits) == 1:
             self.bad[edits[0].name] = f"the edited text cannot be read: {said[:200]}"
         else:
             for it in edits:
-                self.lanes.add(0, self.read, crate, [it])
+                self.lanes.add(0, self.compile, crate, [it])
