@@ -15,6 +15,8 @@ NAME = re.compile(r"[A-Za-z_.*][A-Za-z0-9_.*/:-]*[A-Za-z0-9_*/]|[A-Za-z]")
 # What is a name also in the midst of other signs.
 RUST = re.compile(r"(?ms)^```rust\n(.*?)^```$")
 INNER = re.compile(r"\w+(?:::\w+)+|[A-Za-z]\w*_\w+|[A-Z][a-z]+[A-Z]\w*")
+# A name, and a link to the file in which it stands.
+PLACED = re.compile(r"`([A-Za-z_][\w:]*)` in \[[^\]]*\]\(([^()\s]+)\)")
 # Where a command begins that the tree has to have, and what of its words have to be files.
 COMMAND = re.compile(r"(?:\./|tests/|examples/|docs/gallery/)[^\s;|&>()`]+")
 ARGUMENT = re.compile(r"(?:\./|tests/|examples/|docs/|crates/)[A-Za-z0-9_./*-]+")
@@ -146,6 +148,14 @@ def knows(text, option):
     return bool(re.search(rf"(?<![\w-]){re.escape(option)}(?![\w-])", text)) or f'"{option.lstrip("-")}"' in text
 
 
+def misplaced_names(tree, document):
+    """Names of which a document says in which file they stand, and that do not stand there."""
+    for it in PLACED.finditer(document.text):
+        name, path = it[1].rpartition("::")[2], target_of(document, split_target(it[2])[0])
+        if path in tree.files and not re.search(rf"\b{re.escape(name)}\b", tree.text_of(path)):
+            yield document.path, document.text.count("\n", 0, it.start()) + 1, f"`{it[1]}` does not stand in {path}"
+
+
 def crates_without_readme(tree):
     for line, name in tree.crates():
         if f"crates/{name}/README.md" not in tree.files:
@@ -180,5 +190,6 @@ def faults_of(tree):
     faults = [*crates_without_readme(tree), *lonely_documents(tree), *untested_code(tree)]
     for document in tree.documents.values():
         faults += [*long_blocks(document), *long_documents(document)]
+        faults += [*misplaced_names(tree, document)]
         faults += [*dead_links(tree, document), *unknown_names(tree, document), *wrong_commands(tree, document)]
     return sorted(set(faults))

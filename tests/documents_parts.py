@@ -130,6 +130,13 @@ def names_that_are_nowhere_are_found(folder):
         finds(folder, "CHANGELOG.md", f"`{span}`, and ``prior`` and prior")
 
 
+def names_that_stand_in_another_file_are_found(folder):
+    fault = "CHANGELOG.md:2: `go` does not stand in crates/low/src/lib.rt"
+    finds(folder, "CHANGELOG.md", "a\n`go` in [`lib.rt`](crates/low/src/lib.rt)", fault)
+    for name in ("next", "low::next", "Small"):
+        finds(folder, "CHANGELOG.md", f"`{name}` in [`lib.rt`](crates/low/src/lib.rt), `go` in [a folder](crates)")
+
+
 def commands_that_are_wrong_are_found(folder):
     for command, what in [
         ("./stop", "names stop, which is no file"),
@@ -202,6 +209,7 @@ TESTS = [
     long_blocks_and_documents_are_found,
     links_that_lead_nowhere_are_found,
     names_that_are_nowhere_are_found,
+    names_that_stand_in_another_file_are_found,
     commands_that_are_wrong_are_found,
     what_nothing_leads_to_is_found,
     code_of_the_library_is_tested_text,
