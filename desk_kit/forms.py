@@ -1,6 +1,7 @@
 """The form that a line of a script ought to have, by the forms of commands and operations that the manual has."""
 
 import difflib
+import functools
 import re
 from typing import NamedTuple
 
@@ -20,6 +21,10 @@ class Reading(NamedTuple):
     unknown: str
 
 
+# What is made of a line without a manual.
+NOTHING_READ = Reading(None, None)
+
+
 def words_of(line):
     """The words of a line or of a form. A text in quotes is one word."""
     return WORD.findall(line)
@@ -33,6 +38,15 @@ def forms():
         raise Fault(f"the manual cannot be read: {fault}") from None
     except (KeyError, IndexError):
         raise Fault(f"{PATH} has no tables of commands and operations") from None
+
+
+@functools.lru_cache(maxsize=1)
+def forms_if_any():
+    """The forms that the manual has, which is read once, or None where there is none, as in an installed package."""
+    try:
+        return forms()
+    except Fault:
+        return None
 
 
 class Forms:

@@ -12,8 +12,10 @@ from contextlib import suppress
 from typing import NamedTuple
 
 from desk_kit.answers import Fault, answers_to, commands_of
+from desk_kit.forms import Forms
+from desk_kit.lint import byte_order_mark, refusals
 from desk_kit.pictures import png_of
-from desk_kit.rows import SCRIPT
+from desk_kit.rows import SCRIPT, said_of_status, writes_answers
 
 DIFFERENCES = "differences"
 SCALE = 3
@@ -120,6 +122,20 @@ class Acceptance(NamedTuple):
             return Found((), (f"new: {path}",))
         difference = row.difference(call, ran)
         return Found((), (f"changed: {path}: {difference.said()}" if difference else f"the same: {path}",))
+
+
+class Lint(NamedTuple):
+    """Tells the lines that are refused for their form, their names or their length. It compares nothing."""
+
+    program: str
+    forms: Forms
+
+    def find(self, row, room):
+        ran, script = row.run(self.program, (), empty_folder(room)), row.script()
+        if ran.status:
+            return Found((f"{said_of_status(ran.status)} in place of 0",))
+        answers_to(commands_of(script), ran.out)
+        return Found(tuple(it.sentence for it in refusals(script, ran.out, self.forms) if it.is_of_form))
 
 
 def picture(name, rows):
