@@ -5,12 +5,10 @@ import re
 from typing import NamedTuple
 
 from desk_kit.answers import LONGEST_LINE, commands_of, shown, split
-from desk_kit.forms import NOTHING_READ, words_of
+from desk_kit.forms import NOTHING_READ, OF_FORM, words_of
 
 # The first command of a script that may have floating windows.
 VERSION_2 = re.compile(rb"version 0*2")
-# The names of the refusals that lie in the line itself.
-OF_FORM = ("BadSyntax", "NoSuchName", "TooLong")
 # What some editors put before the first line of a file, unseen.
 BYTE_ORDER_MARK = b"\xef\xbb\xbf"
 MARKED = "it begins with a byte order mark, the bytes EF BB BF, which no command has: save the script without one"

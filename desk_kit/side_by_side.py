@@ -49,15 +49,16 @@ def call_each(call, values, jobs, take, progress):
     the order of the values. Temporary files of a call are removed at the end. Whatever breaks the calls off, it goes on only
     once the processes, and what they run, are ended; a signal does so as Ended."""
     NOTED.clear()
-    usual, folder = noted(), tempfile.mkdtemp(prefix="desk-test-")
+    usual, folder, processes = noted(), tempfile.mkdtemp(prefix="desk-test-"), []
     pool = ProcessPoolExecutor(max(1, min(jobs, len(values))), multiprocessing.get_context("fork"), begin, (folder,))
     try:
         waiting = [pool.submit(call, value) for value in values]
+        processes += multiprocessing.active_children()
         for it in waiting:
             wait_for(it, waiting, progress)
             take(it.result())
     except BaseException:
-        end_processes()
+        end_each(processes or multiprocessing.active_children())
         raise
     finally:
         progress.clear()
@@ -87,9 +88,9 @@ def end_behind(sentinel):
     os.killpg(0, signal.SIGKILL)
 
 
-def end_processes():
-    """Ends the processes at once, and what they run. One that is no group so far runs nothing."""
-    for it in multiprocessing.active_children():
+def end_each(processes):
+    """Ends these processes at once, and what they run, which may outlive one of them. One that is no group runs nothing."""
+    for it in processes:
         try:
             os.killpg(it.pid, signal.SIGKILL)
         except ProcessLookupError:

@@ -6,9 +6,9 @@ import textwrap
 
 from desk_kit.answers import Command, shown
 from desk_kit.driven import is_answered, rows_of
-from desk_kit.forms import Forms
+from desk_kit.forms import OF_FORM, Forms
 from desk_kit.half_blocks import half_blocks, shrunk, side_for
-from desk_kit.lint import OF_FORM, advice, misplaced, name_of
+from desk_kit.lint import advice, misplaced, name_of
 from desk_kit.markdown import blocks_of, plain
 from desk_kit.pictures import png_of
 from desk_kit.shown_desk import lines_of
