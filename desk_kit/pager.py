@@ -28,12 +28,8 @@ def print_by_pages(lines):
 
 
 def was_paged(lines):
-    """Whether a pager has shown these lines. An interrupt of the keyboard is its own."""
+    """Whether a pager has shown these lines. It heeds an interrupt of the keyboard, also where this process does not."""
     command = pager()
     text = "".join(line + "\n" for line in lines).encode("utf-8", "replace")
-    usual = signal.signal(signal.SIGINT, signal.SIG_IGN)
-    try:
-        heeds = {"preexec_fn": lambda: signal.signal(signal.SIGINT, signal.SIG_DFL)}
-        return bool(command) and subprocess.run(command, shell=True, input=text, **heeds).returncode not in NOT_RUN
-    finally:
-        signal.signal(signal.SIGINT, usual)
+    heeds = {"preexec_fn": lambda: signal.signal(signal.SIGINT, signal.SIG_DFL)}
+    return bool(command) and subprocess.run(command, shell=True, input=text, **heeds).returncode not in NOT_RUN

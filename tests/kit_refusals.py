@@ -12,7 +12,7 @@ from desk_kit.answers import Fault
 from desk_kit.forms import forms
 from desk_kit.lint import byte_order_mark, refusals
 from kit_parts import same
-from kit_place import TOP
+from kit_place import TOP, blocks
 
 FIND = "The form is: find H V"
 # A script with what it is answered. The third line is a comment, and the fourth is empty.
@@ -86,6 +86,18 @@ def a_byte_order_mark_is_named(place):
     place.says(f"the same: screens/mark.hex\nwarning: screens/mark.desk: {MARKED}\n1 passed, 0 failed\n", "--accept", "screens")
 
 
+def the_pages_have_what_is_said(place):
+    """The warnings of docs/TESTING.md, and the exception of docs/PYTHON.md."""
+    page, text = blocks("TESTING.md"), blocks("PYTHON.md")
+    place.write("screens/find.desk", "desk 8 8 0\nfind 9\n")
+    place.says(next(it for it in page if "warning: screens/find.desk" in it), "--accept", "screens")
+    place.write("screens/mark.desk", f"{MARK}desk 8 8 0\n")
+    place.write("screens/mark.out", "refused 15 BadSyntax\n")
+    marked = next(it for it in page if "warning: screens/mark.desk" in it)
+    place.says(f"{marked}2 passed, 0 failed\n", "screens")
+    same("whether the exception is there", f"{Refused('find 9', 15, 'BadSyntax')}\n" in text, True)
+
+
 def a_refusal_in_python_has_its_form(place):
     long = "x" * 256
     for line, number, name, form in [
@@ -141,6 +153,7 @@ TESTS = [
     refusals_that_are_stored_are_warned_of,
     tests_are_stored_without_a_manual,
     a_byte_order_mark_is_named,
+    the_pages_have_what_is_said,
     a_refusal_in_python_has_its_form,
     a_package_without_a_manual_has_no_form,
     a_form_is_read_only_for_a_refusal,

@@ -112,7 +112,7 @@ def long_help_is_shown_by_the_pager(place):
 
 def a_pager_that_is_left_or_interrupted_leaves_the_prompt(place):
     """It reads nothing. An interrupt of the terminal ends it, and not the talk."""
-    place.write("waits", "#!/bin/sh\necho here\nexec sleep 60\n", 0o755)
+    place.write("waits", "#!/bin/sh\necho here\nexec sleep 90\n", 0o755)
     place.write("leaves", "#!/bin/sh\necho gone\n", 0o755)
     for name, said in (("waits", "here\n"), ("leaves", "gone\n")):
         os.environ["PAGER"] = place.path(name)
@@ -143,6 +143,20 @@ def no_pager_is_used_where_there_is_no_terminal(place):
     same("the files", place.files(), ["keeps"])
 
 
+def the_page_shows_a_talk(place):
+    """The talk of docs/TERMINAL.md, whose last line is refused, and that line where it is read from a file."""
+    with open(os.path.join(TOP, "docs", "TERMINAL.md"), encoding="utf-8") as file:
+        text = file.read()
+    lines = text[text.index("    desk> desk 8 8 0\n") :].partition("\n\n")[0].split("\n")
+    typed = [line.removeprefix("    desk> ") for line in lines if line.startswith("    desk> ")]
+    same("how many are typed", (len(typed), typed[-1]), (4, "find 9"))
+    given = "".join(line + "\n" for line in typed)
+    *said, refused = [line.removeprefix("    ") for line in lines if not line.startswith("    desk> ")]
+    numbered = f"line 4, 'find 9': {refused}\n"
+    same("what is said", place.call("desk-talk", given=given), (0, "\n".join(said) + f"\n{numbered}", ""))
+    same("whether the page has the line", f"\n    {numbered}" in text, True)
+
+
 def the_tools_name_a_byte_order_mark(place):
     """desk-web and desk-view find no program or no display then."""
     place.write("mark.desk", "\ufeffdesk 8 8 0\nfrontwin\n")
@@ -168,5 +182,6 @@ TESTS = [
     long_help_is_shown_by_the_pager,
     a_pager_that_is_left_or_interrupted_leaves_the_prompt,
     no_pager_is_used_where_there_is_no_terminal,
+    the_page_shows_a_talk,
     the_tools_name_a_byte_order_mark,
 ]
