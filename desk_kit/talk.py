@@ -68,30 +68,27 @@ class Talk:
         self.desk = desk
         self.manual = manual
         self.forms = Forms(manual)
-        self.forms.commands.update((word, form) for word, (form, _) in OWN.items())
         self.look = look
         self.has_ended = False
         # The lines of the script that gives the same answers, how many were answered, and the first of these.
         self.kept, self.count, self.first = [], 0, None
 
     def run_script(self, script):
-        """Runs the lines of a script, each of which is the desk's, and gives what is shown of those that are refused."""
-        numbered = enumerate(lines_of(script), 1)
-        return [said for number, line in numbered for said in self.refused(self.asked, line, number)]
-
-    def refused(self, ask, line, number):
-        """What is shown of a line with this number, if it is refused where it is asked so."""
-        try:
-            ask(line)
-            return []
-        except Unable as why:
-            return [f"{place_of(line, number)}{why}"]
+        """Runs the lines of a script, each of which is the desk's, and gives what is shown of each one that is refused."""
+        for number, line in enumerate(lines_of(script), 1):
+            try:
+                self.ask(line)
+            except Unable as why:
+                yield f"{place_of(line, number)}{why}"
 
     def answer(self, line, number=None):
         """The lines that are shown for a line, bytes without a newline. One that is refused is named where it has a number."""
-        word = line.removesuffix(b"\r").split(b" ")[0].decode("latin-1")
+        # From the first such line on the talk's own words are commands too.
+        self.forms.commands.update((word, form) for word, (form, _) in OWN.items())
+        text = line.decode("latin-1").removesuffix("\r")
+        word = text.split(" ")[0]
         try:
-            return getattr(self, word)(line.decode("latin-1").removesuffix("\r")) if word in OWN else self.asked(line)
+            return getattr(self, word)(text) if word in OWN else self.asked(line)
         except Unable as why:
             return [f"{place_of(line, number)}{why}"]
 

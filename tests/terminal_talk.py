@@ -30,8 +30,8 @@ def a_talk_goes_on_from_a_script(place):
     # The words of the prompt are none of a script's.
     place.write("own.desk", "quit\nsave x.png\n")
     out = place.call("desk-talk", "own.desk", given="frontwin\n")
-    near = "the line is no command, or none of the script's version, or a version behind another line. The form is: quit"
-    same("its first line", out[1].split("\n")[0], f"own.desk: line 1, 'quit': refused 15 BadSyntax: {near}")
+    no_quit = out[1].split("\n")[0]
+    same("its first line", no_quit, "own.desk: line 1, 'quit': refused 15 BadSyntax: there is no command 'quit'")
     same("its last line", (out[0], out[1].split("\n")[-2], out[2]), (0, "ok 0", ""))
     same("the files", place.files(), ["empty.desk", "no-newline.desk", "one.desk", "own.desk"])
 
