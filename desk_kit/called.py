@@ -5,6 +5,7 @@ import os
 import shutil
 
 from desk_kit.ends import AT_FAULT, NO_PROGRAM, WRONG_WORDS, give_up, naming, say
+from desk_kit.lint import byte_order_mark
 from desk_kit.which import program_of
 
 TOP = os.path.dirname(os.path.dirname(os.path.realpath(__file__)))
@@ -72,10 +73,13 @@ def program_named(tool, name, desk=os.path.join(TOP, "desk")):
     return program
 
 
-def read_script(tool, path):
-    """The bytes of a script."""
+def read_script(tool, path, tells_mark=True):
+    """The bytes of a script. A byte order mark at its begin is told, for a tool that does not tell of each line by itself."""
     try:
         with open(path, "rb") as file:
-            return file.read()
+            script = file.read()
     except OSError as error:
-        give_up(tool, AT_FAULT, f"the script {path} cannot be read: {error.strerror}")
+        give_up(tool, AT_FAULT, f"the script {path} cannot be read: {error.strerror}.")
+    if tells_mark and byte_order_mark(script):
+        say(tool, f"{path}: {byte_order_mark(script)}")
+    return script

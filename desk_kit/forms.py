@@ -1,12 +1,15 @@
 """The form that a line of a script ought to have, by the forms of commands and operations that the manual has."""
 
 import difflib
+import functools
 import re
 from typing import NamedTuple
 
 from desk_kit.answers import Fault
 from desk_kit.manual import PATH, read_manual
 
+# The names of the refusals that lie in the line itself.
+OF_FORM = ("BadSyntax", "NoSuchName", "TooLong")
 DRAW, CLIP, ANY = "draw", "clip", "OPERATION"
 WORD = re.compile(r'"[^"]*"|[^ ]+')
 
@@ -18,6 +21,10 @@ class Reading(NamedTuple):
     form: str
     # What is said of a word that names no command or operation, or None where there is no such word.
     unknown: str
+
+
+# What is made of a line without a manual.
+NOTHING_READ = Reading(None, None)
 
 
 def words_of(line):
@@ -33,6 +40,15 @@ def forms():
         raise Fault(f"the manual cannot be read: {fault}") from None
     except (KeyError, IndexError):
         raise Fault(f"{PATH} has no tables of commands and operations") from None
+
+
+@functools.lru_cache(maxsize=1)
+def forms_if_any():
+    """The forms that the manual has, which is read once, or None where there is none, as in an installed package."""
+    try:
+        return forms()
+    except Fault:
+        return None
 
 
 class Forms:

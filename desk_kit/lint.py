@@ -1,47 +1,84 @@
-"""The lines of a script that are refused for their form, their names or their length, and the form that they ought to have."""
+"""The lines of a script that are refused, and the form that those ought to have which are refused for their form, their
+names or their length."""
 
 import re
 from typing import NamedTuple
 
-from desk_kit.answers import LONGEST_LINE, answers_to, commands_of, shown
-from desk_kit.forms import Forms, words_of
-from desk_kit.rows import said_of_status
-from desk_kit.screen_tests import Found, empty_folder
+from desk_kit.answers import LONGEST_LINE, commands_of, shown, split
+from desk_kit.forms import NOTHING_READ, OF_FORM, words_of
 
 # The first command of a script that may have floating windows.
 VERSION_2 = re.compile(rb"version 0*2")
-REFUSED = re.compile(rb"refused [0-9]+ (BadSyntax|NoSuchName|TooLong)\n")
+# What some editors put before the first line of a file, unseen.
+BYTE_ORDER_MARK = b"\xef\xbb\xbf"
+MARKED = "it begins with a byte order mark, the bytes EF BB BF, which no command has: save the script without one"
 # A byte that stands in no line but a comment.
 STRANGE = re.compile(rb"[^\x20-\x7e]")
 
 
-class Lint(NamedTuple):
-    """Runs a script, and tells the lines that are refused so."""
+class Refusal(NamedTuple):
+    """A line that is refused."""
 
-    program: str
-    forms: Forms
+    # Its number among all lines of the script, from 1.
+    line: int
+    # What is said of the line, from its number on.
+    sentence: str
+    # Whether the line is refused for its form, its names or its length.
+    is_of_form: bool
 
-    def find(self, row, room):
-        ran = row.run(self.program, (), empty_folder(room))
-        if ran.status:
-            return Found((f"{said_of_status(ran.status)} in place of 0",))
-        commands = commands_of(row.script())
-        answers = zip(commands, answers_to(commands, ran.out))
-        refused = [(command, answer) for command, answer in answers if REFUSED.fullmatch(answer)]
-        first = commands[0] if commands else None
-        said = (f"line {it.line}, {shown(it.text)}: {self.said(it.text, answer, misplaced(it, first))}" for it, answer in refused)
-        return Found(tuple(said))
 
-    def said(self, line, answer, place):
-        """What is said of a line that is answered so, where this is wrong with its place, if anything is."""
-        answer = answer.decode("ascii").rstrip("\n")
-        if len(line) > LONGEST_LINE:
-            return f"{answer}: the line has {len(line)} bytes, and {LONGEST_LINE} is the most"
-        text = line.decode("latin-1")
-        reading = self.forms.reading(text)
-        reason = strange(line) or reading.unknown or misformed(text, reading.form) or place
-        form = f". The form is: {reading.form}" if reading.form else ""
-        return f"{answer}{f': {reason}' if reason else ''}{form}"
+def refusals(script, out, forms):
+    """The refused lines of a script that is answered so, in their order. Where there are no forms, for want of a manual, no
+    form is said. A run that broke off has fewer answers than the script has commands."""
+    commands = commands_of(script)
+    first = commands[0] if commands else None
+    answered = zip(commands, split(out)[0])
+    return [refusal(it, answer, first, forms) for it, answer in answered if answer.startswith(b"refused ")]
+
+
+def refusal(command, answer, first, forms):
+    """The refusal of a command that is answered so, in a script with this first command."""
+    refused = answer.decode("latin-1").rstrip("\n")
+    is_of_form = name_of(refused) in OF_FORM
+    said = refused + advice(command.text, misplaced(command, first), forms).said() if is_of_form else refused
+    return Refusal(command.line, f"line {command.line}, {shown(command.text)}: {said}", is_of_form)
+
+
+def name_of(refused):
+    """The name of a refusal, as 'refused 15 BadSyntax' has it."""
+    return refused.rpartition(" ")[2]
+
+
+class Advice(NamedTuple):
+    """What is said of a line that is refused for its form, its names or its length."""
+
+    # What is wrong with it, or nothing where that is not seen.
+    reason: str
+    # The form that it ought to have, or None.
+    form: str
+
+    def said(self, reason=""):
+        """The advice behind an answer, with this reason where the line has none of its own."""
+        why = self.reason or reason
+        return f"{f': {why}' if why else ''}{f'. The form is: {self.form}' if self.form else ''}"
+
+
+def advice(line, place, forms):
+    """The advice on a line, where this is wrong with its place, if anything is."""
+    text = line.removeprefix(BYTE_ORDER_MARK).decode("latin-1")
+    reading = forms.reading(text) if forms else NOTHING_READ
+    in_bytes = too_long(line) or byte_order_mark(line) or strange(line)
+    return Advice(in_bytes or reading.unknown or misformed(text, reading.form) or place, reading.form)
+
+
+def byte_order_mark(script):
+    """What is wrong with the begin of a script or of a line, where a byte order mark stands there, or nothing."""
+    return MARKED if script.startswith(BYTE_ORDER_MARK) else ""
+
+
+def too_long(line):
+    """What is wrong with the length of a line, or nothing."""
+    return f"the line has {len(line)} bytes, and {LONGEST_LINE} is the most" if len(line) > LONGEST_LINE else ""
 
 
 def misplaced(command, first):
@@ -62,7 +99,9 @@ def strange(line):
 
 def misformed(text, form):
     """What is wrong with the spaces or the count of words of a line that is to have this form, or nothing where that is not
-    seen from these."""
+    seen from these, or no form is known."""
+    if form is None:
+        return ""
     words, wanted = words_of(text), words_of(form)
     if " ".join(words) != text:
         return "one space parts a word from the next, and none stands before the first or after the last"

@@ -12,8 +12,10 @@ from contextlib import suppress
 from typing import NamedTuple
 
 from desk_kit.answers import Fault, answers_to, commands_of
+from desk_kit.forms import Forms
+from desk_kit.lint import byte_order_mark, refusals
 from desk_kit.pictures import png_of
-from desk_kit.rows import SCRIPT
+from desk_kit.rows import SCRIPT, said_of_status, writes_answers
 
 DIFFERENCES = "differences"
 SCALE = 3
@@ -93,6 +95,10 @@ class Comparison(NamedTuple):
     has_pictures: bool
 
     def find(self, row, room):
+        return self.compared(row, room)._replace(lines=marked(row))
+
+    def compared(self, row, room):
+        """What is found, without a warning."""
         call, ran = ran_in(room, row, self.program)
         if call.out is None:
             return Found((f"there is no stored output {row.name}.out; --accept makes one", *row.faults(ran)))
@@ -106,20 +112,58 @@ class Comparison(NamedTuple):
 
 
 class Acceptance(NamedTuple):
-    """Stores the answers as those that are due."""
+    """Stores the answers as those that are due, and warns of lines that are refused for their form."""
 
     program: str
+    # The forms of refused lines, or None where there is no manual.
+    forms: Forms
 
     def find(self, row, room):
         call, ran = ran_in(room, row, self.program)
         faults = row.faults(ran) or unanswered(row, ran)
         if faults:
             return Found((*faults, "nothing is stored"))
-        path = row.store(ran.out)
-        if call.out is None:
-            return Found((), (f"new: {path}",))
-        difference = row.difference(call, ran)
-        return Found((), (f"changed: {path}: {difference.said()}" if difference else f"the same: {path}",))
+        return Found((), (stored(row, call, ran), *self.warnings(row, call, ran)))
+
+    def warnings(self, row, call, ran):
+        """A line for each line of the script that is refused for its form, its names or its length."""
+        if not writes_answers(call.words):
+            return marked(row)
+        found = [it.sentence for it in refusals(row.script(), ran.out, self.forms) if it.is_of_form]
+        return [warning(row, it) for it in found] or marked(row)
+
+
+def stored(row, call, ran):
+    """Stores what came of a row's call, and says whether that is new, changed or the same."""
+    path = row.store(ran.out)
+    if call.out is None:
+        return f"new: {path}"
+    difference = row.difference(call, ran)
+    return f"changed: {path}: {difference.said()}" if difference else f"the same: {path}"
+
+
+def warning(row, sentence):
+    """A line that warns of something in a row's script, whether the row passes or not."""
+    return f"warning: {row.path}{SCRIPT}: {sentence}"
+
+
+def marked(row):
+    """The warning of a script that begins with a byte order mark, or nothing."""
+    return tuple(warning(row, it) for it in [byte_order_mark(row.script())] if it)
+
+
+class Lint(NamedTuple):
+    """Tells the lines that are refused for their form, their names or their length. It compares nothing."""
+
+    program: str
+    forms: Forms
+
+    def find(self, row, room):
+        ran, script = row.run(self.program, (), empty_folder(room)), row.script()
+        if ran.status:
+            return Found((f"{said_of_status(ran.status)} in place of 0",))
+        answers_to(commands_of(script), ran.out)
+        return Found(tuple(it.sentence for it in refusals(script, ran.out, self.forms) if it.is_of_form))
 
 
 def picture(name, rows):

@@ -204,7 +204,7 @@ def a_report_that_cannot_be_written_is_a_failure(place):
     place.write("screens/points.desk", POINTS)
     place.write("screens/points.out", POINTS_OUT)
     found = place.call("--program", place.program, "--junit", "/dev/full", "--report", "it.html", "screens")
-    said = "desk-test: /dev/full cannot be written: No space left on device\n"
+    said = "desk-test: /dev/full cannot be written: No space left on device.\n"
     same("what is said", found, ("1 passed, 0 failed\n", 1, said))
     same("the other report", Page(place.read("it.html")).texts["h1"], ["1 passed, 0 failed"])
 

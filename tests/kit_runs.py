@@ -191,7 +191,7 @@ def an_interrupt_ends_the_tests(place):
         place.write(f"screens/{name}.desk", "sleep 50\n")
     begun = time.monotonic()
     out, seen, status = on_a_terminal(place, "--jobs", "2", "screens", interrupt=True)
-    said = f"{CLEAR}desk-test: the keyboard interrupted the tests\r\n"
+    said = f"{CLEAR}desk-test: the keyboard interrupted it.\r\n"
     same("what is said", (out, seen.endswith(said), status), ("", True, 130))
     same("whether it ends soon", time.monotonic() - begun < 20, True)
 
@@ -210,7 +210,7 @@ def after_an_interrupt_of_its_own_few_scripts_begin(place):
         time.sleep(0.01)
     ran.send_signal(signal.SIGINT)
     _, error = ran.communicate(timeout=SECONDS)
-    same("what is said", (error, ran.returncode), (b"desk-test: the keyboard interrupted the tests\n", 130))
+    same("what is said", (error, ran.returncode), (b"desk-test: the keyboard interrupted it.\n", 130))
     same("whether few have begun", 0 < len(place.files("started")) < 15, True)
 
 
