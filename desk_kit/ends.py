@@ -107,7 +107,8 @@ def run(tool, main):
     take_signals()
     try:
         try:
-            sys.stdout.reconfigure(errors="backslashreplace")
+            # (also where PYTHONUNBUFFERED is set a line goes out in one write, and is not mixed with lines of others)
+            sys.stdout.reconfigure(errors="backslashreplace", write_through=False)
             main()
         finally:
             sys.stdout.flush()
