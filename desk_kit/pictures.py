@@ -3,7 +3,7 @@
 import struct
 import zlib
 
-from desk_kit.answers import PIXELS_OF_A_LINE, Fault, is_image, lines_of_a_row, split
+from desk_kit.answers import IMAGE, PIXELS_OF_A_LINE, SIDES, Fault, is_image, lines_of_a_row, shown, split
 
 SIGNATURE = b"\x89PNG\r\n\x1a\n"
 # Each byte with the other color in each of its bits.
@@ -16,6 +16,28 @@ def images(text):
     if is_image(rest):
         raise Fault("the image is not whole")
     return [image_of(answer) for answer in answers if is_image(answer)]
+
+
+def answers_from(file):
+    """The answers that a stream is made of, each once it is whole there, and none held behind it."""
+    while line := file.readline():
+        if not line.endswith(b"\n"):
+            raise Fault(f"no whole answer begins with {shown(line)}")
+        yield line + rest_of_image(file) if line == IMAGE else line
+
+
+def rest_of_image(file):
+    """What follows the first line of an image in a stream."""
+    line = file.readline()
+    sides = SIDES.fullmatch(line)
+    if not sides:
+        raise Fault("the image has no width and height")
+    width, height = map(int, sides.groups())
+    length = height * (width + lines_of_a_row(width))
+    pixels = file.read(length)
+    if len(pixels) < length:
+        raise Fault("the image is not whole")
+    return line + pixels
 
 
 def image_of(answer):
