@@ -30,6 +30,8 @@ To read the manual, and to serve somebody at a terminal, for desk-talk:
   markdown        the blocks of a document
   forms           the form that a line ought to have, by the manual
   half_blocks     images as characters
+  braille         images as characters of Braille, shrunk where they have to be
+  graphics        images as pictures of a terminal
   talk            what desk-talk says, and how words are completed
   pager           the pager of a terminal
 
