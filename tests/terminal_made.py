@@ -178,7 +178,7 @@ def bash_completes_options_and_files(place):
         ([desk, "one.desk", "--ra"], ["--raw"]),
         ([desk, "--font", "a"], ["a.font"]),
         ([desk, "--font", ""], ["a.font", "folder", "one.desk", "other.txt", "two words.desk"]),
-        ([png, "--"], ["--font", "--program", "--scale"]),
+        ([png, "--"], ["--font", "--image", "--last", "--program", "--scale", "--strict"]),
         ([png, "--scale", "2", "o"], ["one.desk"]),
         ([talk, "--p"], ["--program"]),
         ([os.path.join(TOP, "desk-test"), "--acc"], ["--accept"]),
