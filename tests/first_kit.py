@@ -116,7 +116,7 @@ echo "clang $1 $2" >> "$3"
 # What rt is asked for where the program is compiled without proof.
 TRIED = ["try", "clang -O2 -c"]
 # What ./desk says.
-COMPILES = r"desk: compiling the program, unproved, which takes a minute or two\."
+COMPILES = r"desk: compiling the program, unproved, which takes one to four minutes\."
 STEPS = [
     r"desk: step 1 of 3: rt reads and checks the texts of all crates",
     r"desk: step 2 of 3(, after \d+ s)?: LLVM compiles them",
@@ -226,6 +226,13 @@ class Tree:
         with self.start(*words, program=program) as ran:
             out, error = ran.communicate(given.encode())
         return ran.returncode, out.decode(), error.decode()
+
+    def call_to(self, out, *words):
+        """The status of a call that writes into this file, and what it writes on standard error."""
+        called = [self.path("desk"), *words]
+        how = {"stdin": subprocess.DEVNULL, "stdout": out, "stderr": subprocess.PIPE, "timeout": SECONDS}
+        ran = subprocess.run(called, cwd=self.kit, env=self.environment, check=False, **how)
+        return ran.returncode, ran.stderr.decode()
 
     def wants(self, status, out, lines, *words, **how):
         """Wants this of a call, where the lines are patterns of those on standard error, all of them."""
