@@ -31,6 +31,7 @@ To read the manual, and to serve somebody at a terminal, for desk-talk:
   forms           the form that a line ought to have, by the manual
   half_blocks     images as characters
   talk            what desk-talk says, and how words are completed
+  pager           the pager of a terminal
 
 To drive a desk with a mouse and keys, for desk-view and desk-web:
 

@@ -7,6 +7,7 @@ import shutil
 
 from desk_kit.answers import Fault
 from desk_kit.driven import SECONDS, Driven
+from desk_kit.forms import OF_FORM, forms_if_any
 from desk_kit.pictures import image_of, png_of
 from desk_kit.which import program_of
 
@@ -22,8 +23,16 @@ class Refused(Exception):
         super().__init__(line, number, name)
         self.line, self.number, self.name = line, number, name
 
+    @property
+    def form(self):
+        """The form that the manual has for a line that is refused for its form, its names or its length, or the nearest one;
+        None for other refusals, where none is near, and where there is no manual."""
+        its = forms_if_any() if self.name in OF_FORM else None
+        return its.reading(self.line).form if its else None
+
     def __str__(self):
-        return f"{self.line!r} is refused: {self.number} {self.name}"
+        form = self.form
+        return f"{self.line!r} is refused: {self.number} {self.name}{f'. The form is: {form}' if form else ''}"
 
 
 def program_to_drive(name, script=DESK):

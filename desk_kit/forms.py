@@ -8,6 +8,8 @@ from typing import NamedTuple
 from desk_kit.answers import Fault
 from desk_kit.manual import PATH, read_manual
 
+# The names of the refusals that lie in the line itself.
+OF_FORM = ("BadSyntax", "NoSuchName", "TooLong")
 DRAW, CLIP, ANY = "draw", "clip", "OPERATION"
 WORD = re.compile(r'"[^"]*"|[^ ]+')
 

@@ -5,14 +5,13 @@ import re
 from typing import NamedTuple
 
 from desk_kit.answers import LONGEST_LINE, commands_of, shown, split
-from desk_kit.forms import NOTHING_READ, words_of
+from desk_kit.forms import NOTHING_READ, OF_FORM, words_of
 
 # The first command of a script that may have floating windows.
 VERSION_2 = re.compile(rb"version 0*2")
-# The names of the refusals that lie in the line itself.
-OF_FORM = ("BadSyntax", "NoSuchName", "TooLong")
 # What some editors put before the first line of a file, unseen.
 BYTE_ORDER_MARK = b"\xef\xbb\xbf"
+MARKED = "it begins with a byte order mark, the bytes EF BB BF, which no command has: save the script without one"
 # A byte that stands in no line but a comment.
 STRANGE = re.compile(rb"[^\x20-\x7e]")
 
@@ -40,26 +39,41 @@ def refusals(script, out, forms):
 def refusal(command, answer, first, forms):
     """The refusal of a command that is answered so, in a script with this first command."""
     refused = answer.decode("latin-1").rstrip("\n")
-    is_of_form = refused.rpartition(" ")[2] in OF_FORM
-    said = refused + advice(command, first, forms) if is_of_form else refused
+    is_of_form = name_of(refused) in OF_FORM
+    said = refused + advice(command.text, misplaced(command, first), forms).said() if is_of_form else refused
     return Refusal(command.line, f"line {command.line}, {shown(command.text)}: {said}", is_of_form)
 
 
-def advice(command, first, forms):
-    """What is wrong with a command that is refused for its form, its names or its length, and its form, behind the answer."""
-    line, place = command.text, misplaced(command, first)
-    mark = byte_order_mark(line) if command.line == 1 else ""
-    text = (line.removeprefix(BYTE_ORDER_MARK) if mark else line).decode("latin-1")
+def name_of(refused):
+    """The name of a refusal, as 'refused 15 BadSyntax' has it."""
+    return refused.rpartition(" ")[2]
+
+
+class Advice(NamedTuple):
+    """What is said of a line that is refused for its form, its names or its length."""
+
+    # What is wrong with it, or nothing where that is not seen.
+    reason: str
+    # The form that it ought to have, or None.
+    form: str
+
+    def said(self, reason=""):
+        """The advice behind an answer, with this reason where the line has none of its own."""
+        why = self.reason or reason
+        return f"{f': {why}' if why else ''}{f'. The form is: {self.form}' if self.form else ''}"
+
+
+def advice(line, place, forms):
+    """The advice on a line, where this is wrong with its place, if anything is."""
+    text = line.removeprefix(BYTE_ORDER_MARK).decode("latin-1")
     reading = forms.reading(text) if forms else NOTHING_READ
-    reason = too_long(line) or mark or strange(line) or reading.unknown or misformed(text, reading.form) or place
-    return f"{f': {reason}' if reason else ''}{f'. The form is: {reading.form}' if reading.form else ''}"
+    in_bytes = too_long(line) or byte_order_mark(line) or strange(line)
+    return Advice(in_bytes or reading.unknown or misformed(text, reading.form) or place, reading.form)
 
 
 def byte_order_mark(script):
-    """What is wrong with the begin of a script, or of its first line, where a byte order mark stands there."""
-    if not script.startswith(BYTE_ORDER_MARK):
-        return ""
-    return "the script begins with a byte order mark, the bytes EF BB BF, which is no part of a command: save it without one"
+    """What is wrong with the begin of a script or of a line, where a byte order mark stands there, or nothing."""
+    return MARKED if script.startswith(BYTE_ORDER_MARK) else ""
 
 
 def too_long(line):

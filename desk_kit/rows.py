@@ -13,6 +13,7 @@ The script is standard input. Bytes are compared, and nothing is left out. A pro
 """
 
 import os
+import stat
 import subprocess
 from typing import NamedTuple
 
@@ -53,8 +54,10 @@ class Row:
         self.name = os.path.basename(path)
 
     def part(self, ending):
-        """The bytes of a file of the row, or None where there is no such file."""
+        """The bytes of a file of the row, or None where there is no such file. A pipe might never have an end."""
         try:
+            if not stat.S_ISREG(os.stat(self.path + ending).st_mode):
+                raise Fault(f"{self.name}{ending} is no regular file")
             with open(self.path + ending, "rb") as file:
                 return file.read()
         except FileNotFoundError:

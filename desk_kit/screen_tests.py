@@ -95,6 +95,10 @@ class Comparison(NamedTuple):
     has_pictures: bool
 
     def find(self, row, room):
+        return self.compared(row, room)._replace(lines=marked(row))
+
+    def compared(self, row, room):
+        """What is found, without a warning."""
         call, ran = ran_in(room, row, self.program)
         if call.out is None:
             return Found((f"there is no stored output {row.name}.out; --accept makes one", *row.faults(ran)))
@@ -108,20 +112,44 @@ class Comparison(NamedTuple):
 
 
 class Acceptance(NamedTuple):
-    """Stores the answers as those that are due."""
+    """Stores the answers as those that are due, and warns of lines that are refused for their form."""
 
     program: str
+    # The forms of refused lines, or None where there is no manual.
+    forms: Forms
 
     def find(self, row, room):
         call, ran = ran_in(room, row, self.program)
         faults = row.faults(ran) or unanswered(row, ran)
         if faults:
             return Found((*faults, "nothing is stored"))
-        path = row.store(ran.out)
-        if call.out is None:
-            return Found((), (f"new: {path}",))
-        difference = row.difference(call, ran)
-        return Found((), (f"changed: {path}: {difference.said()}" if difference else f"the same: {path}",))
+        return Found((), (stored(row, call, ran), *self.warnings(row, call, ran)))
+
+    def warnings(self, row, call, ran):
+        """A line for each line of the script that is refused for its form, its names or its length."""
+        if not writes_answers(call.words):
+            return marked(row)
+        found = [it.sentence for it in refusals(row.script(), ran.out, self.forms) if it.is_of_form]
+        return [warning(row, it) for it in found] or marked(row)
+
+
+def stored(row, call, ran):
+    """Stores what came of a row's call, and says whether that is new, changed or the same."""
+    path = row.store(ran.out)
+    if call.out is None:
+        return f"new: {path}"
+    difference = row.difference(call, ran)
+    return f"changed: {path}: {difference.said()}" if difference else f"the same: {path}"
+
+
+def warning(row, sentence):
+    """A line that warns of something in a row's script, whether the row passes or not."""
+    return f"warning: {row.path}{SCRIPT}: {sentence}"
+
+
+def marked(row):
+    """The warning of a script that begins with a byte order mark, or nothing."""
+    return tuple(warning(row, it) for it in [byte_order_mark(row.script())] if it)
 
 
 class Lint(NamedTuple):

@@ -1,8 +1,12 @@
 """Calls of a function side by side, each in one of several processes, and a line on a terminal that says how far they are."""
 
 import multiprocessing
+import multiprocessing.connection
 import os
+import shutil
 import signal
+import tempfile
+import threading
 import time
 from concurrent.futures import ProcessPoolExecutor, wait
 
@@ -10,8 +14,18 @@ from concurrent.futures import ProcessPoolExecutor, wait
 SECONDS = 0.1
 # Goes to the begin of the line, and clears it.
 CLEAR = "\r\x1b[K"
-# The interrupts of the keyboard that a process has had.
-INTERRUPTS = []
+# The signals that end the calls: an interrupt of the keyboard, an order to end, and a terminal that is gone.
+ENDING = (signal.SIGINT, signal.SIGTERM, signal.SIGHUP)
+# Those that this process has had.
+NOTED = []
+
+
+class Ended(Exception):
+    """A signal has ended the calls."""
+
+    def __init__(self, number):
+        super().__init__(number)
+        self.number = number
 
 
 def processors():
@@ -19,46 +33,75 @@ def processors():
     return len(os.sched_getaffinity(0))
 
 
-def note_interrupt(*_):
-    """Notes an interrupt of the keyboard, and breaks nothing off: at any place it might leave a lock shut for ever."""
-    INTERRUPTS.append(True)
+def note(number, _):
+    """Notes a signal, and breaks nothing off: at any place it might leave a lock shut for ever."""
+    NOTED.append(number)
 
 
-def unless_interrupted(call, value):
-    """The result of a call. An interrupt ends it, and has none begin that waits for this process."""
-    signal.signal(signal.SIGINT, signal.default_int_handler)
-    try:
-        if INTERRUPTS:
-            raise KeyboardInterrupt
-        return call(value)
-    except KeyboardInterrupt:
-        INTERRUPTS.append(True)
-        raise
-    finally:
-        signal.signal(signal.SIGINT, note_interrupt)
+def noted():
+    """Has signals noted, and gives what was done with each before. Who has a terminal's end ignored goes on."""
+    ignored = [it for it in (signal.SIGHUP,) if signal.getsignal(it) == signal.SIG_IGN]
+    return {it: signal.signal(it, note) for it in ENDING if it not in ignored}
 
 
 def call_each(call, values, jobs, take, progress):
     """Calls a function with each of these values, in so many processes at most, and gives each result to another one, in
-    the order of the values. An interrupt of the keyboard is a KeyboardInterrupt once no call is left."""
-    usual = signal.signal(signal.SIGINT, note_interrupt)
-    pool = ProcessPoolExecutor(max(1, min(jobs, len(values))), mp_context=multiprocessing.get_context("fork"))
+    the order of the values. Temporary files of a call are removed at the end. Whatever breaks the calls off, it goes on only
+    once the processes, and what they run, are ended; a signal does so as Ended."""
+    NOTED.clear()
+    usual, folder, processes = noted(), tempfile.mkdtemp(prefix="desk-test-"), []
+    pool = ProcessPoolExecutor(max(1, min(jobs, len(values))), multiprocessing.get_context("fork"), begin, (folder,))
     try:
-        waiting = [pool.submit(unless_interrupted, call, value) for value in values]
+        waiting = [pool.submit(call, value) for value in values]
+        processes += multiprocessing.active_children()
         for it in waiting:
             wait_for(it, waiting, progress)
             take(it.result())
+    except BaseException:
+        end_each(processes or multiprocessing.active_children())
+        raise
     finally:
         progress.clear()
         pool.shutdown(cancel_futures=True)
-        signal.signal(signal.SIGINT, usual)
+        shutil.rmtree(folder, ignore_errors=True)
+        restore(usual)
+
+
+def restore(usual):
+    """Has done with each of these signals what was done with it before."""
+    for number, handler in usual.items():
+        signal.signal(number, handler)
+
+
+def begin(folder):
+    """Begins one of the processes: it is a group of its own with all that it runs, has its temporary files in this folder,
+    and ends with the process that began it."""
+    os.setpgid(0, 0)
+    restore(dict.fromkeys(ENDING, signal.SIG_DFL))
+    tempfile.tempdir = folder
+    threading.Thread(target=end_behind, args=(multiprocessing.parent_process().sentinel,), daemon=True).start()
+
+
+def end_behind(sentinel):
+    """Ends this process, and what it runs, once the one that began it is gone, however that ended."""
+    multiprocessing.connection.wait([sentinel])
+    os.killpg(0, signal.SIGKILL)
+
+
+def end_each(processes):
+    """Ends these processes at once, and what they run, which may outlive one of them. One that is no group runs nothing."""
+    for it in processes:
+        try:
+            os.killpg(it.pid, signal.SIGKILL)
+        except ProcessLookupError:
+            it.kill()
 
 
 def wait_for(one, waiting, progress):
     """Waits until there is this one of the results for which others wait."""
     while not one.done():
-        if INTERRUPTS:
-            raise KeyboardInterrupt
+        if NOTED:
+            raise Ended(NOTED[0])
         progress.show(waiting)
         wait([one], timeout=SECONDS)
 

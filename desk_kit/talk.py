@@ -1,21 +1,32 @@
 """A talk with a desk at a terminal: what is typed, and what is shown of the answers. The words come from the manual."""
 
-import difflib
+import os
 import re
 import textwrap
 
-from desk_kit.driven import rows_of
+from desk_kit.answers import Command, shown
+from desk_kit.driven import is_answered, rows_of
+from desk_kit.forms import OF_FORM, Forms
 from desk_kit.half_blocks import half_blocks, shrunk, side_for
+from desk_kit.lint import advice, misplaced, name_of
 from desk_kit.markdown import blocks_of, plain
 from desk_kit.pictures import png_of
+from desk_kit.shown_desk import lines_of
 
 # The words of the talk itself, each with its form and what it does. All others are the desk's.
 OWN = {
     "help": ("help [COMMAND]", "shows the commands, or what the manual says of one"),
-    "save": ("save FILE.png [SCALE]", "writes the screen as a PNG file, each pixel a square of SCALE by SCALE"),
+    "save": (
+        "save FILE.png [SCALE] or save FILE.desk",
+        "writes the screen as a PNG file, each pixel a square of SCALE by SCALE, from 1 to 16, or what was typed as a script",
+    ),
     "quit": ("quit", "ends, as the end of the input does"),
+    "exit": ("exit", "ends, as quit does"),
 }
 SAVED = re.compile(r"save (.+\.png)(?: ([1-9]|1[0-6]))?")
+KEPT = re.compile(r"save (.+\.desk)")
+# The names of the refusals that leave everything as it is, also where no desk is made so far.
+WITHOUT_EFFECT = ("BadSyntax", "NoSuchName")
 INDENT = "  "
 BLACK_ON_WHITE, AS_BEFORE = "\033[30;107m", "\033[0m"
 TABLE_GAP = 2
@@ -46,69 +57,108 @@ class Look:
         return textwrap.wrap(text, self.columns, initial_indent=indent, subsequent_indent=indent, break_on_hyphens=False)
 
 
+class Unable(Exception):
+    """A line is refused, by the desk or by the talk. It says what is shown of that."""
+
+
 class Talk:
     """What is said to the lines that are typed, over a desk that is driven."""
 
     def __init__(self, desk, manual, look):
         self.desk = desk
         self.manual = manual
+        self.forms = Forms(manual)
+        self.forms.commands.update((word, form) for word, (form, _) in OWN.items())
         self.look = look
         self.has_ended = False
+        # The lines of the script that gives the same answers, how many were answered, and the first of these.
+        self.kept, self.count, self.first = [], 0, None
 
-    def answer(self, line):
-        """The lines that are shown for a line, bytes without a newline."""
-        text = line.decode("latin-1").removesuffix("\r")
-        word = text.split(" ")[0]
-        if word in OWN:
-            return getattr(self, word)(text)
-        answer = self.desk.ask(line)
+    def run_script(self, script):
+        """Runs the lines of a script, each of which is the desk's, and gives what is shown of those that are refused."""
+        numbered = enumerate(lines_of(script), 1)
+        return [said for number, line in numbered for said in self.refused(self.asked, line, number)]
+
+    def refused(self, ask, line, number):
+        """What is shown of a line with this number, if it is refused where it is asked so."""
+        try:
+            ask(line)
+            return []
+        except Unable as why:
+            return [f"{place_of(line, number)}{why}"]
+
+    def answer(self, line, number=None):
+        """The lines that are shown for a line, bytes without a newline. One that is refused is named where it has a number."""
+        word = line.removesuffix(b"\r").split(b" ")[0].decode("latin-1")
+        try:
+            return getattr(self, word)(line.decode("latin-1").removesuffix("\r")) if word in OWN else self.asked(line)
+        except Unable as why:
+            return [f"{place_of(line, number)}{why}"]
+
+    def asked(self, line):
+        """The lines that are shown for a line that is the desk's."""
+        answer = self.ask(line)
         if answer.startswith(b"P1\n"):
             return self.look.image([row.decode() for row in rows_of(answer)])
-        said = answer.decode("latin-1")
-        return [said + self.reason(text, said)] if said else []
+        return [answer.decode("latin-1")] if answer else []
 
-    def reason(self, line, answer):
-        """Why a line is refused, in words, behind the answer; nothing where it is not."""
-        word, _, refusal = answer.partition(" ")
-        if word != "refused" or refusal not in self.manual.refusals:
-            return ""
-        why = self.manual.refusals[refusal]
-        return f": {why}{self.hint(line) if refusal == '15 BadSyntax' else ''}"
+    def ask(self, line):
+        """What the desk answers to a line, which is kept unless it is refused without an effect."""
+        answer = self.desk.ask(line)
+        command = Command(self.count + 1, line.removesuffix(b"\r"))
+        if is_answered(line):
+            self.count, self.first = command.line, self.first or command
+        refused = answer.decode("latin-1") if answer.startswith(b"refused ") else ""
+        if name_of(refused) not in WITHOUT_EFFECT:
+            self.kept.append(line)
+        if refused:
+            raise Unable(refused + self.reason(command, refused))
+        return answer
 
-    def hint(self, line):
-        """What a line that is no command may have to be."""
-        word = line.split(" ")[0]
-        if word in self.manual.forms:
-            return f". It has the form {' or '.join(self.manual.forms[word])}"
-        return f". {self.unknown(word)}"
-
-    def unknown(self, word):
-        """That there is no such command, and what may have been meant."""
-        near = difflib.get_close_matches(word, [*self.manual.forms, *OWN], 1)
-        return f"There is no command {word!r}{f'; the nearest is {near[0]}' if near else ''}"
+    def reason(self, command, answer):
+        """Why a command is refused, in words, behind the answer."""
+        meaning = self.manual.refusals.get(answer.partition(" ")[2], "")
+        if name_of(answer) in OF_FORM:
+            return advice(command.text, misplaced(command, self.first), self.forms).said(meaning)
+        return f": {meaning}" if meaning else ""
 
     def quit(self, line):
-        self.has_ended = line == "quit"
-        return [] if self.has_ended else [self.form_of("quit")]
+        if line not in ("quit", "exit"):
+            raise Unable(self.form_of(line.split(" ")[0]))
+        self.has_ended = True
+        return []
+
+    exit = quit
 
     def form_of(self, word):
         form, does = OWN[word]
         return f"{form}: {does}"
 
     def save(self, line):
-        """Writes the screen to a file."""
-        words = SAVED.fullmatch(line)
-        if not words:
-            return [f"nothing is saved. {self.form_of('save')}, from 1 to 16"]
-        answer = self.desk.ask(b"image")
-        if not answer.startswith(b"P1\n"):
-            return [f"nothing is saved: {answer.decode('latin-1')}"]
-        path, scale = words[1], int(words[2] or 1)
+        """Writes the screen to a file, or what was typed."""
+        picture, script = SAVED.fullmatch(line), KEPT.fullmatch(line)
+        if picture:
+            return self.stored(picture[1], self.picture(int(picture[2] or 1)))
+        if script:
+            return self.stored(script[1], b"".join(it + b"\n" for it in self.kept))
+        raise Unable(f"nothing is saved. {self.form_of('save')}")
+
+    def picture(self, scale):
+        """The screen as a PNG file. The command image is kept, because that may have made the desk."""
+        try:
+            rows = rows_of(self.ask(b"image"))
+        except Unable as why:
+            raise Unable(f"nothing is saved: {why}") from None
+        return png_of([row.decode() for row in rows], scale)
+
+    def stored(self, name, text):
+        """Writes a file. Its name is that of a line, a character for each byte."""
+        path = os.fsdecode(name.encode("latin-1"))
         try:
             with open(path, "wb") as file:
-                file.write(png_of([row.decode() for row in rows_of(answer)], scale))
+                file.write(text)
         except OSError as fault:
-            return [f"nothing is saved: {path}: {fault.strerror}"]
+            raise Unable(f"nothing is saved: {path}: {fault.strerror}") from None
         return [f"saved {path}"]
 
     def help(self, line):
@@ -117,11 +167,11 @@ class Talk:
         if len(words) == 1:
             return self.all_commands()
         if len(words) > 2:
-            return [self.form_of("help")]
+            raise Unable(self.form_of("help"))
         if words[1] in OWN:
             return [self.form_of(words[1])]
         if words[1] not in self.manual.forms:
-            return [self.unknown(words[1])]
+            raise Unable(self.forms.reading(words[1]).unknown)
         heading, text = self.manual.section_of(words[1])
         return [plain(heading), "", *self.page(text)]
 
@@ -160,6 +210,12 @@ class Talk:
     def row(self, cells):
         """A row of a table, its cells behind each other."""
         return self.look.wrapped((" " * TABLE_GAP).join(plain(cell) for cell in cells if cell), INDENT)
+
+
+def place_of(line, number):
+    """The number of a line, and its text, before what is said of it; nothing where it has no number."""
+    text = line.removesuffix(b"\r")
+    return f"line {number}, {shown(text)}: " if number else ""
 
 
 def completions(manual, before, word):

@@ -32,7 +32,7 @@ class Skipped(Exception):
 def need(program):
     """Skips the test where this machine has no such program."""
     if shutil.which(program) is None:
-        raise Skipped(f"there is no {program}")
+        raise Skipped(f"here is no {program}")
 
 
 def same(what, found, wanted):

@@ -173,8 +173,8 @@ def help_is_what_the_manual_says(_):
     text = "Makes a box, or shuts it. As SCRIPT.md says, H is a number. It may be low:"
     page = ["box KIND H, lid H V", "", text, "", "- one;", "- or two.", "", *table, "", "    box round 1"]
     same("of one", talk.answer(b"help lid"), page)
-    same("of none", talk.answer(b"help frob"), ["There is no command 'frob'"])
-    same("of one like it", talk.answer(b"help boxx"), ["There is no command 'boxx'; the nearest is box"])
+    same("of none", talk.answer(b"help frob"), ["there is no command 'frob'"])
+    same("of one like it", talk.answer(b"help boxx"), ["there is no command 'boxx', and the nearest is 'box'"])
     same("of its own", talk.answer(b"help quit"), ["quit: ends, as the end of the input does"])
     same("of two", talk.answer(b"help box lid"), ["help [COMMAND]: shows the commands, or what the manual says of one"])
     own = [f"  {form}: {does}" for form, does in OWN.values()]
@@ -205,11 +205,13 @@ def refusals_have_their_reasons(_):
     for line, said in [
         (b"box round 1", ["ok 1"]),
         (b"lid 1 2\r", ["refused 3 NoBox: no box is there"]),
-        (b"draw", ["refused 15 BadSyntax: the line is no command. It has the form draw OPERATION"]),
-        (b"frob", ["refused 15 BadSyntax: the line is no command. There is no command 'frob'"]),
-        (b"lidd", ["refused 15 BadSyntax: the line is no command. There is no command 'lidd'; the nearest is lid"]),
+        (b"draw", ["refused 15 BadSyntax: 1 word in place of 2. The form is: draw OPERATION"]),
+        (b"draw dot", ["refused 15 BadSyntax: 2 words in place of 5. The form is: draw dot H MODE PATTERN"]),
+        (b"draw dot 1 patOr x", ["refused 15 BadSyntax: the line is no command. The form is: draw dot H MODE PATTERN"]),
+        (b"frob", ["refused 15 BadSyntax: there is no command 'frob'"]),
+        (b"lidd 1 2", ["refused 15 BadSyntax: there is no command 'lidd', and the nearest is 'lid'. The form is: lid H V"]),
         (b"box x", ["ok 1"]),
-        (b"save no/x.png", ["nothing is saved: refused 15 BadSyntax"]),
+        (b"save no/x.png", ["nothing is saved: refused 15 BadSyntax: there is no command 'image'"]),
         (b"", []),
         (b"# no", []),
     ]:
