@@ -13,7 +13,7 @@ from desk_kit.answers import Command, Fault, is_command
 from desk_kit.called import AT_FAULT, Parser, give_up, say
 from desk_kit.driven import Driven, sides_of
 from desk_kit.forms import forms_if_any
-from desk_kit.lint import OF_FORM, advice
+from desk_kit.lint import OF_FORM, advice, misplaced, name_of
 
 TOOL = "desk"
 USAGE = "desk --trace [--bail] [--font FILE] [SCRIPT]"
@@ -64,8 +64,9 @@ class Trace:
             return "image {} by {}".format(*sides_of(answer.split(b"\n", 2)[1]))
         said = answer.decode("latin-1")
         self.is_refused = said.startswith("refused ")
-        is_of_form = self.is_refused and said.endswith(OF_FORM)
-        return said + advice(command, self.first, forms_if_any()) if is_of_form else said
+        if not self.is_refused or name_of(said) not in OF_FORM:
+            return said
+        return said + advice(command.text, misplaced(command, self.first), forms_if_any()).said()
 
 
 def trace(desk, script, bails):

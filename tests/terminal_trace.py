@@ -28,7 +28,7 @@ SHOWN = """1  # A desk of 8 by 8.
 """
 BAILS = "desk: line 6 is refused, and --bail ends here.\n"
 CALLED = "Call it so: desk --trace [--bail] [--font FILE] [SCRIPT]\n"
-MARK = "the script begins with a byte order mark, the bytes EF BB BF, which is no part of a command: save it without one"
+MARK = "it begins with a byte order mark, the bytes EF BB BF, which no command has: save the script without one"
 
 
 def door(place):
@@ -55,6 +55,10 @@ def each_line_is_shown_beside_its_answer(place):
         file.write(SCRIPT)
     same("a file", traced(place, "a script.desk"), (0, SHOWN, ""))
     same("nothing", traced(place), (0, "", ""))
+    floats = 'float plain 1 1 2 2 1 0 ""'
+    said = "the script does not begin with 'version 2'. The form is: float KIND LEFT TOP WIDTH HEIGHT SHOWN GOAWAY \"TITLE\""
+    shown = f"1  desk 8 8 0  -> ok\n2  {floats}  -> refused 15 BadSyntax: {said}\n"
+    same("a line out of its place", traced(place, given=f"desk 8 8 0\n{floats}\n".encode()), (0, shown, ""))
     text = b"\xef\xbb\xbfdesk 8 8 0\n# \xc3\xa9\t\xff\n"
     shown = f"1  \\ufeffdesk 8 8 0  -> refused 15 BadSyntax: {MARK}. The form is: desk WIDTH HEIGHT BAR\n2  # é\\t\\xff\n"
     same("bytes that are no letters", traced(place, given=text), (0, shown, ""))
