@@ -56,9 +56,12 @@ def each_line_is_shown_beside_its_answer(place):
     same("a file", traced(place, "a script.desk"), (0, SHOWN, ""))
     same("nothing", traced(place), (0, "", ""))
     floats = 'float plain 1 1 2 2 1 0 ""'
-    said = "the script does not begin with 'version 2'. The form is: float KIND LEFT TOP WIDTH HEIGHT SHOWN GOAWAY \"TITLE\""
-    shown = f"1  desk 8 8 0  -> ok\n2  {floats}  -> refused 15 BadSyntax: {said}\n"
+    form = 'The form is: float KIND LEFT TOP WIDTH HEIGHT SHOWN GOAWAY "TITLE"'
+    shown = f"1  desk 8 8 0  -> ok\n2  {floats}  -> refused 15 BadSyntax: the script does not begin with 'version 2'. {form}\n"
     same("a line out of its place", traced(place, given=f"desk 8 8 0\n{floats}\n".encode()), (0, shown, ""))
+    floats = floats.replace("plain", "plian")
+    shown = f"1  version 2  -> ok\n2  desk 8 8 0  -> ok\n3  {floats}  -> refused 20 NoSuchName. {form}\n"
+    same("a name that is none", traced(place, given=f"version 2\ndesk 8 8 0\n{floats}\n".encode()), (0, shown, ""))
     text = b"\xef\xbb\xbfdesk 8 8 0\n# \xc3\xa9\t\xff\n"
     shown = f"1  \\ufeffdesk 8 8 0  -> refused 15 BadSyntax: {MARK}. The form is: desk WIDTH HEIGHT BAR\n2  # é\\t\\xff\n"
     same("bytes that are no letters", traced(place, given=text), (0, shown, ""))
@@ -73,7 +76,8 @@ def bail_ends_at_the_first_refusal(place):
 
 def an_answer_is_shown_before_the_next_line_is_typed(place):
     pipe = subprocess.PIPE
-    with subprocess.Popen([door(place), "--trace"], stdin=pipe, stdout=pipe, stderr=pipe, bufsize=0) as ran:
+    kept = {name: value for name, value in os.environ.items() if name != "PYTHONUNBUFFERED"}
+    with subprocess.Popen([door(place), "--trace"], stdin=pipe, stdout=pipe, stderr=pipe, bufsize=0, env=kept) as ran:
         for number, (line, answer) in enumerate([("desk 8 8 0", "ok"), ("find 1 1", "ok 0 0"), ("frontwin", "ok 0")], 1):
             ran.stdin.write(f"{line}\n".encode())
             is_there = select.select([ran.stdout], [], [], SECONDS)[0]
