@@ -5,9 +5,8 @@ from typing import NamedTuple
 
 SPAN = re.compile(r"`([^`]+)`")
 # How a command begins, in a block of code or between backquotes.
-BEGIN = re.compile(
-    r"(?:\$ )?(?:\.\.?/|tests/|tools/|docs/[\w-]+$|docs/[\w-]+ |desk-\d|(?:cc|c\+\+|cargo|make|man|parallel|pip|python3|rt|sha256sum|source|tar) )"
-)
+PROGRAMS = r"(?:cc|c\+\+|cargo|make|man|parallel|pip|python3|rt|sha256sum|source|tar) "
+BEGIN = re.compile(rf"(?:\$ )?(?:\.\.?/|tests/|tools/|docs/[\w-]+(?: |$)|desk-\d|{PROGRAMS})")
 # A word that stands for another, as SCRIPT, and an option that may be left out, as [--raw].
 FORM = re.compile(r"\b[A-Z]{2,}\b|\[")
 # How a paragraph ends that is followed by a file of this name, or by what the command that was named last prints.
@@ -27,33 +26,36 @@ class Step(NamedTuple):
     about: str = ""
 
 
-def paragraphs_of(text):
-    """The paragraphs and blocks of a page: whether it is code, the line where it begins, and its lines."""
-    found, after_blank, fence = [], True, False
+class Part:
+    """A paragraph, or a block of code, of a page."""
+
+    def __init__(self, kind, line):
+        self.kind, self.line, self.lines = kind, line, []
+
+    def text(self):
+        return "\n".join(self.lines).strip("\n")
+
+
+def parts_of(text):
+    """The paragraphs and indented blocks of a page, in their order. What is fenced is not read."""
+    parts, last, is_fenced = [], None, False
     for number, line in enumerate(text.split("\n"), 1):
         is_fence = line.startswith("```")
-        is_code = not fence and line.startswith("    ") and (after_blank or (found and found[-1][0] == "code" and not found[-1][3]))
-        if is_fence or fence:
-            fence = fence != is_fence
-            after_blank = True
-        elif is_code:
-            if found and found[-1][0] == "code" and not found[-1][3]:
-                found[-1][2].append(line[4:])
-            else:
-                found.append(["code", number, [line[4:]], False])
-            after_blank = False
-        elif not line.strip():
-            if found and found[-1][0] == "code" and not found[-1][3]:
-                found[-1][2].append("")
-            after_blank = True
+        if is_fence or is_fenced:
+            last, is_fenced = None, is_fence != is_fenced
+            continue
+        is_blank = not line.strip()
+        kind = "code" if line.startswith("    ") and (last is None or last.kind == "code") else "text"
+        if is_blank and last and last.kind == "code":
+            last.lines.append("")
+        elif is_blank:
+            last = None
         else:
-            if found and found[-1][0] == "code":
-                found[-1][3] = True
-            if after_blank or not found or found[-1][0] == "code":
-                found.append(["text", number, [], True])
-            found[-1][2].append(line)
-            after_blank = False
-    return [(kind, number, "\n".join(lines).strip("\n")) for kind, number, lines, _ in found]
+            if last is None or last.kind != kind:
+                last = Part(kind, number)
+                parts.append(last)
+            last.lines.append(line[4:] if kind == "code" else line)
+    return parts
 
 
 def is_command(text):
@@ -88,12 +90,12 @@ def block_of(block, line, before):
 def steps_of(text):
     """What a page has done, in its order. A file stands before the commands of the paragraph that speaks of it."""
     steps, before, place = [], "", 0
-    for kind, line, part in paragraphs_of(text):
-        if kind == "text":
-            before, place = part, len(steps)
-            steps += commands_in(part, line)
+    for part in parts_of(text):
+        if part.kind == "text":
+            before, place = part.text(), len(steps)
+            steps += commands_in(before, part.line)
             continue
-        found = block_of(part, line, before)
+        found = block_of(part.text(), part.line, before)
         if found[0].kind == "file":
             steps[place:place] = found
         else:

@@ -27,6 +27,10 @@ SHOWN = """1  # A desk of 8 by 8.
 9  find 4 4  -> ok 3 1
 """
 BAILS = "desk: line 6 is refused, and --bail ends here.\n"
+READS = (
+    "desk: reading a script from the terminal: type its lines, and Ctrl+D at the end. "
+    "./desk --help says how to name a file.\n"
+)
 CALLED = "Call it so: desk --trace [--bail] [--font FILE] [SCRIPT]\n"
 MARK = "it begins with a byte order mark, the bytes EF BB BF, which no command has: save the script without one"
 
@@ -71,7 +75,8 @@ def bail_ends_at_the_first_refusal(place):
     door(place)
     before = SHOWN[: SHOWN.index("7  find")]
     same("a refusal", traced(place, "--bail", given=SCRIPT), (1, before, BAILS))
-    same("none", traced(place, "--bail", given=b"desk 8 8 0\nfind 1 1\n"), (0, "1  desk 8 8 0  -> ok\n2  find 1 1  -> ok 0 0\n", ""))
+    shown = "1  desk 8 8 0  -> ok\n2  find 1 1  -> ok 0 0\n"
+    same("none", traced(place, "--bail", given=b"desk 8 8 0\nfind 1 1\n"), (0, shown, ""))
 
 
 def an_answer_is_shown_before_the_next_line_is_typed(place):
@@ -89,8 +94,7 @@ def an_answer_is_shown_before_the_next_line_is_typed(place):
 def a_trace_at_a_terminal_says_what_it_reads(place):
     for words in ([], ["--trace"]):
         with Terminal([door(place) if not words else place.path("tree/desk"), *words]) as terminal:
-            said = "desk: reading a script from the terminal: type its lines, and Ctrl+D at the end. ./desk --help says how to name a file.\n"
-            same("what is said", terminal.until("a file.\n"), said)
+            same("what is said", terminal.until("a file.\n"), READS)
             terminal.type("desk 8 8 0\n")
             wanted = "1  desk 8 8 0  -> ok\n" if words else "ok\n"
             same("an answer", terminal.until("ok\n"), f"desk 8 8 0\n{wanted}")
