@@ -24,7 +24,7 @@ To compare answers, for desk-test and desk-png:
   lint            lines that are refused, and the forms that they ought to have
   called          the words, programs and statuses of the tools
 
-To read the manual, and to serve somebody at a terminal, for desk-talk:
+To read the manual, and to serve somebody at a terminal, for desk-talk and ./desk --trace:
 
   manual          the commands, kinds and refusals that the manual has
   markdown        the blocks of a document
@@ -32,6 +32,7 @@ To read the manual, and to serve somebody at a terminal, for desk-talk:
   half_blocks     images as characters
   talk            what desk-talk says, and how words are completed
   pager           the pager of a terminal
+  trace           what ./desk --trace shows of a script
 
 To drive a desk with a mouse and keys, for desk-view and desk-web:
 
