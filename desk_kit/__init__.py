@@ -20,7 +20,8 @@ To compare answers, for desk-test and desk-png:
   differences     where a script is answered otherwise than is due
   screen_tests    what is wrong with a run of a row, and pictures of it
   side_by_side    calls in several processes at a time, and a line on a terminal about them
-  reports         JUnit's XML and a page of HTML on what came of rows
+  reports         JUnit's XML on what came of rows
+  report_page     a page of HTML on it
   lint            lines that are refused, and the forms that they ought to have
   called          the words, programs and statuses of the tools
 
@@ -30,6 +31,8 @@ To read the manual, and to serve somebody at a terminal, for desk-talk and ./des
   markdown        the blocks of a document
   forms           the form that a line ought to have, by the manual
   half_blocks     images as characters
+  braille         images as characters of Braille, shrunk where they have to be
+  graphics        images as pictures of a terminal
   talk            what desk-talk says, and how words are completed
   pager           the pager of a terminal
   trace           what ./desk --trace shows of a script

@@ -9,20 +9,3 @@ def half_blocks(rows):
     under = [*rows[1::2], "0" * len(rows[0])]
     pairs = zip(rows[::2], under)
     return ["".join(BLOCKS[above + below] for above, below in zip(*pair)) for pair in pairs]
-
-
-def shrunk(rows, side):
-    """An image each pixel of which was a square of this side: it is black where more than half of the square was."""
-    squares = range(0, len(rows[0]), side)
-    bands = [rows[top : top + side] for top in range(0, len(rows), side)]
-    return ["".join(color_of([row[left : left + side] for row in band]) for left in squares) for band in bands]
-
-
-def color_of(square):
-    pixels = "".join(square)
-    return "1" if 2 * pixels.count("1") > len(pixels) else "0"
-
-
-def side_for(width, columns):
-    """The smallest side of squares with which an image of this width takes so many columns at most."""
-    return -(-width // columns)

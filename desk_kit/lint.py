@@ -1,5 +1,5 @@
-"""The lines of a script that are refused, and the form that those ought to have which are refused for their form, their names or
-their length."""
+"""The lines of a script that are refused, and the form that those ought to have which are refused for their form, their
+names or their length."""
 
 import re
 from typing import NamedTuple

@@ -3,9 +3,11 @@
 import struct
 import zlib
 
-from desk_kit.answers import PIXELS_OF_A_LINE, Fault, is_image, lines_of_a_row, split
+from desk_kit.answers import IMAGE, PIXELS_OF_A_LINE, SIDES, Fault, is_image, lines_of_a_row, shown, split
 
 SIGNATURE = b"\x89PNG\r\n\x1a\n"
+# What the pixels of a PNG say: how light they are, or which color of its palette they have.
+GRAY, BY_PALETTE = 0, 3
 # Each byte with the other color in each of its bits.
 INVERTED = bytes(range(255, -1, -1))
 
@@ -16,6 +18,28 @@ def images(text):
     if is_image(rest):
         raise Fault("the image is not whole")
     return [image_of(answer) for answer in answers if is_image(answer)]
+
+
+def answers_from(file):
+    """The answers that a stream is made of, each once it is whole there, and none held behind it."""
+    while line := file.readline():
+        if not line.endswith(b"\n"):
+            raise Fault(f"no whole answer begins with {shown(line)}")
+        yield line + rest_of_image(file) if line == IMAGE else line
+
+
+def rest_of_image(file):
+    """What follows the first line of an image in a stream."""
+    line = file.readline()
+    sides = SIDES.fullmatch(line)
+    if not sides:
+        raise Fault("the image has no width and height")
+    width, height = map(int, sides.groups())
+    length = height * (width + lines_of_a_row(width))
+    pixels = file.read(length)
+    if len(pixels) < length:
+        raise Fault("the image is not whole")
+    return line + pixels
 
 
 def image_of(answer):
@@ -52,9 +76,19 @@ def png_of(rows, scale):
     wide = (row.replace("0", "0" * scale).replace("1", "1" * scale) for row in rows)
     # A PNG has 1 for white.
     data = b"".join((b"\0" + packed(row).translate(INVERTED)) * scale for row in wide)
-    head = struct.pack(">IIBBBBB", len(rows[0]) * scale, len(rows) * scale, 1, 0, 0, 0, 0)
-    chunks = [part(b"IHDR", head), part(b"IDAT", zlib.compress(data, 9)), part(b"IEND", b"")]
-    return SIGNATURE + b"".join(chunks)
+    return png_made(len(rows[0]) * scale, len(rows) * scale, (1, GRAY), b"", data)
+
+
+def png_of_colors(rows, colors):
+    """The PNG of rows whose digits stand for these colors, each of three bytes."""
+    data = b"".join(b"\0" + bytes(map(int, row)) for row in rows)
+    return png_made(len(rows[0]), len(rows), (8, BY_PALETTE), part(b"PLTE", b"".join(colors)), data)
+
+
+def png_made(width, height, form, palette, data):
+    """The PNG of these rows, of which each begins with its filter. Its form is how many bits a pixel has, and what it says."""
+    head = part(b"IHDR", struct.pack(">IIBBBBB", width, height, *form, 0, 0, 0))
+    return SIGNATURE + head + palette + part(b"IDAT", zlib.compress(data, 9)) + part(b"IEND", b"")
 
 
 def pixels_of(png):

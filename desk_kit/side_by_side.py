@@ -61,10 +61,10 @@ def call_each(call, values, jobs, take, progress):
         end_each(processes or multiprocessing.active_children())
         raise
     finally:
-        progress.clear()
         pool.shutdown(cancel_futures=True)
         shutil.rmtree(folder, ignore_errors=True)
         restore(usual)
+        progress.clear()
 
 
 def restore(usual):

@@ -5,9 +5,10 @@ import re
 import textwrap
 
 from desk_kit.answers import Command, shown
+from desk_kit.braille import ACROSS, braille, shrunk, side_for
 from desk_kit.driven import is_answered, rows_of
 from desk_kit.forms import OF_FORM, Forms
-from desk_kit.half_blocks import half_blocks, shrunk, side_for
+from desk_kit.half_blocks import half_blocks
 from desk_kit.lint import advice, misplaced, name_of
 from desk_kit.markdown import blocks_of, plain
 from desk_kit.pictures import png_of
@@ -33,22 +34,42 @@ TABLE_GAP = 2
 
 
 class Look:
-    """How wide the terminal is, 0 for any width, and whether it has colors."""
+    """What is known of the terminal: its columns and lines, 0 for any number, whether it has colors and the signs of Braille,
+    and what makes a text of an image that it shows as a picture, if it shows such."""
 
-    def __init__(self, columns=0, has_colors=False):
+    def __init__(self, columns=0, has_colors=False, lines=0, has_braille=True, painter=None):
         self.columns = columns
         self.has_colors = has_colors
+        self.lines = lines
+        self.has_braille = has_braille
+        self.painter = painter
 
     def image(self, rows):
-        """The lines that show an image. One that is too wide is shown smaller, and a line says so."""
-        side = side_for(len(rows[0]), self.columns) if self.columns else 1
-        lines = half_blocks(shrunk(rows, side) if side > 1 else rows)
-        if self.has_colors:
-            lines = [f"{BLACK_ON_WHITE}{line}{AS_BEFORE}" for line in lines]
+        """The lines that show an image, and those that say what does not show."""
+        if self.painter:
+            return [self.painter(rows)]
+        side, shown_rows, characters = self.characters(rows)
+        lines = characters(shown_rows)
+        notes = []
         if side > 1:
             size = f"{len(rows[0])} by {len(rows)}"
-            lines.append(f"(each dot stands for {side} by {side} of the {size} pixels; 'save FILE.png' keeps them all)")
-        return lines
+            notes.append(f"(each dot stands for {side} by {side} of the {size} pixels; 'save FILE.png' keeps them all)")
+        if self.lines and len(lines) + len(notes) >= self.lines:
+            notes.append(f"(the image has {len(lines)} lines, and the terminal {self.lines}: scroll back to its top)")
+        if self.has_colors:
+            lines = [f"{BLACK_ON_WHITE}{line}{AS_BEFORE}" for line in lines]
+        return lines + notes
+
+    def characters(self, rows):
+        """The side of the squares of an image that are shown as one dot each, the rows of these, and what makes lines of them:
+        half blocks where the terminal is wide enough for them, and Braille elsewhere."""
+        width = len(rows[0])
+        is_wide = not self.columns or width <= self.columns
+        if is_wide or not self.has_braille:
+            side, characters = 1 if is_wide else side_for(width, self.columns), half_blocks
+        else:
+            side, characters = side_for(width, ACROSS * self.columns), braille
+        return side, shrunk(rows, side) if side > 1 else rows, characters
 
     def wrapped(self, text, indent=""):
         """The lines of a text that are no wider than the terminal."""
@@ -68,30 +89,27 @@ class Talk:
         self.desk = desk
         self.manual = manual
         self.forms = Forms(manual)
-        self.forms.commands.update((word, form) for word, (form, _) in OWN.items())
         self.look = look
         self.has_ended = False
         # The lines of the script that gives the same answers, how many were answered, and the first of these.
         self.kept, self.count, self.first = [], 0, None
 
     def run_script(self, script):
-        """Runs the lines of a script, each of which is the desk's, and gives what is shown of those that are refused."""
-        numbered = enumerate(lines_of(script), 1)
-        return [said for number, line in numbered for said in self.refused(self.asked, line, number)]
-
-    def refused(self, ask, line, number):
-        """What is shown of a line with this number, if it is refused where it is asked so."""
-        try:
-            ask(line)
-            return []
-        except Unable as why:
-            return [f"{place_of(line, number)}{why}"]
+        """Runs the lines of a script, each of which is the desk's, and gives what is shown of each one that is refused."""
+        for number, line in enumerate(lines_of(script), 1):
+            try:
+                self.ask(line)
+            except Unable as why:
+                yield f"{place_of(line, number)}{why}"
 
     def answer(self, line, number=None):
         """The lines that are shown for a line, bytes without a newline. One that is refused is named where it has a number."""
-        word = line.removesuffix(b"\r").split(b" ")[0].decode("latin-1")
+        # From the first such line on the talk's own words are commands too.
+        self.forms.commands.update((word, form) for word, (form, _) in OWN.items())
+        text = line.decode("latin-1").removesuffix("\r")
+        word = text.split(" ")[0]
         try:
-            return getattr(self, word)(line.decode("latin-1").removesuffix("\r")) if word in OWN else self.asked(line)
+            return getattr(self, word)(text) if word in OWN else self.asked(line)
         except Unable as why:
             return [f"{place_of(line, number)}{why}"]
 

@@ -13,29 +13,47 @@ const canvas = document.getElementById("screen"), pen = canvas.getContext("2d");
 const said = document.getElementById("status"), place = document.getElementById("place");
 const queue = [];
 let seen = 0, isWaiting = false, isDown = false, mouse = [0, 0];
+// What is shown of the desk; and how many of its pixels the side of a square has that is one pixel of the canvas.
+let desk = { width: 1, height: 1, stride: 1, bytes: [0] }, side = 1;
 
-// Each pixel is a square of whole pixels of the display, the largest for which there is room.
+// Each pixel is a square of whole pixels of the display, the largest for which there is room. Where the page is too narrow for
+// all of them, the pixels of a square are one pixel of the display.
 function fit() {
-  const ratio = window.devicePixelRatio;
-  const across = Math.floor(window.innerWidth * ratio / canvas.width);
-  const down = Math.floor((window.innerHeight - LINE) * ratio / canvas.height);
-  const scale = Math.max(1, Math.min(LARGEST, across, down));
+  const ratio = window.devicePixelRatio, room = window.innerWidth * ratio;
+  const down = Math.floor((window.innerHeight - LINE) * ratio / desk.height);
+  const scale = Math.max(1, Math.min(LARGEST, Math.floor(room / desk.width), down));
+  side = Math.max(1, Math.ceil(desk.width / room));
+  [canvas.width, canvas.height] = [Math.ceil(desk.width / side), Math.ceil(desk.height / side)];
   canvas.style.width = `${canvas.width * scale / ratio}px`;
   canvas.style.height = `${canvas.height * scale / ratio}px`;
+  paint();
+}
+
+// How light a square is, from 0 to 255: the mean of those of its pixels that lie on the screen.
+function lightOf(left, top) {
+  const right = Math.min(left + side, desk.width), count = (right - left) * (Math.min(top + side, desk.height) - top);
+  let black = 0;
+  for (let at = 0; at < count; at++) {
+    const h = left + at % (right - left), v = top + Math.floor(at / (right - left));
+    black += desk.bytes[v * desk.stride + (h >> 3)] >> (7 - (h & 7)) & 1;
+  }
+  return Math.round(255 * (count - black) / count);
+}
+
+function paint() {
+  const image = pen.createImageData(canvas.width, canvas.height);
+  for (let at = 0; at < canvas.width * canvas.height; at++) {
+    const h = at % canvas.width, v = (at - h) / canvas.width;
+    image.data.fill(lightOf(h * side, v * side), 4 * at, 4 * at + 3);
+    image.data[4 * at + 3] = 255;
+  }
+  pen.putImageData(image, 0, 0);
 }
 
 // The screen comes as its rows, eight pixels in a byte, the leftmost in the high bit, 1 for black.
 function draw(width, height, text) {
-  const bytes = Uint8Array.from(atob(text), it => it.charCodeAt(0)), stride = (width + 7) >> 3;
-  [canvas.width, canvas.height] = [width, height];
+  desk = { width, height, stride: (width + 7) >> 3, bytes: Uint8Array.from(atob(text), it => it.charCodeAt(0)) };
   fit();
-  const image = pen.createImageData(width, height), colors = new Uint32Array(image.data.buffer);
-  const black = new Uint32Array(new Uint8Array([0, 0, 0, 255]).buffer)[0];
-  for (let at = 0; at < colors.length; at++) {
-    const h = at % width, v = (at - h) / width;
-    colors[at] = bytes[v * stride + (h >> 3)] >> (7 - (h & 7)) & 1 ? black : 0xffffffff;
-  }
-  pen.putImageData(image, 0, 0);
 }
 
 function show(answer) {
@@ -75,11 +93,17 @@ function tell(...event) {
   send();
 }
 
+// The pixel of the desk in the middle of the square that lies so far from a side of the canvas, which has this length.
+function along(offset, length, squares, pixels) {
+  const square = Math.floor(offset * squares / length), middle = square * side + (side >> 1);
+  return square < squares ? Math.min(middle, pixels - 1) : middle;
+}
+
 // The point of the desk's screen at which the mouse is.
 function at(event) {
   const box = canvas.getBoundingClientRect();
-  const h = Math.floor((event.clientX - box.left) * canvas.width / box.width);
-  const v = Math.floor((event.clientY - box.top) * canvas.height / box.height);
+  const h = along(event.clientX - box.left, box.width, canvas.width, desk.width);
+  const v = along(event.clientY - box.top, box.height, canvas.height, desk.height);
   mouse = [h, v];
   place.textContent = `${h} ${v}`;
   return mouse;

@@ -13,7 +13,8 @@ from kit_place import DESK_TEST, POINTS, POINTS_OUT
 SECONDS = 20
 # How soon everything has to be over, though each script sleeps for a minute.
 SOON = 5
-# A program that goes on for a minute, whatever it is told. It notes itself, the process that runs it, and one that it runs itself.
+# A program that goes on for a minute, whatever it is told. It notes itself, the process that runs it, and one that it runs
+# itself.
 SLEEPS = """#!/bin/sh
 trap '' TERM INT HUP
 sleep 60 &
@@ -115,7 +116,8 @@ def a_script_without_an_end_is_refused(place):
         if os.path.exists(path):
             os.remove(path)
         os.mkfifo(path)
-    said = [f"FAILED: screens/{it.partition('.')[0]}.desk: {it} is no regular file" for it in ("out.out", "pipe.desk", "status.status")]
+    pipes = ("out.out", "pipe.desk", "status.status")
+    said = [f"FAILED: screens/{it.partition('.')[0]}.desk: {it} is no regular file" for it in pipes]
     for words in ([], ["--accept"]):
         nothing = "\n".join(said) + "\n0 passed, 3 failed\n"
         same(f"what is said of a folder, {words}", place.call("--program", place.program, *words, "screens"), (nothing, 1, ""))

@@ -32,7 +32,11 @@ def every_refused_line_of_a_script_is_told(_):
     cut = ANSWERS[: ANSWERS.index(b"P1")] + b"P1\n2 2\n10\n"
     same("those of a run that broke off", [tuple(it) for it in refusals(SCRIPT, cut, forms())], wanted[:3])
     same("those of no script", refusals(b"", b"", forms()), [])
-    bare = ["line 2, 'find 9': refused 15 BadSyntax", wanted[1][1], """line 6, 'window plian 1 1 6 6 1 0 ""': refused 20 NoSuchName"""]
+    bare = [
+        "line 2, 'find 9': refused 15 BadSyntax",
+        "line 5, 'select 7': refused 2 NoSuchWindow",
+        """line 6, 'window plian 1 1 6 6 1 0 ""': refused 20 NoSuchName""",
+    ]
     same("those without a manual", [it.sentence for it in refusals(SCRIPT, cut, None)], bare)
 
 

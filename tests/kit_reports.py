@@ -4,17 +4,26 @@ browser where there is Debian's chromium."""
 import base64
 import os
 import shutil
+import struct
 import subprocess
+import zlib
 from html.parser import HTMLParser
 from xml.etree import ElementTree
 
 from desk_kit.answers import Fault
 from desk_kit.pictures import pixels_of
+from desk_kit.report_page import near, overlaid
 from kit_parts import same
 from kit_place import OTHER_DIFFERS, OTHER_IMAGE, POINTS, POINTS_OUT, SQUARE, SQUARE_IMAGE, TOP, Skipped, scaled, square_out
 
+# The other image over the square, which is what was found: 2 is black in the square alone, and 3 in the other one alone.
+BOTH = ["11111111", "10000001", "10300001", "10021001", "10011301", "10000001", "10030001", "11111111"]
+# The colors of white, black, and these two.
+COLORS = "ffffff 000000 d55e00 0072b2"
 BROWSERS = ("chromium", "chromium-browser")
-# Tells a browser to write into the page what it shows of each picture: its name, its size, and its pixels, white or black.
+# Tells a browser to write into the page what it shows of each picture: its name, its size, and its pixels, of which red says
+# whether they are white or black. Then its first check box is clicked, and those are named that are shown; and at last how wide
+# the page is, and the window.
 LOOK = """<pre id="seen"></pre><script>
 for (const it of document.images) {
   const canvas = document.createElement("canvas"), width = it.naturalWidth, height = it.naturalHeight;
@@ -26,6 +35,10 @@ for (const it of document.images) {
   const said = [it.alt, box.width, box.height, box.top, ...rows.map(row => row.join(""))];
   document.getElementById("seen").textContent += said.join(" ") + "\\n";
 }
+document.querySelector("input").click();
+const shown = [...document.images].filter(it => it.getBoundingClientRect().width).map(it => it.alt).slice(0, 5);
+const wide = [document.documentElement.scrollWidth, window.innerWidth];
+document.getElementById("seen").textContent += [...shown, ...wide].join(" ") + "\\n";
 </script>"""
 SECONDS = 60
 # What is said of the square whose other image is stored, and of the points whose third answer is.
@@ -123,8 +136,8 @@ class Page(HTMLParser):
 
     def __init__(self, text):
         super().__init__()
-        self.texts = {"title": [], "h1": [], "h2": [], "p": [], "figcaption": []}
-        self.sections, self.outside, self.open = [], [], None
+        self.texts = {"title": [], "h1": [], "h2": [], "p": [], "figcaption": [], "pre": [], "summary": [], "li": []}
+        self.sections, self.outside, self.marked, self.open, self.is_marked = [], [], [], None, False
         self.feed(text)
         self.close()
 
@@ -135,8 +148,9 @@ class Page(HTMLParser):
             self.open.append("")
         if tag == "section":
             self.sections.append([])
+        self.is_marked = tag == "mark"
         if tag == "img":
-            self.sections[-1].append((said["alt"], int(said["width"]), int(said["height"]), pixels_in(said["src"])))
+            self.sections[-1].append((said["alt"], int(said["width"]), pixels_in(said["src"])))
         elif tag in ("script", "link", "iframe") or {"src", "href", "style"} & {*said}:
             self.outside.append((tag, said))
 
@@ -146,17 +160,32 @@ class Page(HTMLParser):
     def handle_data(self, data):
         if self.open:
             self.open[-1] += data
+        if self.is_marked:
+            self.marked.append(data)
+            self.is_marked = False
 
 
 def pixels_in(source):
     """The rows of a picture that is the source itself."""
     kind, _, data = source.partition(",")
     same("the kind of a picture", kind, "data:image/png;base64")
-    return pixels_of(base64.b64decode(data, validate=True))
+    png = base64.b64decode(data, validate=True)
+    return pixels_of(png) if b"PLTE" not in png else digits_of(png)
+
+
+def digits_of(png):
+    """The rows of a picture in colors, each pixel as the number of its color, once these are as they are due."""
+    width, height = struct.unpack_from(">II", png, 16)
+    chunks = {name: png.index(name) + 4 for name in (b"PLTE", b"IDAT")}
+    parts = {name: png[at : at + struct.unpack_from(">I", png, at - 8)[0]] for name, at in chunks.items()}
+    same("the colors", parts[b"PLTE"].hex(" ", 3), COLORS)
+    rows = zlib.decompress(parts[b"IDAT"]).hex()[1::2]
+    return [rows[1 + v * (width + 1) : (v + 1) * (width + 1)] for v in range(height)]
 
 
 def a_report_for_people_has_what_failed_with_its_pictures(place):
-    """A pixel is a square of 8 by 8 in the browser, of which 8 beside each other are 64."""
+    """A pixel is a square of 8 by 8 in the browser, of which 8 beside each other are 64; near what differs, which is all
+    here, a square of 4 by 4; and at last as it is."""
     differing(place)
     place.call("--program", place.program, "--report", "it.html", "one", "two")
     page = Page(place.read("it.html"))
@@ -164,9 +193,11 @@ def a_report_for_people_has_what_failed_with_its_pictures(place):
     same("what failed", page.texts["h2"], ["one/points.desk", "one/square.desk", "one/gone.out"])
     shown = f"{IMAGE_SAID}. See {IMAGE_NAMES} in one/differences"
     same("why", page.texts["p"], [POINT_SAID, shown, "it belongs to no script here"])
-    images = [("found", SQUARE_IMAGE), ("due", OTHER_IMAGE), ("differ", OTHER_DIFFERS)]
-    same("the pictures", page.sections, [[], [(name, 64, 64, rows) for name, rows in images], []])
-    same("their captions", page.texts["figcaption"], ["found", "due", "where they differ, black"])
+    images = [("found", 64, SQUARE_IMAGE), ("due", 64, OTHER_IMAGE), ("differ", 64, OTHER_DIFFERS)]
+    images += [*compared(32), *compared(8)]
+    same("the pictures", page.sections, [[], images, []])
+    both = "both: black in what was found alone, black in what is due alone"
+    same("their captions", page.texts["figcaption"], ["found", "due", "where they differ, black", both, both])
     same("what lies outside", page.outside, [])
     one = place.read("it.html")
     place.call("--program", place.program, "--report", "it.html", "--jobs", "1", "one", "two")
@@ -174,15 +205,60 @@ def a_report_for_people_has_what_failed_with_its_pictures(place):
     same("the pictures of the folder", place.picture("one/differences/square.line-4.due.png"), scaled(OTHER_IMAGE))
 
 
+def compared(width):
+    """The pictures in one place, and the one over the other, of which each is so wide."""
+    return [("found", width, SQUARE_IMAGE), ("due", width, OTHER_IMAGE), ("both", width, BOTH)]
+
+
+def a_report_has_the_lines_of_a_script_around_the_one_that_failed(place):
+    differing(place)
+    place.write("one/many.desk", "".join(f"find {it} 1 # <{it}>\n" for it in range(9)))
+    place.write("one/many.out", "refused 15 BadSyntax\n" * 4 + "ok\n")
+    place.call("--program", place.program, "--report", "it.html", "one", "two")
+    page = Page(place.read("it.html"))
+    many = "".join(f"\n     {it} find {it - 1} 1 # <{it - 1}>" for it in (3, 4, 5, 6, 7))
+    points = "\n     5 \n     6 find 5 4\n     7 find 6 4\n     8 find 8 8"
+    square = '\n     2 window plain 1 1 6 6 1 0 ""\n     3 draw 1 fill 2 2 4 4 patCopy black\n     4 image'
+    same("the lines", page.texts["pre"], [many, points, square])
+    same("those that failed", page.marked, ["     5 find 4 1 # <4>", "     7 find 6 4", "     4 image"])
+
+
+def what_passed_is_folded_away(place):
+    differing(place)
+    place.call("--program", place.program, "--report", "it.html", "one", "two")
+    page = Page(place.read("it.html"))
+    same("its count, behind the whole images", page.texts["summary"], ["All of it", "1 passed"])
+    same("its names", page.texts["li"], ["two/points.desk"])
+    same("whether it is folded", place.read("it.html").count("<details>\n<summary>1 passed"), 1)
+
+
+def the_part_around_what_differs_is_shown(_):
+    def differ(*points):
+        return ["".join("01"[(h, v) in points] for h in range(400)) for v in range(300)]
+
+    for points, wanted in [
+        ([(100, 50), (102, 52)], (84, 34, 119, 69)),
+        ([(0, 0)], (0, 0, 17, 17)),
+        ([(399, 299)], (383, 283, 400, 300)),
+        ([(100, 50), (399, 299)], (84, 34, 244, 154)),
+        ([(200, 0), (3, 299)], (0, 0, 160, 120)),
+    ]:
+        same(f"around {points}", near(differ(*points)), wanted)
+    same("a row over one that is shorter", overlaid("1001", "110"), "1302")
+    same("a row over a longer one", overlaid("0", "011"), "033")
+    same("a row over none", overlaid("", "01"), "33")
+
+
 def large_pictures_stand_beside_each_other_in_less_room(place):
-    """Of 480 columns three are 1440 wide, with a pixel for each; of 160 and of 161 columns there are 3 and 2 for each."""
-    for name, width, scale in [("a", 481, 1), ("b", 161, 2), ("c", 160, 3), ("d", 60, 8)]:
+    """Of 480 columns three are 1440 wide, with a pixel for each; of 160 and of 161 columns there are 3 and 2 for each. One of
+    more than 200 columns at one pixel for each is smoothed where it is shown smaller."""
+    for name, width in [("a", 481), ("b", 161), ("c", 160), ("d", 60)]:
         place.write(f"screens/{name}.desk", f"desk {width} 8 0\nimage\n")
         place.write(f"screens/{name}.out", "ok\nok\n")
     place.call("--program", place.program, "--report", "it.html", "screens")
-    found = [section[0][:3] for section in Page(place.read("it.html")).sections]
-    wanted = [("found", width, height) for width, height in [(481, 8), (322, 16), (480, 24), (480, 64)]]
-    same("the sizes", found, wanted)
+    found = [section[0][:2] for section in Page(place.read("it.html")).sections]
+    same("the sizes", found, [("found", width) for width in (481, 322, 480, 480)])
+    same("how many are smoothed", place.read("it.html").count('class="wide"'), 1)
 
 
 def a_report_of_scripts_that_pass_says_so(place):
@@ -210,26 +286,46 @@ def a_report_that_cannot_be_written_is_a_failure(place):
 
 
 def a_browser_shows_the_pictures_of_a_report(place):
-    """Beside each other, which is at one height, and each pixel as it is due."""
+    """Beside each other, which is at one height, and each pixel as it is due. Found and due are exchanged by a click."""
+    differing(place)
+    place.call("--program", place.program, "--report", "it.html", "one", "two")
+    *lines, last = looked_at(place, 1400)
+    images = [("found", SQUARE_IMAGE), ("due", OTHER_IMAGE), ("differ", OTHER_DIFFERS)]
+    # What is black in the other image has no red in it, and what is black in the square alone has.
+    near_images = [("found", "32", SQUARE_IMAGE), ("due", "0", OTHER_IMAGE), ("both", "32", OTHER_IMAGE)]
+    wanted = [[name, "64", "64", *rows] for name, rows in images]
+    wanted += [[name, side, side, *rows] for name, side, rows in near_images]
+    same("the pictures", [[*it[:3], *it[4:]] for it in lines[:6]], wanted)
+    same("how many heights they stand at", len({it[3] for it in lines[:3]}), 1)
+    same("what is shown after a click", last[:5], ["found", "due", "differ", "due", "both"])
+
+
+def a_page_is_no_wider_than_the_browser(place):
+    place.write("one/wide.desk", "desk 512 342 20\nimage\n")
+    black = ("1" * 70 + "\n") * 7 + "1" * 22 + "\n"
+    place.write("one/wide.out", f"ok\nP1\n512 342\n{black * 342}")
+    place.call("--program", place.program, "--report", "it.html", "one")
+    for width in (800, 1400):
+        *lines, last = looked_at(place, width)
+        same(f"the page and the window, {width} wide", last[5:], [str(width)] * 2)
+        found = [float(it[1]) for it in lines[:3]]
+        same(f"whether {found} are as wide as three can be", width / 3 - 40 < min(found) and max(found) < width / 3, True)
+
+
+def looked_at(place, width):
+    """The words of the lines that LOOK writes in a window of this width."""
     browser = next(filter(None, map(shutil.which, BROWSERS)), None)
     if browser is None:
         raise Skipped(f"there is no {' or '.join(BROWSERS)} here")
-    differing(place)
-    place.call("--program", place.program, "--report", "it.html", "one", "two")
     place.write("looked.html", place.read("it.html").replace("</body>", LOOK + "</body>"))
     words = ["--headless", "--no-sandbox", "--disable-gpu", f"--user-data-dir={place.path('profile')}", "--dump-dom"]
-    called = [browser, *words, f"file://{place.path('looked.html')}"]
+    called = [browser, *words, f"--window-size={width},900", "--hide-scrollbars", f"file://{place.path('looked.html')}"]
     try:
         ran = subprocess.run(called, capture_output=True, timeout=SECONDS)
     except subprocess.TimeoutExpired:
         raise Fault(f"{browser} had not ended after {SECONDS} seconds") from None
     _, _, seen = ran.stdout.decode("utf-8").partition('<pre id="seen">')
-    lines = [line.split(" ") for line in seen.partition("</pre>")[0].splitlines()]
-    images = [("found", SQUARE_IMAGE), ("due", OTHER_IMAGE), ("differ", OTHER_DIFFERS)]
-    # A frame of one pixel stands around each.
-    wanted = [[name, "66", "66", *rows] for name, rows in images]
-    same("the pictures", [[*it[:3], *it[4:]] for it in lines], wanted)
-    same("how many heights they stand at", len({it[3] for it in lines}), 1)
+    return [line.split(" ") for line in seen.partition("</pre>")[0].splitlines()]
 
 
 TESTS = [
@@ -237,8 +333,12 @@ TESTS = [
     a_report_has_the_time_of_each_script,
     names_that_no_report_can_hold_are_escaped,
     a_report_for_people_has_what_failed_with_its_pictures,
+    a_report_has_the_lines_of_a_script_around_the_one_that_failed,
+    what_passed_is_folded_away,
+    the_part_around_what_differs_is_shown,
     large_pictures_stand_beside_each_other_in_less_room,
     a_report_of_scripts_that_pass_says_so,
     a_report_that_cannot_be_written_is_a_failure,
     a_browser_shows_the_pictures_of_a_report,
+    a_page_is_no_wider_than_the_browser,
 ]

@@ -18,7 +18,7 @@ WANTED = [
     (["desk", "--font", "a"], ["a.font"]),
     (["desk", "--font", ""], sorted([*FILES, "folder"])),
     (["desk", "--trace", "o"], ["one.desk"]),
-    (["desk-png", "--"], ["--font", "--help", "--program", "--scale", "--version"]),
+    (["desk-png", "--"], ["--font", "--help", "--image", "--last", "--program", "--scale", "--strict", "--version"]),
     (["desk-png", "--v"], ["--version"]),
     (["desk-png", "--scale", "1"], sorted(["1", *(str(it) for it in range(10, 17))])),
     (["desk-png", "--scale", "2", "o"], ["one.desk"]),

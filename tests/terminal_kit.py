@@ -85,15 +85,19 @@ class Place:
         return ran.returncode, ran.stdout.decode(), ran.stderr.decode()
 
 
-class Terminal:
-    """A program at a terminal of this many columns, for as long as a block goes on."""
+# What a terminal's environment may say of it, beside what a test says.
+TOLD_BY_TERMINALS = ("COLUMNS", "LINES", "INPUTRC", "DESK_IMAGES", "KITTY_WINDOW_ID", "NO_COLOR", "TERM_PROGRAM", "TMUX")
 
-    def __init__(self, words, columns=80):
+
+class Terminal:
+    """A program at a terminal of this many columns, with more in its environment, for as long as a block goes on."""
+
+    def __init__(self, words, columns=80, **more):
         self.process, self.here = pty.fork()
         if self.process == 0:
             fcntl.ioctl(0, termios.TIOCSWINSZ, struct.pack("HHHH", 24, columns, 0, 0))
-            kept = {name: value for name, value in os.environ.items() if name not in ("COLUMNS", "LINES", "INPUTRC")}
-            os.execvpe(words[0], words, {**kept, "TERM": "xterm", "LC_ALL": "C.UTF-8", "INPUTRC": "/dev/null"})
+            kept = {name: value for name, value in os.environ.items() if name not in TOLD_BY_TERMINALS}
+            os.execvpe(words[0], words, {**kept, "TERM": "xterm", "LC_ALL": "C.UTF-8", "INPUTRC": "/dev/null", **more})
         self.ended = None
         self.found = b""
 

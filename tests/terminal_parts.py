@@ -4,11 +4,10 @@ import os
 import re
 
 from desk_kit.driven import is_answered
-from desk_kit.half_blocks import half_blocks, shrunk, side_for
 from desk_kit.manual import Manual, read_manual
 from desk_kit.markdown import Block, blocks_of, codes_in, plain
 from desk_kit.talk import OWN, Look, Talk, completions
-from terminal_kit import SQUARE_BLOCKS, SQUARE_IMAGE, TOP, same
+from terminal_kit import TOP, same
 
 # A manual of two commands and a refusal.
 SMALL = """# Small
@@ -93,22 +92,6 @@ class Told:
 
 def manual():
     return read_manual()
-
-
-def pixels_become_half_blocks(_):
-    same("a square", half_blocks(SQUARE_IMAGE), SQUARE_BLOCKS)
-    same("a row alone", half_blocks(["0110"]), [" ▀▀ "])
-    same("three rows", half_blocks(["0011", "0101", "1100"]), [" ▄▀█", "▀▀  "])
-
-
-def a_wide_image_is_shrunk(_):
-    image = ["11000", "10001", "01110", "01110", "11111"]
-    # Of the squares of 2 by 2 three pixels of four are black in the first, and half of one that is cut is white.
-    same("by 2", shrunk(image, 2), ["100", "010", "111"])
-    same("by 1", shrunk(image, 1), image)
-    same("by 9", shrunk(image, 9), ["1"])
-    same("halves", shrunk(["10", "01"], 2), ["0"])
-    same("sides", [side_for(80, 80), side_for(81, 80), side_for(160, 80), side_for(512, 80), side_for(1, 80)], [1, 2, 2, 7, 1])
 
 
 def a_page_is_read_by_its_blocks(_):
@@ -251,8 +234,6 @@ def words_are_completed(_):
 
 
 TESTS = [
-    pixels_become_half_blocks,
-    a_wide_image_is_shrunk,
     a_page_is_read_by_its_blocks,
     a_manual_is_read,
     the_manual_has_every_command_of_the_rows,

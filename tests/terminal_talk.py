@@ -29,10 +29,9 @@ def a_talk_goes_on_from_a_script(place):
     same("of one that is not there", place.call("desk-talk", "gone.desk", given="find 4 4\n"), (1, "", missing))
     # The words of the prompt are none of a script's.
     place.write("own.desk", "quit\nsave x.png\n")
-    no = "refused 15 BadSyntax: "
     out = place.call("desk-talk", "own.desk", given="frontwin\n")
-    near = f"own.desk: line 1, 'quit': {no}the line is no command, or none of the script's version, or a version behind another line"
-    same("its first lines", out[1].split("\n")[0], f"{near}. The form is: quit")
+    no_quit = out[1].split("\n")[0]
+    same("its first line", no_quit, "own.desk: line 1, 'quit': refused 15 BadSyntax: there is no command 'quit'")
     same("its last line", (out[0], out[1].split("\n")[-2], out[2]), (0, "ok 0", ""))
     same("the files", place.files(), ["empty.desk", "no-newline.desk", "one.desk", "own.desk"])
 
@@ -44,10 +43,12 @@ def bytes_of(place, name):
 
 def what_was_typed_is_saved_as_a_script(place):
     place.write("one.desk", SCRIPT)
-    given = "draw 1 fill 2 2 4 4 patCopy black\nfind 1\nwindow plian 1 1 6 6 1 0 \"\"\n# black\n\nhelp find\nimage\r\nselect 9\n"
+    given = 'draw 1 fill 2 2 4 4 patCopy black\nfind 1\nwindow plian 1 1 6 6 1 0 ""\n# black\n\n'
+    given += "help find\nimage\r\nselect 9\n"
     given += "save one.png\nsave two.desk\nfind 4 4\nsave three.desk\n"
     status, out, error = place.call("desk-talk", "one.desk", given=given)
-    same("the end", (status, out.split("\n")[-5:], error), (0, ["saved one.png", "saved two.desk", "ok 3 1", "saved three.desk", ""], ""))
+    said = "saved one.png\nsaved two.desk\nok 3 1\nsaved three.desk\n"
+    same("the end", (status, out[-len(said) :], error), (0, said, ""))
     kept = '# A window\n\ndesk 8 8 0\nclose 7\nwindow plain 1 1 6 6 1 0 ""\n'
     kept += "draw 1 fill 2 2 4 4 patCopy black\n# black\n\nimage\r\nselect 9\nimage\n"
     same("what is saved", bytes_of(place, "two.desk"), kept.encode())

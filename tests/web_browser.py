@@ -23,7 +23,8 @@ for number, end in zip((3, 4), ends):
     os.dup2(end, number)
 os.execvp(sys.argv[3], sys.argv[3:])
 """
-# The width, the height and the pixels of a picture, of which the browser takes the bytes apart.
+# The width, the height and the pixels of a picture, of which the browser takes the bytes apart: each as how light it is, or -1
+# where it is colored. Black and white are the signs of an image.
 LOOK = """(async () => {
   const it = new Image();
   it.src = "data:image/png;base64,%s";
@@ -31,9 +32,10 @@ LOOK = """(async () => {
   const pen = new OffscreenCanvas(it.width, it.height).getContext("2d");
   pen.drawImage(it, 0, 0);
   const bytes = pen.getImageData(0, 0, it.width, it.height).data;
-  const sign = at => bytes[at] === bytes[at + 1] && bytes[at] === bytes[at + 2] && { 0: "1", 255: "0" }[bytes[at]] || "?";
-  return [it.width, it.height, Array.from({ length: bytes.length / 4 }, (_, at) => sign(4 * at)).join("")];
+  const isGray = at => bytes[at] === bytes[at + 1] && bytes[at] === bytes[at + 2];
+  return [it.width, it.height, Array.from({ length: bytes.length / 4 }, (_, at) => isGray(4 * at) ? bytes[4 * at] : -1)];
 })()"""
+SIGNS = {0: "1", 255: "0"}
 WIDTH, HEIGHT = 240, 160
 # The script of view_window.py, with a menu less.
 SCRIPT = f"""\
@@ -52,6 +54,9 @@ control 2 scroll 76 6 16 60 1 0 3 0 ""
 # by 840, which is the room in pixels of a display that has half as many again.
 ROOM = {"width": 800, "height": 600, "mobile": False}
 SCALES = {1: 3, 1.5: 4}
+# The room of a page that is too narrow for 240 pixels, and for 120: three by three of them are one of the display's.
+NARROW = {**ROOM, "width": 100}
+SIDE = 3
 SETTLED = 0.3
 
 
@@ -171,7 +176,11 @@ class Browser:
 
     def picture(self, ratio):
         """The rows of the pixels that are shown where the screen is, each a text of 1 for black, 0 for white and ? else."""
-        wide, high = WIDTH * SCALES[ratio], HEIGHT * SCALES[ratio]
+        rows = self.lights(WIDTH * SCALES[ratio], HEIGHT * SCALES[ratio], ratio)
+        return ["".join(SIGNS.get(it, "?") for it in row) for row in rows]
+
+    def lights(self, wide, high, ratio=1):
+        """The rows of so many pixels that are shown in the corner of the page, each as how light it is."""
         part = {"x": 0, "y": 0, "width": wide / ratio, "height": high / ratio, "scale": 1}
         data = self.call("Page.captureScreenshot", format="png", clip=part)["data"]
         found = self.value(LOOK % data)
@@ -257,6 +266,31 @@ def a_key_records_an_image_and_the_page_stays(page):
     same("the page", page.browser.value("window.mark"), 7)
 
 
+def lights_of(rows):
+    """How light the squares of an image are: the means of their pixels. The last row of squares has one row of pixels."""
+    lights = []
+    for top in range(0, len(rows), SIDE):
+        band = [[int(it) for it in row] for row in rows[top : top + SIDE]]
+        squares = [sum((row[left : left + SIDE] for row in band), []) for left in range(0, len(band[0]), SIDE)]
+        lights.append([round(255 * it.count(0) / len(it)) for it in squares])
+    return lights
+
+
+def a_narrow_page_shows_the_mean_of_squares(page):
+    """It is made narrow and wide again while the screen is shown."""
+    page.browser.call("Emulation.setDeviceMetricsOverride", deviceScaleFactor=1, **NARROW)
+    rows = [row.decode("ascii") for row in rows_of(page.served.image())]
+    at_last(lambda: page.browser.lights(80, 54) == lights_of(rows), "the image of the program in squares")
+    for (h, v), wanted in [((0, 0), "1 1"), ((6, 20), "19 61"), ((79, 53), "238 159")]:
+        page.browser.call("Input.dispatchMouseEvent", type="mouseMoved", x=h, y=v)
+        same(f"the place of {h} {v}", page.browser.value("document.getElementById('place').textContent"), wanted)
+    page.browser.call("Input.dispatchMouseEvent", type="mousePressed", x=6, y=20, button="left", buttons=1, clickCount=1)
+    page.browser.call("Input.dispatchMouseEvent", type="mouseReleased", x=6, y=20, button="left", buttons=0, clickCount=1)
+    page.browser.says('Window 1 "One" is selected')
+    page.browser.call("Emulation.setDeviceMetricsOverride", deviceScaleFactor=1, **ROOM)
+    page.shows_the_screen()
+
+
 def another_page_tells_nothing(page):
     """It is of another origin, though it knows the address."""
     page.browser.call("Page.navigate", url="data:text/html,other")
@@ -285,6 +319,7 @@ TESTS = [
     a_menu_is_pulled_down_and_an_item_chosen,
     a_drag_that_ends_beside_the_screen_ends,
     keys_stand_for_items,
+    a_narrow_page_shows_the_mean_of_squares,
     a_key_records_an_image_and_the_page_stays,
     another_page_tells_nothing,
 ]
