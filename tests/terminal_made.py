@@ -65,11 +65,13 @@ def the_manual_page_is_one(place):
     text = re.sub(r".\x08", "", ran.stdout.decode())
     lines = [re.sub(r" +", " ", line).strip() for line in text.splitlines()]
     same("its head", lines[0].split(" ")[0], "DESK(1)")
-    heads = ["NAME", "SYNOPSIS", "DESCRIPTION", "LINES", "WORDS", "ANSWERS", "COMMANDS", "REFUSALS", "SEE ALSO"]
+    heads = ["NAME", "SYNOPSIS", "DESCRIPTION", "A TRACE", "LINES", "WORDS", "ANSWERS", "COMMANDS", "REFUSALS", "SEE ALSO"]
     same("sections that are not there", [it for it in heads if it not in lines], [])
     for line, after in [
         ("NAME", "desk - runs a script of Toolbox calls on the desktop of the classic Macintosh"),
         ("SYNOPSIS", "desk [--raw] [--check] [--font FILE] [SCRIPT]"),
+        ("desk --trace [--bail] [--font FILE] [SCRIPT]", ""),
+        ("3 close 7 -> refused 2 NoSuchWindow", "4 find 9 -> refused 15 BadSyntax: 2 words in place of 3. The form is: find H V"),
         ("find H V", "asks whose a point of the screen is. Answer: ok PART WINDOW."),
         ('title WINDOW "TITLE"', "gives a window another title. Answer: ok."),
         ("0; nothing", "the script was read to its end and each command was answered, also where the answers are refusals"),
