@@ -25,7 +25,7 @@ To compare answers, for desk-test and desk-png:
   lint            lines that are refused, and the forms that they ought to have
   called          the words, programs and statuses of the tools
 
-To read the manual, and to serve somebody at a terminal, for desk-talk:
+To read the manual, and to serve somebody at a terminal, for desk-talk and ./desk --trace:
 
   manual          the commands, kinds and refusals that the manual has
   markdown        the blocks of a document
@@ -35,6 +35,7 @@ To read the manual, and to serve somebody at a terminal, for desk-talk:
   graphics        images as pictures of a terminal
   talk            what desk-talk says, and how words are completed
   pager           the pager of a terminal
+  trace           what ./desk --trace shows of a script
 
 To drive a desk with a mouse and keys, for desk-view and desk-web:
 

@@ -25,6 +25,9 @@ OPTION = re.compile(r"--?[A-Za-z][A-Za-z0-9-]*")
 KNOW_MORE = {"desk": ("crates/script_runner/src/", "crates/desk/src/")}
 # Options that every program may have.
 EVERYWHERE = {"-h", "--help"}
+# The line of README.md that says how much is proved, and what is a function.
+FIGURES = re.compile(r"\b([\d,]+) functions, ([\d,]+) laws among them, and ([\d,]+) lines of proofs")
+FUNCTION = re.compile(r"(?m)^ *(?:pub(?:\(\w+\))? )?(?:(?:const|unsafe) )*fn ")
 ENDINGS = r"rt|antt|py|md|desk|out|png|txt|c|edit|toml|json|pbm|font|seen|args|err|hex|name|status"
 
 # Words that documents may name though the tree does not have them, each with why.
@@ -185,9 +188,38 @@ def untested_code(tree):
             yield "README.md", text.count("\n", 0, it.start()) + 1, "this code stands in no file of the tree"
 
 
+def figures_of(tree):
+    """How many functions the crates have, how many of them are laws, and how many lines their proofs have."""
+    functions, laws, lines = 0, 0, 0
+    for path in tree.files:
+        if re.match(r"crates/[^/]+/src/.*\.rt$", path):
+            count = len(FUNCTION.findall(tree.text_of(path)))
+            functions += count
+            laws += count if path.endswith("laws.rt") else 0
+        elif re.match(r"crates/[^/]+/proofs/.*\.antt$", path):
+            lines += tree.text_of(path).count("\n")
+    return functions, laws, lines
+
+
+def rounded(number):
+    """A number with two digits, and noughts for the others, as a document has it that need not change with each proof."""
+    unit = 10 ** max(0, len(str(number)) - 2)
+    return f"{number // unit * unit:,}"
+
+
+def wrong_figures(tree):
+    """The figures of README.md, where it has some, that are not those of the tree, rounded down."""
+    text = tree.documents["README.md"].text if "README.md" in tree.documents else ""
+    for found in FIGURES.finditer(text):
+        for said, number in zip(found.groups(), figures_of(tree)):
+            if said != rounded(number):
+                line = text.count("\n", 0, found.start()) + 1
+                yield "README.md", line, f"the figure {said} is {rounded(number)} now: tests/documents --figures counts {number}"
+
+
 def faults_of(tree):
     """Every fault of the documents of this tree, in the order of the files and their lines."""
-    faults = [*crates_without_readme(tree), *lonely_documents(tree), *untested_code(tree)]
+    faults = [*crates_without_readme(tree), *lonely_documents(tree), *untested_code(tree), *wrong_figures(tree)]
     for document in tree.documents.values():
         faults += [*long_blocks(document), *long_documents(document)]
         faults += [*misplaced_names(tree, document)]

@@ -3,7 +3,7 @@
 import os
 import subprocess
 
-from documents_checks import faults_of
+from documents_checks import faults_of, figures_of
 from documents_read import Document, anchor_of, count_words
 from documents_tree import Tree
 
@@ -169,6 +169,17 @@ def code_of_the_library_is_tested_text(folder):
     finds(folder, "README.md", f"{README}```rust\n{first}```\n")
 
 
+def figures_are_those_of_the_tree(folder):
+    proofs = {"crates/low/proofs/Lib.antt": "a\n" * 1299, "crates/low/src/laws.rt": "    pub fn a_law() {}\n// fn none\npub const fn b() {}\n"}
+    same("the figures", figures_of(tree_of(folder, proofs)), (3, 2, 1299))
+    line = README.count("\n") + 1
+    right = "3 functions, 2 laws among them, and 1,200 lines of proofs"
+    finds(folder, "README.md", README + right)
+    for said, number, now in [("3", "4", "3"), ("1,200", "1,300", "1299"), (" 2", " 1", "2")]:
+        wrong = f"README.md:{line}: the figure {number.strip()} is {said.strip()} now: tests/documents --figures counts {now}"
+        finds(folder, "README.md", README + right.replace(said, number, 1), wrong)
+
+
 def what_git_leaves_out_is_no_part_of_the_tree(folder):
     tree_of(folder, {"crates/low/out/NEW.md": "", ".gitignore": "out/\n"})
     same("by a walk", "crates/low/out/NEW.md" in Tree(folder).files, False)
@@ -213,6 +224,7 @@ TESTS = [
     commands_that_are_wrong_are_found,
     what_nothing_leads_to_is_found,
     code_of_the_library_is_tested_text,
+    figures_are_those_of_the_tree,
     what_git_leaves_out_is_no_part_of_the_tree,
     anchors_are_those_of_github,
     blocks_are_read_as_they_are_shown,

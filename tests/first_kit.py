@@ -3,7 +3,7 @@
 What the kit builds is a script that tells whether it was proved, and then answers each line of its input. Its rt writes into
 the file 'asked' of the kit what it is asked for. What else it does, files of the kit say, which a test makes:
 
-  saves          the path of a file that is saved while rt works
+  saves          the path of a file that is saved with a further line while rt works
   slow           rt takes half a second
   meet           the names of crates of which each is proved only once all are begun, or after some seconds
   links-itself   rt try asks no linker of the kit
@@ -45,7 +45,8 @@ def meet(name):
 def asked(*words):
     tell(*words)
     if has("saves"):
-        os.utime(open(HOME + "/saves").read())
+        with open(open(HOME + "/saves").read(), "a") as file:
+            print("// more", file=file)
     if has("slow"):
         time.sleep(0.5)
     meet(words[-1])
@@ -108,13 +109,19 @@ PROGRAM
 exec /bin/chmod +x "$3"
 """
 COMPILER = """#!/bin/sh
+case $1 in --target=*) exit 1 ;; esac
 echo "clang $1 $2" >> "$3"
 """
 
 # What rt is asked for where the program is compiled without proof.
 TRIED = ["try", "clang -O2 -c"]
 # What ./desk says.
-COMPILES = r"desk: compiling the program, unproved, which takes a minute or two\."
+COMPILES = r"desk: compiling the program, unproved, which takes one to four minutes\."
+STEPS = [
+    r"desk: step 1 of 3: rt reads and checks the texts of all crates",
+    r"desk: step 2 of 3(, after \d+ s)?: LLVM compiles them",
+    r"desk: step 3 of 3(, after \d+ s)?: the program is linked and tried",
+]
 PROVES = r"desk: proving the program's crates, and building it\. .*"
 ORDER = ("low", "(left|right)", "(left|right)", "desk")
 PROVED = [rf"desk: crate {n} of 4 is proved, in \d+ s: {name}" for n, name in enumerate(ORDER, 1)]
@@ -136,12 +143,12 @@ def write(path, text, mode=0o644):
 
 
 class Tree:
-    """Such a tree beside such a kit. All its files are an hour old."""
+    """Such a tree beside such a kit."""
 
     def __init__(self, folder):
         self.folder = os.path.join(os.path.realpath(folder), "a tree's copy")
         self.kit = os.path.join(os.path.realpath(folder), "a kit")
-        for name in ("desk", "tools/rt", "tools/prove", "tools/unproved"):
+        for name in ("desk", "tools/rt", "tools/prove", "tools/sums", "tools/unproved"):
             os.makedirs(os.path.dirname(self.path(name)), exist_ok=True)
             shutil.copy(os.path.join(TOP, name), self.path(name))
         for crate in ("low", "left", "right", "desk", "other"):
@@ -149,7 +156,6 @@ class Tree:
                 write(self.path(f"crates/{crate}/{part}"), "")
         write(self.path("crates/desk/src/main.rt"), "")
         write(self.path("crates.txt"), CRATES)
-        self.age()
         for name, text in {"rt": RT, "rtlib.py": RTLIB + LOCK}.items():
             write(f"{self.kit}/bin/{name}", text, 0o755)
         for name in ("toolchain/bin/ld.lld", "own"):
@@ -168,6 +174,15 @@ class Tree:
     def says(self, name, text=""):
         """Has the kit do what a file of this name says."""
         write(os.path.join(self.kit, name), text)
+
+    def add(self, name, text="// more\n"):
+        """Adds a text to a file, whose time stays as it was."""
+        path = self.path(name)
+        told = os.stat(path) if os.path.exists(path) else None
+        with open(path, "a") as file:
+            file.write(text)
+        if told:
+            os.utime(path, ns=(told.st_atime_ns, told.st_mtime_ns))
 
     def age(self):
         """Has all files and folders of the tree an hour older than they are."""
@@ -212,6 +227,13 @@ class Tree:
             out, error = ran.communicate(given.encode())
         return ran.returncode, out.decode(), error.decode()
 
+    def call_to(self, out, *words):
+        """The status of a call that writes into this file, and what it writes on standard error."""
+        called = [self.path("desk"), *words]
+        how = {"stdin": subprocess.DEVNULL, "stdout": out, "stderr": subprocess.PIPE, "timeout": SECONDS}
+        ran = subprocess.run(called, cwd=self.kit, env=self.environment, check=False, **how)
+        return ran.returncode, ran.stderr.decode()
+
     def wants(self, status, out, lines, *words, **how):
         """Wants this of a call, where the lines are patterns of those on standard error, all of them."""
         found = self.call(*words, **how)
@@ -220,7 +242,7 @@ class Tree:
         if len(said) != len(lines) or not all(map(re.fullmatch, lines, said)):
             raise Fault(f"{words}: standard error is {said!r} in place of {lines!r}")
 
-    def compiles(self, lines=(COMPILES, BUILT, NOTE)):
+    def compiles(self, lines=(COMPILES, *STEPS, BUILT, NOTE)):
         """Wants that the program is compiled, says so and runs."""
         self.wants(0, "unproved: []\nunproved answers in\n", lines)
         same("what rt was asked for", self.asked(), TRIED)

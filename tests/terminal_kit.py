@@ -29,6 +29,12 @@ class Skipped(Exception):
     """What a test wants that this machine does not have."""
 
 
+def need(program):
+    """Skips the test where this machine has no such program."""
+    if shutil.which(program) is None:
+        raise Skipped(f"here is no {program}")
+
+
 def same(what, found, wanted):
     if found != wanted:
         raise Fault(f"{what}: {found!r} in place of {wanted!r}")

@@ -1,12 +1,11 @@
-"""Tests of what is made of the manual, and of the completion of bash, for terminal."""
+"""Tests of what is made of the manual, for terminal."""
 
 import json
 import os
 import re
-import shutil
 import subprocess
 
-from terminal_kit import TOP, Skipped, same
+from terminal_kit import TOP, Skipped, need, same
 
 MADE = ("docs/desk.1", "editors/vim/syntax/desk.vim", "editors/vscode/syntaxes/desk.tmLanguage.json")
 # A line that the manual would have with a new command, and the one before it.
@@ -39,11 +38,6 @@ SCOPES = {
 }
 
 
-def need(program):
-    if shutil.which(program) is None:
-        raise Skipped(f"there is no {program}")
-
-
 def the_files_made_of_the_manual_are_of_now(place):
     check = os.path.join(TOP, "docs", "make-manual")
     same("those of the tree", place.call(check, "--check", over=False), (0, "3 passed, 0 failed\n", ""))
@@ -71,11 +65,13 @@ def the_manual_page_is_one(place):
     text = re.sub(r".\x08", "", ran.stdout.decode())
     lines = [re.sub(r" +", " ", line).strip() for line in text.splitlines()]
     same("its head", lines[0].split(" ")[0], "DESK(1)")
-    heads = ["NAME", "SYNOPSIS", "DESCRIPTION", "LINES", "WORDS", "ANSWERS", "COMMANDS", "REFUSALS", "SEE ALSO"]
+    heads = ["NAME", "SYNOPSIS", "DESCRIPTION", "A TRACE", "LINES", "WORDS", "ANSWERS", "COMMANDS", "REFUSALS", "SEE ALSO"]
     same("sections that are not there", [it for it in heads if it not in lines], [])
     for line, after in [
         ("NAME", "desk - runs a script of Toolbox calls on the desktop of the classic Macintosh"),
         ("SYNOPSIS", "desk [--raw] [--check] [--font FILE] [SCRIPT]"),
+        ("desk --trace [--bail] [--font FILE] [SCRIPT]", ""),
+        ("3 close 7 -> refused 2 NoSuchWindow", "4 find 9 -> refused 15 BadSyntax: 2 words in place of 3. The form is: find H V"),
         ("find H V", "asks whose a point of the screen is. Answer: ok PART WINDOW."),
         ('title WINDOW "TITLE"', "gives a window another title. Answer: ok."),
         ("0; nothing", "the script was read to its end and each command was answered, also where the answers are refusals"),
@@ -150,57 +146,10 @@ def the_extension_names_files_that_are_there(_):
     same("its grammar", os.path.realpath(grammars["desk"]), os.path.join(TOP, MADE[2]))
 
 
-def completed(place, *words):
-    """What bash makes of the last of these words, a command and what follows it."""
-    asks = '. "$1"; shift; COMP_WORDS=("$@"); COMP_CWORD=$(($# - 1)); _desk "$1" "${*: -1}" "${*: -2:1}"'
-    script = os.path.join(TOP, "editors", "bash", "desk.bash")
-    ran = subprocess.run(
-        ["bash", "--norc", "-c", asks + '; printf "%s\\n" "${COMPREPLY[@]}"', "bash", script, *words],
-        cwd=place.folder,
-        capture_output=True,
-        timeout=60,
-    )
-    same(f"what bash says of {words}", (ran.returncode, ran.stderr), (0, b""))
-    return sorted(filter(None, ran.stdout.decode().split("\n")))
-
-
-def bash_completes_options_and_files(place):
-    for name in ("one.desk", "two words.desk", "other.txt", "a.font"):
-        place.write(name, "")
-    os.mkdir(place.path("folder"))
-    desk, png, talk = (os.path.join(TOP, name) for name in ("desk", "desk-png", "desk-talk"))
-    scripts = ["folder", "one.desk", "two words.desk"]
-    for words, wanted in [
-        ([desk, ""], scripts),
-        ([desk, "t"], ["two words.desk"]),
-        ([desk, "--"], ["--check", "--font", "--help", "--prove", "--raw", "--version", "--which"]),
-        ([desk, "-"], ["--check", "--font", "--help", "--prove", "--raw", "--version", "--which", "-h"]),
-        ([desk, "one.desk", "--ra"], ["--raw"]),
-        ([desk, "--font", "a"], ["a.font"]),
-        ([desk, "--font", ""], ["a.font", "folder", "one.desk", "other.txt", "two words.desk"]),
-        ([png, "--"], ["--font", "--image", "--last", "--program", "--scale", "--strict"]),
-        ([png, "--scale", "2", "o"], ["one.desk"]),
-        ([talk, "--p"], ["--program"]),
-        ([os.path.join(TOP, "desk-test"), "--acc"], ["--accept"]),
-        ([os.path.join(TOP, "desk-view"), "--sc"], ["--scale"]),
-        ([os.path.join(TOP, "desk-view"), "--re"], ["--record", "--replay"]),
-        ([os.path.join(TOP, "desk-view"), "--replay", "o"], ["one.desk"]),
-        ([os.path.join(TOP, "desk-web"), "--"], ["--port", "--program", "--record"]),
-        ([os.path.join(TOP, "desk-web"), "--record", "o"], ["one.desk", "other.txt"]),
-        (["./no-such-command", "--"], []),
-    ]:
-        same(f"{[os.path.basename(words[0]), *words[1:]]}", completed(place, *words), wanted)
-    asks = f'. "{os.path.join(TOP, "editors", "bash", "desk.bash")}"; complete -p'
-    ran = subprocess.run(["bash", "--norc", "-c", asks], capture_output=True, check=True)
-    named = sorted(line.split()[-1] for line in ran.stdout.decode().splitlines())
-    same("the commands", named, ["desk", "desk-png", "desk-talk", "desk-test", "desk-view", "desk-web"])
-
-
 TESTS = [
     the_files_made_of_the_manual_are_of_now,
     the_manual_page_is_one,
     the_grammar_colors_the_words,
     vim_colors_the_words,
     the_extension_names_files_that_are_there,
-    bash_completes_options_and_files,
 ]

@@ -5,7 +5,8 @@ from desk_kit.manual import sections_of
 
 # Which sections of the manual are in the page, and what they are called there.
 DESCRIPTION = "The program"
-FURTHER = ("Which program `./desk` runs", "Reads and writes", "Lines", "Words", "Answers")
+TRACE = "A trace"
+FURTHER = ("Which program `./desk` runs", TRACE, "Reads and writes", "Lines", "Words", "Answers")
 HEAD = """.\\" Made by docs/make-manual of docs/SCRIPT.md.
 .TH DESK 1 "" "desk" "User Commands"
 .SH NAME
@@ -69,10 +70,11 @@ def refusals_of(manual):
 
 
 def man_page(text, manual):
-    """The whole page, from the text of the manual and what was read of it. The first words of the program's section are
-    how it is called."""
+    """The whole page, from the text of the manual and what was read of it. The first words of the section of
+    the program, and of that of the trace, are how it is called."""
     sections = sections_of(text)
     called, _, described = sections[DESCRIPTION].removeprefix("`").partition("` ")
-    parts = [HEAD, f".B {escaped(called)}\n", section("Description", f"It {described}")]
+    traced = sections[TRACE].removeprefix("`").partition("` ")[0]
+    parts = [HEAD, f".B {escaped(called)}\n.PP\n.B {escaped(traced)}\n", section("Description", f"It {described}")]
     parts += [section(title, sections[title]) for title in FURTHER]
     return "".join([*parts, commands_of(manual), refusals_of(manual), FOOT])
