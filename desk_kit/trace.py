@@ -2,16 +2,15 @@
 Of an image the size is shown, and of a line that is refused for its form, its names or its length what is wrong with it.
 
 The status is 0 at the end of the script; 1 where a file or the program is at fault, and with --bail where a line is refused;
-and 2 for wrong words.
+2 for wrong words; and else as desk_kit/ends.py has it.
 """
 
-import os
-import signal
 import sys
 
-from desk_kit.answers import Command, Fault, is_command
-from desk_kit.called import AT_FAULT, Parser, give_up, say
+from desk_kit.answers import Command, is_command
+from desk_kit.called import Parser
 from desk_kit.driven import Driven, sides_of
+from desk_kit.ends import AT_FAULT, give_up, say
 from desk_kit.forms import forms_if_any
 from desk_kit.lint import OF_FORM, advice, misplaced, name_of
 
@@ -92,18 +91,7 @@ def opened(name):
 
 def main():
     chosen = words()
-    sys.stdout.reconfigure(encoding="utf-8", errors="backslashreplace")
+    sys.stdout.reconfigure(encoding="utf-8")
     font = [] if chosen.font is None else [f"--font={chosen.font}"]
-    try:
-        with opened(chosen.script) as script, Driven([chosen.program, *font], SECONDS) as desk:
-            sys.exit(trace(desk, script, chosen.bail))
-    except Fault as fault:
-        give_up(TOOL, AT_FAULT, f"{fault}.")
-    except KeyboardInterrupt:
-        sys.exit(128 + signal.SIGINT)
-    except BrokenPipeError:
-        os.dup2(os.open(os.devnull, os.O_WRONLY), sys.stdout.fileno())
-        give_up(TOOL, AT_FAULT, "whoever read the answers has gone.")
-    except OSError as error:
-        os.dup2(os.open(os.devnull, os.O_WRONLY), sys.stdout.fileno())
-        give_up(TOOL, AT_FAULT, f"standard output cannot be written, or the script not read: {error.strerror}.")
+    with opened(chosen.script) as script, Driven([chosen.program, *font], SECONDS) as desk:
+        sys.exit(trace(desk, script, chosen.bail))
