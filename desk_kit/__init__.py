@@ -23,7 +23,8 @@ To compare answers, for desk-test and desk-png:
   reports         JUnit's XML on what came of rows
   report_page     a page of HTML on it
   lint            lines that are refused, and the forms that they ought to have
-  called          the words, programs and statuses of the tools
+  called          the words of the tools, their program and their script
+  ends            how the tools end
 
 To read the manual, and to serve somebody at a terminal, for desk-talk and ./desk --trace:
 
@@ -39,6 +40,7 @@ To read the manual, and to serve somebody at a terminal, for desk-talk and ./des
 
 To drive a desk with a mouse and keys, for desk-view and desk-web:
 
+  used_desk       the loop of events over what a script has made
   shown_desk      a driven desk with its screen, where that has changed
   event_loop      the loop of events of a Macintosh program over it
   mouse_tracking  what follows the mouse as long as its button is down
