@@ -8,6 +8,8 @@ from documents_read import count_words, split_target
 MOST_WORDS = 120
 MOST_OF_README = 900
 MOST_OF_A_CRATE = 150
+# The file of the packages with which all tests run.
+PACKAGES = ".ci/packages"
 # The documents that need no link to them.
 FIRST = {"README.md", "CHANGELOG.md"}
 
@@ -217,9 +219,16 @@ def wrong_figures(tree):
                 yield "README.md", line, f"the figure {said} is {rounded(number)} now: tests/documents --figures counts {number}"
 
 
+def unnamed_packages(tree):
+    """The packages with which a merge is tried, and which README.md does not name in one piece of code, in their order."""
+    names = [it for it in tree.text_of(PACKAGES).split("\n") if it and not it.startswith("#")] if PACKAGES in tree.files else []
+    if names and f"`{' '.join(names)}`" not in tree.documents["README.md"].text:
+        yield "README.md", 1, f"no code here names the packages of {PACKAGES}, `{' '.join(names)}`"
+
+
 def faults_of(tree):
     """Every fault of the documents of this tree, in the order of the files and their lines."""
-    faults = [*crates_without_readme(tree), *lonely_documents(tree), *untested_code(tree), *wrong_figures(tree)]
+    faults = [*crates_without_readme(tree), *lonely_documents(tree), *untested_code(tree), *unnamed_packages(tree), *wrong_figures(tree)]
     for document in tree.documents.values():
         faults += [*long_blocks(document), *long_documents(document)]
         faults += [*misplaced_names(tree, document)]

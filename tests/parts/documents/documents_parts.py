@@ -153,6 +153,13 @@ def what_nothing_leads_to_is_found(folder):
     finds(folder, "crates.txt", "low:\nhigh staticlib: low\n", "crates.txt:2: the crate high has no crates/high/README.md")
 
 
+def packages_are_named(folder):
+    fault = "no code here names the packages of .ci/packages, `./go docs`"
+    tree = tree_of(folder, {".ci/packages": "# all\n./go\ndocs\n"})
+    same("without", faults_of(tree), [("README.md", 1, fault)])
+    same("with", faults_of(tree_of(folder, {"README.md": f"{README}\nIt wants `./go docs`.\n"})), [])
+
+
 def code_of_the_library_is_tested_text(folder):
     line = README.count("\n") + 1
     code = "```rust\npub fn none() {}\n```\n"
@@ -216,6 +223,7 @@ TESTS = [
     names_that_stand_in_another_file_are_found,
     commands_that_are_wrong_are_found,
     what_nothing_leads_to_is_found,
+    packages_are_named,
     code_of_the_library_is_tested_text,
     figures_are_those_of_the_tree,
     what_git_leaves_out_is_no_part_of_the_tree,
