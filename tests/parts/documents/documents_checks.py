@@ -220,15 +220,16 @@ def wrong_figures(tree):
 
 
 def unnamed_packages(tree):
-    """The packages with which a merge is tried, and which README.md does not name in one piece of code, in their order."""
+    """The packages with which a merge is tried, where no command in README.md ends with them, in their order."""
     names = [it for it in tree.text_of(PACKAGES).split("\n") if it and not it.startswith("#")] if PACKAGES in tree.files else []
-    if names and f"`{' '.join(names)}`" not in tree.documents["README.md"].text:
-        yield "README.md", 1, f"no code here names the packages of {PACKAGES}, `{' '.join(names)}`"
+    if names and f" {' '.join(names)}`" not in tree.documents["README.md"].text:
+        yield "README.md", 1, f"no command here ends with the packages of {PACKAGES}: {' '.join(names)}"
 
 
 def faults_of(tree):
     """Every fault of the documents of this tree, in the order of the files and their lines."""
-    faults = [*crates_without_readme(tree), *lonely_documents(tree), *untested_code(tree), *unnamed_packages(tree), *wrong_figures(tree)]
+    faults = [*crates_without_readme(tree), *lonely_documents(tree), *untested_code(tree)]
+    faults += [*unnamed_packages(tree), *wrong_figures(tree)]
     for document in tree.documents.values():
         faults += [*long_blocks(document), *long_documents(document)]
         faults += [*misplaced_names(tree, document)]

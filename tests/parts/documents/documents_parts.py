@@ -154,10 +154,10 @@ def what_nothing_leads_to_is_found(folder):
 
 
 def packages_are_named(folder):
-    fault = "no code here names the packages of .ci/packages, `./go docs`"
-    tree = tree_of(folder, {".ci/packages": "# all\n./go\ndocs\n"})
+    fault = "no command here ends with the packages of .ci/packages: docs crates"
+    tree = tree_of(folder, {".ci/packages": "# all\ndocs\ncrates\n"})
     same("without", faults_of(tree), [("README.md", 1, fault)])
-    same("with", faults_of(tree_of(folder, {"README.md": f"{README}\nIt wants `./go docs`.\n"})), [])
+    same("with", faults_of(tree_of(folder, {"README.md": f"{README}\nIt wants `./go docs crates`.\n"})), [])
 
 
 def code_of_the_library_is_tested_text(folder):
