@@ -1,5 +1,6 @@
 //! Drawings on a map of 512 by 342.
 
+use crate::sums::plus;
 use bit_blit::{fill, shift};
 use bit_map::{BitMap, Mode, Pattern};
 use draw_port::{Bytes, Canvas, Cut, Op, RowsOfBits, Shade, Shape};
@@ -7,26 +8,11 @@ use scan_region::Region;
 use std::alloc::Global;
 use strike_font::Font;
 use tb_geom::{Point, Rect, Refusal};
+use test_pixels::images::NOTHING_CUT;
+use test_pixels::rect;
 
 /// The whole map.
-const SCREEN: Rect = Rect {
-    left: 0,
-    top: 0,
-    right: 512,
-    bottom: 342,
-};
-
-/// A rectangle of these sides.
-macro_rules! rect {
-    ($left:expr, $top:expr, $right:expr, $bottom:expr) => {
-        Rect {
-            left: $left,
-            top: $top,
-            right: $right,
-            bottom: $bottom,
-        }
-    };
-}
+const SCREEN: Rect = rect!(0, 0, 512, 342);
 
 /// A text of 40 characters.
 const TEXT: &[u8] = b"The quick brown fox jumps over lazy dogs";
@@ -40,7 +26,7 @@ fn sum_of_pixels(map: &BitMap) -> u32 {
             let point = Point { h, v };
             if map.bounds().contains(point) && map.get(point) {
                 let place = v.wrapping_mul(bounds.right).wrapping_add(h);
-                sum = sum.wrapping_mul(31).wrapping_add(place.unsigned_abs());
+                sum = plus(sum, place);
             }
         }
     }
@@ -86,12 +72,6 @@ fn draw_on<D: Drawing>(
     Ok(sum_of_pixels(&map))
 }
 
-/// A cut that takes nothing away.
-const WHOLE: Cut<'static> = Cut {
-    inside: [None; 3],
-    outside: None,
-};
-
 struct Letters;
 
 impl Drawing for Letters {
@@ -110,12 +90,12 @@ impl Drawing for GrayScreen {
 
 /// Draws a text of 40 characters of the built-in font on a canvas that nothing cuts.
 pub fn draw_text(alloc: Global, rounds: u32) -> Result<u32, Refusal> {
-    draw_on(alloc, &WHOLE, &Letters, rounds)
+    draw_on(alloc, &NOTHING_CUT, &Letters, rounds)
 }
 
 /// Fills all pixels with gray.
 pub fn fill_all(alloc: Global, rounds: u32) -> Result<u32, Refusal> {
-    draw_on(alloc, &WHOLE, &GrayScreen, rounds)
+    draw_on(alloc, &NOTHING_CUT, &GrayScreen, rounds)
 }
 
 /// Fills with gray what two rectangles share and a third leaves of that.
@@ -149,7 +129,7 @@ const TURNED: Shade = Shade {
 
 /// Paints an operation on a canvas that nothing cuts.
 fn paint(alloc: Global, op: Op, rounds: u32) -> Result<u32, Refusal> {
-    draw_on(alloc, &WHOLE, &Painted { op }, rounds)
+    draw_on(alloc, &NOTHING_CUT, &Painted { op }, rounds)
 }
 
 /// Draws the frame of a rectangle of 160 by 100 with gray.

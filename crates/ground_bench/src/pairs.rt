@@ -1,9 +1,10 @@
-//! What is measured.
+//! What is done with pairs of regions.
 
-use crate::random::Random;
-use scan_region::{Cut, Region, Span};
+use crate::random::{Random, Sides};
+use crate::sums::{plus, plus_box, plus_span, plus_spans};
+use scan_region::{Cut, Region};
 use std::alloc::{AllocError, Global};
-use tb_geom::Rect;
+use test_pixels::rect;
 
 /// How many pairs of regions there are.
 const PAIRS: usize = 12;
@@ -53,31 +54,6 @@ pub struct Pair {
     second: Region,
 }
 
-/// A checksum with a number more.
-fn plus(sum: u32, number: i32) -> u32 {
-    sum.wrapping_mul(31).wrapping_add(number.unsigned_abs())
-}
-
-/// A checksum with a box more.
-fn plus_box(sum: u32, area: Rect) -> u32 {
-    let sum = plus(plus(sum, area.left), area.top);
-    plus(plus(sum, area.right), area.bottom)
-}
-
-/// A checksum with a span more.
-fn plus_span(sum: u32, span: Span) -> u32 {
-    plus(plus(plus(sum, span.v), span.left), span.right)
-}
-
-/// Walks a region from the top.
-fn walked(region: &Region, from: u32) -> u32 {
-    let mut sum = from;
-    for span in region.spans() {
-        sum = plus_span(sum, span);
-    }
-    sum
-}
-
 /// Walks a region from the bottom.
 fn walked_up(region: &Region, from: u32) -> u32 {
     let mut sum = from;
@@ -89,14 +65,8 @@ fn walked_up(region: &Region, from: u32) -> u32 {
 
 /// Walks what a cut leaves of a rectangle.
 fn walked_cut(cut: &Cut<'_>, right: i32, bottom: i32, from: u32) -> u32 {
-    let area = Rect {
-        left: 0,
-        top: 0,
-        right,
-        bottom,
-    };
     let mut sum = from;
-    for span in cut.spans_within(area) {
+    for span in cut.spans_within(rect!(0, 0, right, bottom)) {
         sum = plus_span(sum, span);
     }
     sum
@@ -119,7 +89,7 @@ fn one_round(alloc: Global, what: What, pair: &Pair, sum: u32) -> Result<u32, Al
         What::Diff => plus_box(sum, a.diff(alloc, b)?.bbox()),
         What::Xor => plus_box(sum, a.xor(alloc, b)?.bbox()),
         What::Copy => plus_box(sum, a.copy(alloc)?.bbox()),
-        What::Spans => walked(a, sum),
+        What::Spans => plus_spans(sum, a),
         What::SpansUp => walked_up(a, sum),
         What::Meets => plus(sum, i32::from(a.meets_rect(b.bbox()))),
         What::Cut => walked_cut(&cut_of(Some(a)), 1024, 1024, sum),
@@ -130,12 +100,12 @@ fn one_round(alloc: Global, what: What, pair: &Pair, sum: u32) -> Result<u32, Al
 }
 
 /// The pairs of regions, each of so many rectangles.
-pub fn pairs(alloc: Global, rectangles: usize) -> Result<Vec<Pair>, AllocError> {
+pub fn pairs(alloc: Global, rectangles: u32) -> Result<Vec<Pair>, AllocError> {
     let mut random = Random::new();
     let mut pairs = Vec::new(alloc);
     for _ in 0..PAIRS {
-        let first = random.region(alloc, rectangles)?;
-        let second = random.region(alloc, rectangles)?;
+        let first = random.region(alloc, Sides::Short, rectangles)?;
+        let second = random.region(alloc, Sides::Short, rectangles)?;
         pairs.push(Pair { first, second })?;
     }
     Ok(pairs)
