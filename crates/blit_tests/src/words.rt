@@ -1,12 +1,15 @@
 //! Drawing by words, beside what single pixels give.
 
+use crate::blits::Thirds;
 use bit_blit::{copy, fill, invert, shift};
-use bit_map::{BitImage, BitMap, Mode, Pattern, eight_within};
-use pixel_pictures::pixels::{Pixels, are_alike, mark};
+use bit_map::{BitImage, BitMap, Mode, eight_within};
 use scan_region::Region;
 use std::alloc::Global;
 use std::test::Fail;
 use tb_geom::{Point, Rect, Refusal};
+use test_pixels::pixels::{Pixels, are_alike, map_of, mark};
+use test_pixels::rect;
+use test_pixels::sheet::MIXED;
 
 /// How many rows each map has.
 const ROWS: i32 = 5;
@@ -24,36 +27,25 @@ fn before(point: Point) -> bool {
         < 2
 }
 
-/// A map with those bits.
-fn old_map(alloc: Global, width: i32) -> Result<BitMap, Refusal> {
-    let mut map = BitMap::new(alloc, width, ROWS)?;
-    let bounds = map.bounds();
-    for v in bounds.top..bounds.bottom {
-        for h in bounds.left..bounds.right {
-            let point = Point { h, v };
-            if map.bounds().contains(point) {
-                map.set(point, before(point));
-            }
-        }
+/// What a map has before.
+struct Old;
+
+impl Pixels for Old {
+    fn byte(&self, point: Point) -> u8 {
+        mark(before(point))
     }
-    Ok(map)
 }
 
-/// A rectangle, by its left side, its top, its right side and its bottom.
-fn sides(left: i32, top: i32, right: i32, bottom: i32) -> Rect {
-    Rect {
-        left,
-        top,
-        right,
-        bottom,
-    }
+/// A map with those bits.
+fn old_map(alloc: Global, width: i32) -> Result<BitMap, Refusal> {
+    map_of(alloc, &Old, width, ROWS)
 }
 
 /// Two rectangles without a third: their sides meet those of words, or do not, and some lie off the map.
 fn some_region(alloc: Global) -> Result<Region, Refusal> {
-    let first = Region::from_rect(alloc, sides(-3, -1, 70, 4))?;
-    let second = Region::from_rect(alloc, sides(66, 2, 300, 9))?;
-    let hole = Region::from_rect(alloc, sides(5, 1, 64, 2))?;
+    let first = Region::from_rect(alloc, rect!(-3, -1, 70, 4))?;
+    let second = Region::from_rect(alloc, rect!(66, 2, 300, 9))?;
+    let hole = Region::from_rect(alloc, rect!(5, 1, 64, 2))?;
     let both = first.union(alloc, &second)?;
     Ok(both.diff(alloc, &hole)?)
 }
@@ -164,7 +156,7 @@ fn is_black(h: i32, v: i32) -> bool {
 impl Pixels for Imaged {
     fn byte(&self, point: Point) -> u8 {
         let source = source_of(point, self.origin);
-        let is_put = sides(0, 0, 70, 2).contains(source)
+        let is_put = rect!(0, 0, 70, 2).contains(source)
             && is_black(source.h.clamp(0, 69), source.v.clamp(0, 1));
         mark(before(point) || is_put)
     }
@@ -172,7 +164,7 @@ impl Pixels for Imaged {
 
 #[test]
 fn copies_images_by_words_as_by_pixels(rt: HostRuntime) -> Result<(), Fail> {
-    let all = Region::from_rect(rt.alloc(), sides(0, 0, 200, ROWS))?;
+    let all = Region::from_rect(rt.alloc(), rect!(0, 0, 200, ROWS))?;
     let image = BitImage::new(70, 2, &ROWS_OF_BITS);
     for h in -71..201 {
         let origin = Point { h, v: 2 };
@@ -182,11 +174,6 @@ fn copies_images_by_words_as_by_pixels(rt: HostRuntime) -> Result<(), Fail> {
     }
     Ok(())
 }
-
-/// A pattern with no two rows and no two columns alike.
-const MIXED: Pattern = Pattern {
-    rows: [0x80, 0xC1, 0x22, 0xF5, 0x1A, 0x0F, 0x99, 0x6E],
-};
 
 /// The bits before, with the pattern put down in a region by exclusive or, and all of the region inverted.
 #[derive(Drop)]
@@ -223,15 +210,6 @@ fn fills_and_inverts_by_words_as_by_pixels(rt: HostRuntime) -> Result<(), Fail> 
     Ok(())
 }
 
-/// The pixels 0, 3, 6 and so on of a row, moved on by one, and pixel 0, which has no source.
-struct Thirds;
-
-impl Pixels for Thirds {
-    fn byte(&self, point: Point) -> u8 {
-        mark(point.h == 0 || point.h.rem_euclid(3) == 1)
-    }
-}
-
 #[test]
 fn eight_bytes_are_a_word(rt: HostRuntime) {
     let bytes = [1, 2, 3, 4, 5, 6, 7, 8, 9];
@@ -240,7 +218,7 @@ fn eight_bytes_are_a_word(rt: HostRuntime) {
 
 #[test]
 fn shifts_every_third_pixel_of_130(rt: HostRuntime) -> Result<(), Fail> {
-    let row = sides(0, 0, 130, 1);
+    let row = rect!(0, 0, 130, 1);
     let mut map = BitMap::new(rt.alloc(), 130, 1)?;
     for h in 0..130 {
         let point = Point { h, v: 0 };
@@ -250,6 +228,7 @@ fn shifts_every_third_pixel_of_130(rt: HostRuntime) -> Result<(), Fail> {
     }
     let region = Region::from_rect(rt.alloc(), row)?;
     shift(&mut map, &region, Point { h: 1, v: 0 });
-    assert!(rt; are_alike(&map, &Thirds, row));
+    // pixel 0 has no source, and stays
+    assert!(rt; are_alike(&map, &Thirds(1), row));
     Ok(())
 }
