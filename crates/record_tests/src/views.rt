@@ -4,6 +4,7 @@ use list_cells::Cell;
 use list_view::{Axis, ListView};
 use std::test::Fail;
 use tb_geom::{Point, Rect, Refusal};
+use test_pixels::rect;
 
 /// A view along one axis: its start, its length and the length of a cell.
 macro_rules! axis {
@@ -12,18 +13,6 @@ macro_rules! axis {
             start: $start,
             length: $length,
             cell: $cell,
-        }
-    };
-}
-
-/// A rectangle, by its left, top, right and bottom side.
-macro_rules! rect {
-    ($left:expr, $top:expr, $right:expr, $bottom:expr) => {
-        Rect {
-            left: $left,
-            top: $top,
-            right: $right,
-            bottom: $bottom,
         }
     };
 }

@@ -1,5 +1,6 @@
 //! The lists of a desk: whose they are, their order, and what changes one.
 
+use crate::control_lists::{PLACES, WINDOWS};
 use list_cells::{ListCells, SelectionFlags};
 use list_records::{ListRecord, ListRecords};
 use list_view::{Axis, ListView};
@@ -51,18 +52,6 @@ fn add(list: &mut ListRecords<u64>, alloc: Global, window: u64) -> Result<(), Re
     list.push(record);
     Ok(())
 }
-
-/// The windows into which lists are put, one after another.
-const WINDOWS: [u64; 5] = [7, 9, 7, 7, 9];
-
-/// A window and the serial of a list, with its place among all lists and among its window's.
-const PLACES: [(u64, u64, usize, usize); 5] = [
-    (7, 1, 0, 0),
-    (9, 2, 1, 0),
-    (7, 3, 2, 1),
-    (7, 4, 3, 2),
-    (9, 5, 4, 1),
-];
 
 /// Whether the window's list of this serial stands at this place, and there among its window's.
 fn stands(list: &ListRecords<u64>, window: u64, serial: u64, place: usize, among: usize) -> bool {

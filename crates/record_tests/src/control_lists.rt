@@ -31,11 +31,11 @@ fn add(list: &mut ControlList<u64>, window: u64) -> Result<(), Refusal> {
     Ok(())
 }
 
-/// The windows into which controls are put, one after another.
-const WINDOWS: [u64; 5] = [7, 9, 7, 7, 9];
+/// The windows into which controls are put, or lists, one after another.
+pub const WINDOWS: [u64; 5] = [7, 9, 7, 7, 9];
 
-/// A window and the serial of a control, with its place among all controls and among its window's.
-const PLACES: [(u64, u64, usize, usize); 5] = [
+/// A window and the serial of what is in it, with its place among all of that kind and among its window's.
+pub const PLACES: [(u64, u64, usize, usize); 5] = [
     (7, 1, 0, 0),
     (9, 2, 1, 0),
     (7, 3, 2, 1),

@@ -8,25 +8,16 @@ use menu_overlay::{Overlay, draw_outline};
 use std::alloc::Global;
 use std::test::Fail;
 use tb_geom::{Point, Rect, Refusal};
+use test_pixels::rect;
 
 /// The rows of the menu bar.
 const BAR: i32 = 2;
 
 /// It begins on the menu bar.
-const FRAME: Rect = Rect {
-    left: 1,
-    top: 1,
-    right: 10,
-    bottom: 6,
-};
+const FRAME: Rect = rect!(1, 1, 10, 6);
 
 /// It has two rows, and nothing between them.
-const FLAT: Rect = Rect {
-    left: 2,
-    top: 3,
-    right: 6,
-    bottom: 5,
-};
+const FLAT: Rect = rect!(2, 3, 6, 5);
 
 const BASE: [[u8; 12]; 8] = [*b"......######"; 8];
 
@@ -62,13 +53,7 @@ fn half_black(alloc: Global) -> Result<BitMap, Refusal>
         offset: Point { h: 0, v: 0 },
         mode: Mode::Copy,
     };
-    let right = Rect {
-        left: 6,
-        top: 0,
-        right: 12,
-        bottom: 8,
-    };
-    draw_rect(&mut map, right, &black);
+    draw_rect(&mut map, rect!(6, 0, 12, 8), &black);
     Ok(map)
 }
 
