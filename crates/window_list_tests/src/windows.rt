@@ -8,6 +8,7 @@ use layer_list::Layers;
 use std::alloc::Global;
 use std::test::Fail;
 use tb_geom::Refusal;
+use test_pixels::{point, rect};
 use titled_window::Titled;
 use window_list::{Heard, Placement, Ranks, Title, Window, WindowList};
 
