@@ -20,9 +20,15 @@ use std::alloc::Global;
 use std::env;
 
 const USAGE: &str =
-    "ground_bench regions ROUNDS RECTANGLES WHAT.., where WHAT is union, sect, diff, xor, copy, less, cut_to, spans, \
-     spans_up, meets, cut or none; ground_bench drawings ROUNDS WHAT.., where WHAT is union, write, read, shift, text, \
-     fill, cut, frame, image or clipped";
+    "ground_bench regions ROUNDS RECTANGLES WHAT.., or ground_bench drawings ROUNDS WHAT..";
+
+/// What is done with regions.
+const OF_REGIONS: &str =
+    "WHAT is union, sect, diff, xor, copy, less, cut_to, spans, spans_up, meets, cut or none";
+
+/// What is done by the word `drawings`.
+const OF_DRAWINGS: &str =
+    "WHAT is union, write, read, shift, text, fill, cut, frame, image or clipped";
 
 /// What the words that follow are done with.
 #[derive(Drop)]
@@ -36,7 +42,7 @@ impl Bench {
     fn measured(&self, alloc: Global, what: &str, rounds: u32) -> Result<u32> {
         Ok(match self {
             Bench::Regions(pairs) => {
-                let what = What::named(what).context(USAGE)?;
+                let what = What::named(what).context(OF_REGIONS)?;
                 pairs::all_rounds(alloc, pairs.as_slice(), what, rounds)?
             }
             Bench::Drawings => drawn(alloc, what, rounds)?,
@@ -57,7 +63,7 @@ fn drawn(alloc: Global, what: &str, rounds: u32) -> Result<u32> {
         "frame" => drawings::draw_frame(alloc, rounds)?,
         "image" => drawings::draw_image(alloc, rounds)?,
         "clipped" => drawings::fill_clipped(alloc, rounds)?,
-        _ => bail!(USAGE),
+        _ => bail!(OF_DRAWINGS),
     })
 }
 
