@@ -1,12 +1,13 @@
 //! Drawings against a plain loop over all pixels.
 use bit_blit::{Inverse, copy, draw_cut, draw_rect, fill, invert, shift};
 use bit_map::{BitImage, BitMap, Mode};
-use pixel_pictures::pixels::{Pixels, are_alike, map_of, mark, picture};
-use pixel_pictures::sheet::{MIXED, MODES, SHEET, Sheet, before, inked};
 use scan_region::{Cut, Region};
 use std::alloc::Global;
 use std::test::Fail;
 use tb_geom::{Point, Rect, Refusal};
+use test_pixels::pixels::{Pixels, are_alike, map_of, mark, picture};
+use test_pixels::sheet::{MIXED, MODES, SHEET, Sheet, before, inked};
+use test_pixels::{point, rect};
 
 /// The sheet with the region filled.
 #[derive(Drop)]
@@ -197,7 +198,7 @@ fn shifts_as_a_loop_over_the_old_bits(rt: HostRuntime) -> Result<(), Fail> {
 }
 
 /// A row whose every third pixel is black, from a first one on, and whose pixel 0 is black too.
-struct Thirds(i32);
+pub struct Thirds(pub i32);
 
 impl Pixels for Thirds {
     fn byte(&self, point: Point) -> u8 {

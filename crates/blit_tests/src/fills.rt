@@ -4,14 +4,15 @@ ghost use Rattle.draw_port.specs.Origins.{is_near_origin};
 
 use bit_map::{BitMap, Mode};
 use draw_port::{Canvas, Cut};
-use font_tests::small::SMALL;
-use pixel_pictures::pixels::{Pixels, are_alike, map_of, mark};
-use pixel_pictures::sheet::{MIXED, SHEET, Sheet, inked};
 use scan_region::Region;
 use std::alloc::Global;
 use std::test::Fail;
 use strike_font::Font;
 use tb_geom::{Point, Rect, Refusal};
+use test_pixels::pixels::{Pixels, are_alike, map_of, mark};
+use test_pixels::sheet::{MIXED, SHEET, Sheet, inked};
+use test_pixels::small::SMALL;
+use test_pixels::{point, rect};
 
 /// The cut by these regions.
 fn cut<'a>(

@@ -4,13 +4,14 @@ use bit_map::{BitMap, Mode, Pattern};
 use draw_port::{
     Bytes, Canvas, Cut, Line, Op, Picture, RowsOfBits, Shape, ShortText, TextMode, TextRun,
 };
-use font_tests::small::SMALL;
 use scan_region::Region;
-use small_images::images::{NOTHING_CUT, drawn, image_of, push, shade, shows};
 use std::alloc::Global;
 use std::test::Fail;
 use strike_font::Font;
 use tb_geom::{Point, Rect, Refusal};
+use test_pixels::images::{NOTHING_CUT, drawn, image_of, push, shade, shows};
+use test_pixels::small::SMALL;
+use test_pixels::{point, rect};
 
 /// Each mode, and the new bit where the source and the old bit are white and white, white and black, black and white,
 /// black and black.

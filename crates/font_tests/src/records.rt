@@ -1,8 +1,8 @@
 //! Which bytes are a FONT record.
-use crate::small::{SMALL, with_word};
 use std::alloc::Global;
 use strike_font::Font;
 use tb_geom::Refusal;
+use test_pixels::small::{SMALL, with_word};
 
 /// Whether the bytes are a font.
 fn judged(alloc: Global, bytes: &[u8]) -> Result<(), Refusal> {

@@ -1,11 +1,12 @@
 //! The pixels of texts, by pictures.
 ghost use Rattle.std.specs.Prelude.{◌≤◌, length};
 
-use crate::small::{SMALL, with_word};
 use std::alloc::{AllocError, Global};
 use std::test::Fail;
 use strike_font::{Font, Glyph};
 use tb_geom::{Point, Rect};
+use test_pixels::point;
+use test_pixels::small::{SMALL, with_word};
 
 /// The pixels of the sides, row by row, with a newline after each row: 1 where the text has the pixel, and 0 elsewhere.
 fn picture(

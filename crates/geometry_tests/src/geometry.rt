@@ -2,6 +2,7 @@
 
 use std::alloc::{AllocError, Global};
 use tb_geom::{Point, Rect, Refusal};
+use test_pixels::{point, rect};
 
 /// Two rectangles, the pixels of both, and the rectangle around both.
 const PAIRS: [[Rect; 4]; 8] = [

@@ -1,10 +1,11 @@
 //! Bitmaps, patterns and modes, by tables from outside.
 
 use bit_map::{BitImage, BitMap, Mode, Pattern};
-use pixel_pictures::pixels::picture;
 use std::alloc::Global;
 use std::test::Fail;
 use tb_geom::{Point, Rect, Refusal};
+use test_pixels::pixels::picture;
+use test_pixels::{point, rect};
 
 /// Each mode with its two numbers, and its new bits where the source and the old bit are white and
 /// white, white and black, black and white, black and black.

@@ -1,10 +1,11 @@
 //! Regions against slow programs over sets of single pixels.
 
-use pixel_pictures::pixels::{Pixels, is_region_of, mark, picture, pixel, region_of};
 use scan_region::{Region, Span};
 use std::alloc::{AllocError, Global};
 use std::test::Fail;
 use tb_geom::{Point, Rect, Refusal};
+use test_pixels::pixels::{Pixels, is_region_of, mark, picture, pixel, region_of};
+use test_pixels::rect;
 
 /// How two regions make a third.
 #[derive(Clone, Copy)]

@@ -8,26 +8,5 @@
 //! lists of these tests, and changes the layers of a window.
 #![tactic(auto)]
 
-/// A rectangle, by its left side, its top, its right side and its bottom.
-#[cfg(test)]
-macro_rules! rect {
-    ($left:expr, $top:expr, $right:expr, $bottom:expr) => {
-        tb_geom::Rect {
-            left: $left,
-            top: $top,
-            right: $right,
-            bottom: $bottom,
-        }
-    };
-}
-
-/// A point, by its column and its row.
-#[cfg(test)]
-macro_rules! point {
-    ($h:expr, $v:expr) => {
-        tb_geom::Point { h: $h, v: $v }
-    };
-}
-
 #[cfg(test)]
 mod followed;

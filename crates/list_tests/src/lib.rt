@@ -6,27 +6,6 @@
 //! and turns their selection by the library, and `shown` has the tests.
 #![tactic(auto)]
 
-/// A rectangle, by its left side, its top, its right side and its bottom.
-#[cfg(test)]
-macro_rules! rect {
-    ($left:expr, $top:expr, $right:expr, $bottom:expr) => {
-        tb_geom::Rect {
-            left: $left,
-            top: $top,
-            right: $right,
-            bottom: $bottom,
-        }
-    };
-}
-
-/// A point, by its column and its row.
-#[cfg(test)]
-macro_rules! point {
-    ($h:expr, $v:expr) => {
-        tb_geom::Point { h: $h, v: $v }
-    };
-}
-
 #[cfg(test)]
 mod listed;
 #[cfg(test)]

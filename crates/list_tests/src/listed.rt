@@ -12,6 +12,7 @@ use list_view::{Axis, ListView};
 use std::alloc::Global;
 use strike_font::Font;
 use tb_geom::{Point, Rect, Refusal};
+use test_pixels::{point, rect};
 
 /// All pixels.
 pub const NOTHING_CUT: Cut<'static> = Cut {

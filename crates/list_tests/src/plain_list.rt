@@ -9,6 +9,7 @@ use list_cells::{Cell, ListCells};
 use std::alloc::Global;
 use strike_font::Font;
 use tb_geom::{Point, Rect, Refusal};
+use test_pixels::{point, rect};
 
 /// A view, by plain numbers: where it lies in the window, how large it and its cells are, and which cell lies in its corner.
 #[derive(Clone, Copy)]

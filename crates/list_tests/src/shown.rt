@@ -3,11 +3,12 @@
 use crate::listed::{By, Change, empty_cells, paint, text_cells, told, turn, view};
 use crate::plain_list::{PlainView, black_map, plain_map};
 use list_cells::{Cell, ClickKeys};
-use pixel_pictures::pixels::{are_alike, picture};
 use std::test::Fail;
 use std_mldef::StdList;
 use strike_font::Font;
 use tb_geom::Rect;
+use test_pixels::pixels::{are_alike, picture};
+use test_pixels::{point, rect};
 
 /// A view: its left side and its top, its size, that of a cell, and the column and the row in its corner.
 macro_rules! plain {

@@ -1,30 +1,12 @@
-//! What no clause says of the operations of `draw_port`, by tests: that they are drawn where memory is not refused, and that the
-//! words of the contracts are QuickDraw's. Expected images are written by hand, and never come from the library.
+//! What no clause says of the operations of `draw_port` and of `op_ref`, by tests: that they are drawn where memory is not refused,
+//! and that the words of the contracts are QuickDraw's. Expected values are images and a table of refusals written by hand, and
+//! never come from the libraries.
 //!
-//! The crate `small_images` has what the operations are drawn on. The crate `canvas_tests` tests the calls of a canvas and of
-//! pictures.
+//! `operations` tests those of `draw_port`, and `given` those of `op_ref`, as calls carry them. The crate `test_pixels` has what
+//! the operations are drawn on. The crate `canvas_tests` tests the calls of a canvas and of pictures.
 #![tactic(auto)]
 
-/// A rectangle, by its left side, its top, its right side and its bottom.
 #[cfg(test)]
-macro_rules! rect {
-    ($left:expr, $top:expr, $right:expr, $bottom:expr) => {
-        tb_geom::Rect {
-            left: $left,
-            top: $top,
-            right: $right,
-            bottom: $bottom,
-        }
-    };
-}
-
-/// A point, by its column and its row.
-#[cfg(test)]
-macro_rules! point {
-    ($h:expr, $v:expr) => {
-        tb_geom::Point { h: $h, v: $v }
-    };
-}
-
+mod given;
 #[cfg(test)]
 mod operations;

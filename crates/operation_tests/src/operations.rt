@@ -2,13 +2,14 @@
 
 use bit_map::{Mode, Pattern};
 use draw_port::{Bytes, Line, Op, Picture, RowsOfBits, Shape, ShortText, TextMode, TextRun};
-use font_tests::small::SMALL;
 use scan_region::Region;
-use small_images::images::{drawn, push, shade, shows};
 use std::alloc::{AllocError, Global};
 use std::test::Fail;
 use strike_font::Font;
 use tb_geom::{Point, Refusal};
+use test_pixels::images::{drawn, push, shade, shows};
+use test_pixels::small::SMALL;
+use test_pixels::{point, rect};
 
 /// The image of two shapes without a clip, the second over the first.
 fn one_over_another(alloc: Global, first: Shape, second: Shape) -> Result<Vec<u8>, Refusal> {

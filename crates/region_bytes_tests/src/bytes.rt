@@ -1,9 +1,9 @@
 //! Region bytes read in place, against a reader that counts inversion points.
-use pixel_pictures::pixels::{Pixels, are_alike, mark, picture};
 use region_bytes::{Form, RegionBytes};
 use std::alloc::{AllocError, Global};
 use std::test::Fail;
 use tb_geom::{Point, Rect, Refusal};
+use test_pixels::pixels::{Pixels, are_alike, mark, picture};
 
 /// The rectangle l2 t1 r5 b4.
 const RECTANGLE: &[u8] = &[0, 0x0A, 0, 1, 0, 2, 0, 4, 0, 5];

@@ -2,7 +2,7 @@
 //! the contracts are those of QuickDraw's regions. Expected values are pictures and tables written by hand, or come from slow
 //! readers that count inversion points, and never from the libraries.
 //!
-//! `bytes` tests `region_bytes`, and `written` tests the bytes that `scan_region` reads and writes. The crate `pixel_pictures`
+//! `bytes` tests `region_bytes`, and `written` tests the bytes that `scan_region` reads and writes. The crate `test_pixels`
 //! has what they compare with.
 #![tactic(auto)]
 

@@ -2,15 +2,15 @@
 //! which of several faults ends it, and that its stock has had a definition taken once the window's line was answered.
 ghost use Rattle.std.specs.Prelude.{⊤};
 
+use crate::paper::Paper;
+use crate::script::Script;
 use def_iface::{Stock, WindowDef};
-use font_tests::small::SMALL;
 use script_runner::{Choices, Opener, OptionsError, run_chosen};
 use std::alloc::{AllocError, Global};
 use std::test::Fail;
 use std_wdef::{StdWindow, Variation};
-use stream_tests::paper::Paper;
-use stream_tests::script::Script;
 use tb_geom::Refusal;
+use test_pixels::small::SMALL;
 use watched_io::{WatchedReader, WatchedWriter};
 
 /// A script that draws a text.

@@ -11,6 +11,7 @@ use std::test::Fail;
 use std_wdef::{NotchedWindow, StdWindow, Variation};
 use strike_font::Font;
 use tb_geom::{Rect, Refusal};
+use test_pixels::rect;
 
 /// All pixels.
 const NOTHING_CUT: Cut<'static> = Cut {

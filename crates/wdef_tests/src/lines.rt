@@ -3,6 +3,7 @@
 use def_iface::{NO_LINE, Size, WindowDef};
 use std_wdef::{NotchedWindow, StdWindow, Variation};
 use tb_geom::{Point, Rect};
+use test_pixels::{point, rect};
 
 const SIZE: Size = Size {
     width: 60,

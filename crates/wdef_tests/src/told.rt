@@ -4,6 +4,7 @@ use def_iface::{Hit, Size, WindowChange, WindowDef};
 use std::test::Fail;
 use std_wdef::{NotchedWindow, StdWindow, Variation};
 use tb_geom::Point;
+use test_pixels::{point, rect};
 
 const SIZE: Size = Size {
     width: 60,

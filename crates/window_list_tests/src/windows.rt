@@ -8,6 +8,7 @@ use layer_list::Layers;
 use std::alloc::Global;
 use std::test::Fail;
 use tb_geom::Refusal;
+use test_pixels::{point, rect};
 use titled_window::Titled;
 use window_list::{Heard, Placement, Ranks, Title, Window, WindowList};
 
@@ -144,14 +145,15 @@ fn reorder(windows: &mut WindowList, from: usize, last: usize) -> Result<Window,
     Ok(windows.remove(last))
 }
 
-/// Puts so many definitions of windows with a title into a stock.
-fn fill(stock: &mut WindowStock, alloc: Global, count: u32) -> Result<(), Fail> {
+/// A stock of so many definitions of windows with a title.
+fn filled(alloc: Global, count: u32) -> Result<WindowStock, Fail> {
+    let mut stock = WindowStock::new(alloc);
     for _ in 0..count {
         let Ok(()) = stock.add(b"titled", Box::new(alloc, Titled::new())?) else {
             return Err(Fail::from(Refusal::NoMemory));
         };
     }
-    Ok(())
+    Ok(stock)
 }
 
 /// A definition out of the stock, begun at the size.
@@ -171,8 +173,7 @@ fn begun(stock: &mut WindowStock) -> Result<Taken, Refusal>
 #[test]
 fn windows_lie_from_front_to_back(rt: HostRuntime) -> Result<(), Fail> {
     let alloc = rt.alloc();
-    let mut stock = WindowStock::new(alloc);
-    fill(&mut stock, alloc, 3)?;
+    let mut stock = filled(alloc, 3)?;
     let mut windows = WindowList::new(Ranks::new(alloc));
     assert!(rt; windows.active().is_none() && windows.next() == Some(1));
     for shown in [true, true, false] {
@@ -198,8 +199,7 @@ fn windows_lie_from_front_to_back(rt: HostRuntime) -> Result<(), Fail> {
 #[test]
 fn floating_windows_lie_in_front(rt: HostRuntime) -> Result<(), Fail> {
     let alloc = rt.alloc();
-    let mut stock = WindowStock::new(alloc);
-    fill(&mut stock, alloc, 4)?;
+    let mut stock = filled(alloc, 4)?;
     let mut windows = WindowList::new(Ranks::new(alloc));
     for floating in [true, false, true, false] {
         let taken = begun(&mut stock)?;
@@ -220,8 +220,7 @@ fn floating_windows_lie_in_front(rt: HostRuntime) -> Result<(), Fail> {
 #[test]
 fn a_windows_box_comes_out(rt: HostRuntime) -> Result<(), Fail> {
     let alloc = rt.alloc();
-    let mut stock = WindowStock::new(alloc);
-    fill(&mut stock, alloc, 1)?;
+    let mut stock = filled(alloc, 1)?;
     let mut windows = WindowList::new(Ranks::new(alloc));
     let taken = begun(&mut stock)?;
     windows.reserve()?;
@@ -235,8 +234,7 @@ fn a_windows_box_comes_out(rt: HostRuntime) -> Result<(), Fail> {
 #[test]
 fn a_window_is_given_a_size_where_it_lies(rt: HostRuntime) -> Result<(), Fail> {
     let alloc = rt.alloc();
-    let mut stock = WindowStock::new(alloc);
-    fill(&mut stock, alloc, 1)?;
+    let mut stock = filled(alloc, 1)?;
     let mut windows = WindowList::new(Ranks::new(alloc));
     let taken = begun(&mut stock)?;
     assert!(rt; WIDE.is_in_range() && taken.bounds(WIDE).is_in_range());
@@ -258,8 +256,7 @@ fn a_window_is_given_a_size_where_it_lies(rt: HostRuntime) -> Result<(), Fail> {
 #[test]
 fn a_window_is_told_its_title_where_it_lies(rt: HostRuntime) -> Result<(), Fail> {
     let alloc = rt.alloc();
-    let mut stock = WindowStock::new(alloc);
-    fill(&mut stock, alloc, 1)?;
+    let mut stock = filled(alloc, 1)?;
     let mut windows = WindowList::new(Ranks::new(alloc));
     let taken = begun(&mut stock)?;
     windows.reserve()?;
@@ -274,8 +271,7 @@ fn a_window_is_told_its_title_where_it_lies(rt: HostRuntime) -> Result<(), Fail>
 #[test]
 fn a_window_is_told_its_highlighting_where_it_lies(rt: HostRuntime) -> Result<(), Fail> {
     let alloc = rt.alloc();
-    let mut stock = WindowStock::new(alloc);
-    fill(&mut stock, alloc, 1)?;
+    let mut stock = filled(alloc, 1)?;
     let mut windows = WindowList::new(Ranks::new(alloc));
     let taken = begun(&mut stock)?;
     windows.reserve()?;

@@ -4,13 +4,14 @@ ghost use Rattle.def_iface.specs.Meaning.{is_fitting};
 
 use def_iface::{Defined, Hit, Size, Stage, Taken, WindowDef, WindowRegions, WindowStock};
 use draw_port::{Canvas, Cut};
-use pixel_pictures::pixels::{Pixels, map_of, mark, picture};
 use scan_region::Region;
 use std::alloc::Global;
 use std::test::Fail;
 use std_wdef::{StdWindow, Variation};
 use strike_font::Font;
 use tb_geom::{Point, Rect, Refusal};
+use test_pixels::pixels::{Pixels, map_of, mark, picture};
+use test_pixels::{point, rect};
 use titled_window::Titled;
 
 /// Sizes, and whether a window may have them.
