@@ -5,7 +5,7 @@ import select
 import shutil
 import subprocess
 
-from place import TOP, same
+from place import same
 from terminal_kit import SECONDS, Terminal
 
 SCRIPT = b"""# A desk of 8 by 8.
