@@ -3,11 +3,11 @@
 use bit_map::{Mode, Pattern};
 use draw_port::{Picture, TextMode};
 use font_tests::small::SMALL;
-use op_ref::{BitsRef, BytesRef, LineRef, OpRef, ShapeRef, TextRef};
+use lent_ops::{BitsRef, LineRef, OpRef, ShapeRef, TextRef};
 use small_images::images::{drawn, shade, shows};
 use std::test::Fail;
 use strike_font::Font;
-use tb_geom::Refusal;
+use tb_geom::{BytesRef, Refusal};
 
 /// The bytes of the rectangle with left 6, top 0, right 8 and bottom 2.
 const CORNER: [u8; 10] = [0, 10, 0, 0, 0, 6, 0, 2, 0, 8];

@@ -1,4 +1,4 @@
-//! What no clause says of `op_ref`, by tests: that operations as calls carry them are drawn where memory is not refused, and that
+//! What no clause says of `lent_ops`, by tests: that operations as calls carry them are drawn where memory is not refused, and that
 //! the words of the contracts are QuickDraw's. Expected values are an image and a table of refusals written by hand, and never come
 //! from the library.
 //!
