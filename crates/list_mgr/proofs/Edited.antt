@@ -6,9 +6,10 @@ use Rattle.std.specs.Option.{option_and_then}
 use Rattle.std.proofs.lemmas.List.Elements.{All-cons, All-head, All-tail, All-weaker}
 use Rattle.def_iface.specs.ListMeaning.{ListDefinition, ListLoan}
 use Rattle.layer_list.specs.declared.layer.Layer.{Layer}
-use Rattle.list_records.specs.declared.list_record.ListRecord.{ListRecord}
-use Rattle.list_records.specs.Lists.{are_before, count_of, edit_at, has_serial, is_before, is_in_at, lists_of}
-use Rattle.list_records.proofs.WindowLemmas.{lists_of-edit_at, lists_of-edit_at_other}
+use Rattle.window_items.specs.declared.item.Item.{Item}
+use Rattle.list_mgr.specs.declared.list_record.ListRecord.{ListRecord}
+use Rattle.window_items.specs.Items.{are_before, count_of, edit_at, has_serial, is_before, is_in_at, items_of}
+use Rattle.window_items.proofs.WindowLemmas.{items_of-edit_at, items_of-edit_at_other}
 use Rattle.vis_update.specs.Records.{WindowRecord}
 use Rattle.window_mgr.specs.Refused.{is_missing}
 use Rattle.control_mgr.specs.InUse.{AreStocked}
@@ -74,19 +75,19 @@ zip-edit f (suc i) (x ∷ xs) (k ∷ ks) h same = (h.0, zip-edit f i xs ks h.1 s
 pub record Keeps (f : KeptList → KeptList) : Type 0 where
   pub serial : (x : KeptList) → (f x).serial ≡ x.serial
   pub window : (x : KeptList) → (f x).window ≡ x.window
-  pub definition : (x : KeptList) → (f x).definition ≡ x.definition
+  pub definition : (x : KeptList) → (f x).kept.definition ≡ x.kept.definition
   pub layer : (x : KeptList) (k : Layer) → IsLayerOf x k → IsLayerOf (f x) k
 
 -- the layers of each window are its lists' as before
-joined_edit : (f : KeptList → KeptList) → Keeps f → (at : ℕ) (ls : List KeptList) (ws : List WindowRecord) → All (λ w. AreListLayers (lists_of w.serial ls) w.layers) ws
-    → All (λ w. AreListLayers (lists_of w.serial (edit_at f at ls)) w.layers) ws
+joined_edit : (f : KeptList → KeptList) → Keeps f → (at : ℕ) (ls : List KeptList) (ws : List WindowRecord) → All (λ w. AreListLayers (items_of w.serial ls) w.layers) ws
+    → All (λ w. AreListLayers (items_of w.serial (edit_at f at ls)) w.layers) ws
 joined_edit f keeps at ls ws joined =
-    All-weaker (λ (w : WindowRecord). AreListLayers (lists_of w.serial ls) w.layers) (λ (w : WindowRecord). AreListLayers (lists_of w.serial (edit_at f at ls)) w.layers)
+    All-weaker (λ (w : WindowRecord). AreListLayers (items_of w.serial ls) w.layers) (λ (w : WindowRecord). AreListLayers (items_of w.serial (edit_at f at ls)) w.layers)
     (λ w h. by_test w h (is_in_at w.serial at ls) refl) ws joined
   where
-    by_test : (w : WindowRecord) → AreListLayers (lists_of w.serial ls) w.layers → (b : Bool) → is_in_at w.serial at ls ≡ b → AreListLayers (lists_of w.serial (edit_at f at ls)) w.layers
-    by_test w h true e = subst (λ xs. AreListLayers xs w.layers) (sym (lists_of-edit_at f keeps.window w.serial at ls e)) (zip-edit f _ (lists_of w.serial ls) _ h keeps.layer)
-    by_test w h false e = subst (λ xs. AreListLayers xs w.layers) (sym (lists_of-edit_at_other f keeps.window w.serial at ls e)) h
+    by_test : (w : WindowRecord) → AreListLayers (items_of w.serial ls) w.layers → (b : Bool) → is_in_at w.serial at ls ≡ b → AreListLayers (items_of w.serial (edit_at f at ls)) w.layers
+    by_test w h true e = subst (λ xs. AreListLayers xs w.layers) (sym (items_of-edit_at f keeps.window w.serial at ls e)) (zip-edit f _ (items_of w.serial ls) _ h keeps.layer)
+    by_test w h false e = subst (λ xs. AreListLayers xs w.layers) (sym (items_of-edit_at_other f keeps.window w.serial at ls e)) h
 
 -- a list that is named is settled where all are
 pub named_settled : (l : ListOf) (ls : List KeptList) (x : KeptList) → AreSettled ls → list_of l ls ≡ Some x → IsSettledList x
@@ -117,5 +118,5 @@ whole_edited f keeps at ws state whole stays = record {
   somewhere = All-edit (λ (x : KeptList). is_missing x.window ws ≡ false) f at state.lists whole.somewhere
       (λ x e. ap (λ w. is_missing w ws) (keeps.window x) ∙ All-there (λ (y : KeptList). is_missing y.window ws ≡ false) at state.lists x e whole.somewhere);
   joined = joined_edit f keeps at state.lists ws whole.joined;
-  stocked = subst (λ ns. AreStocked (λ (d : ListDefinition). d.stage) ns state.stock) (sym (map-edit (λ (x : KeptList). x.definition.slot) f (λ x. ap (λ (d : ListLoan). d.slot) (keeps.definition x)) at state.lists)) whole.stocked;
+  stocked = subst (λ ns. AreStocked (λ (d : ListDefinition). d.stage) ns state.stock) (sym (map-edit (λ (x : KeptList). x.kept.definition.slot) f (λ x. ap (λ (d : ListLoan). d.slot) (keeps.definition x)) at state.lists)) whole.stocked;
 }
