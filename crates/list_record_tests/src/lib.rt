@@ -1,7 +1,5 @@
-//! What no clause says of `list_view` and `list_records`, by tests: that calls succeed where memory is not refused, and that the
-//! words of the contracts are the List Manager's. Expected values are tables written by hand, and never come from the libraries.
-//!
-//! `views` tests `list_view`, and `records` tests `list_records`.
+//! What no clause says of `list_view`, by tests: that calls succeed where memory is not refused, and that the words of the
+//! contracts are the List Manager's. Expected values are tables written by hand, and never come from the libraries.
 #![tactic(auto)]
 
 /// A cell, by its column and its row.
@@ -15,7 +13,5 @@ macro_rules! cell {
     };
 }
 
-#[cfg(test)]
-mod records;
 #[cfg(test)]
 mod views;
