@@ -39,7 +39,6 @@ use Rattle.control_mgr.specs.Spots.{with_lie, with_state}
 use Rattle.control_mgr.specs.WholeControls.{AreWholeControls}
 use Rattle.control_mgr.proofs.Added.{or_parts}
 use Rattle.control_mgr.proofs.Disposed.{whole_ended}
-use Rattle.control_mgr.proofs.Edited.{All-there}
 use Rattle.control_mgr.proofs.Lays.{lie_parts}
 use Rattle.control_mgr.proofs.Made.{whole_made}
 use Rattle.control_mgr.proofs.Moves.{lie_of}
@@ -47,6 +46,7 @@ use Rattle.control_mgr.proofs.Settled.{MayBeSo, changed_alike, settled_told, who
 use Rattle.control_mgr.proofs.Sets.{state_of_control}
 use Rattle.control_mgr.proofs.Sound.{MayHave, after_shows, found_shows, maximum_given, minimum_given, part_shows, released_given, setting_given, value_given}
 use Rattle.control_mgr.proofs.Steps.{none_hold}
+use Rattle.window_items.proofs.EditLemmas.{All-there}
 
 -- ---- reasons that do not hold
 

@@ -49,13 +49,14 @@ use Rattle.control_mgr.specs.Settled.{AreSettled, IsSettledControl}
 use Rattle.control_mgr.specs.Spots.{IsSpotOf}
 use Rattle.control_mgr.specs.WholeControls.{AreControlsApart, AreWholeControls, LeavesOver, control_desk, controls_state, records_of, slots_of}
 use Rattle.control_mgr.proofs.Added.{or_parts}
-use Rattle.control_mgr.proofs.Edited.{All-remove, All-there, AreNoControls, begin_remove, behind_removed, map-remove}
+use Rattle.control_mgr.proofs.Edited.{AreNoControls, begin_remove, behind_removed}
 use Rattle.control_mgr.proofs.LayerOut.{all-remove}
 use Rattle.control_mgr.proofs.Places.{at_window, in_its_window, layer_there, layers_named, read_is, record_there, there_is, within}
 use Rattle.control_mgr.proofs.Reshown.{alone, set_among}
 use Rattle.control_mgr.proofs.Settled.{AreJoined, joined_laid, somewhere_laid}
 use Rattle.control_mgr.proofs.Steps.{nothing_missing}
 use Rattle.control_mgr.proofs.Stocks.{slot_is_left, slot_of, stocked_without}
+use Rattle.window_items.proofs.EditLemmas.{All-remove, All-there, map-remove}
 
 -- ---- one taken out
 

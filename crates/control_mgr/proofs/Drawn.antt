@@ -19,9 +19,9 @@ use Rattle.def_iface.specs.ControlNews.{no_control_news}
 use Rattle.window_paint.proofs.PictureLemmas.{minus_twice}
 use Rattle.control_mgr.specs.ControlDesks.{control_bit}
 use Rattle.control_mgr.specs.Settled.{AreSettled, IsSettledControl}
-use Rattle.control_mgr.proofs.Edited.{All-there}
 use Rattle.control_mgr.proofs.Places.{get_is}
 use Rattle.control_mgr.proofs.Reshown.{alone}
+use Rattle.window_items.proofs.EditLemmas.{All-there}
 
 module _ {B : Type 0} (meaning : B → ControlLoan) where
   -- the control that is read at a place, as it is seen

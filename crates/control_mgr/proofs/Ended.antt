@@ -23,8 +23,8 @@ use Rattle.control_mgr.specs.ControlDesks.{ControlRecord, ControlSlot, ControlsS
 use Rattle.control_mgr.specs.ControlSteps.{IsControlShut}
 use Rattle.control_mgr.specs.InUse.{AreStocked}
 use Rattle.control_mgr.specs.WholeControls.{AreControlsApart, AreLiveControls, slots_of}
-use Rattle.control_mgr.proofs.Edited.{All-remove, All-there, map-remove}
 use Rattle.control_mgr.proofs.Stocks.{IsEmptyFor, Shut, full_where_unused, shut_facts, slot_is_left, slot_of, stocked_without}
+use Rattle.window_items.proofs.EditLemmas.{All-remove, All-there, map-remove}
 
 abbrev stage_of : ControlDefinition → Stage
 stage_of d = d.stage

@@ -59,9 +59,9 @@ use Rattle.control_mgr.specs.Judged.{part_tested}
 use Rattle.control_mgr.specs.Settled.{AreSettled, IsSettledControl}
 use Rattle.control_mgr.specs.Spots.{IsSpotOf}
 use Rattle.control_mgr.specs.WholeControls.{LeavesControls, records_of}
-use Rattle.control_mgr.proofs.Edited.{All-there}
 use Rattle.control_mgr.proofs.Places.{record_read}
 use Rattle.control_mgr.proofs.Steps.{desk_seen, first_fails, one_fails, one_holds, other_reasons, refused, told, unchanged}
+use Rattle.window_items.proofs.EditLemmas.{All-there}
 
 -- there and back again
 way_back : (a b : ℤ) → (a +ℤ b) -ℤ a ≡ b

@@ -51,7 +51,7 @@ use Rattle.control_mgr.specs.Laying.{IsShapeOf, MayLie, MayLieSo}
 use Rattle.control_mgr.specs.Settled.{AreSettled, IsSettledControl}
 use Rattle.control_mgr.specs.Spots.{IsSpot, IsSpotOf, IsTellable, with_lie}
 use Rattle.control_mgr.specs.WholeControls.{AreBeside, AreWholeControls, LeavesControls, controls_state, records_of}
-use Rattle.control_mgr.proofs.Edited.{All-there, AreNoControls, begin_reshape, behind_reshaped, edit_twice, there_edited}
+use Rattle.control_mgr.proofs.Edited.{AreNoControls, begin_reshape, behind_reshaped}
 use Rattle.control_mgr.proofs.Puts.{changed_then_told}
 use Rattle.control_mgr.proofs.Settled.{AreJoined, MayBeSo, changed_settled, laid_layer, retold, whole_laid}
 use Rattle.control_mgr.proofs.Places.{ItsLayer, at_window, in_its_window, layer_there, layers_named, names, read_is, record_read, record_there, there_is, within}
@@ -59,6 +59,7 @@ use Rattle.control_mgr.proofs.Reshown.{alone, one_control, set_among}
 use Rattle.window_items.specs.declared.items.Items.{Items}
 use Rattle.window_items.specs.Lends.{with_value}
 use Rattle.window_items.proofs.LentLemmas.{lent_and_written}
+use Rattle.window_items.proofs.EditLemmas.{All-there, edit_twice, there_edited}
 
 -- ---- where a control may lie
 

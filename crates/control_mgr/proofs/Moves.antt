@@ -44,11 +44,11 @@ use Rattle.control_mgr.specs.Laying.{IsLaidOrShort, MayLie, shown_call}
 use Rattle.control_mgr.specs.Settled.{IsSettledControl}
 use Rattle.control_mgr.specs.Spots.{IsSpotOf, with_lie}
 use Rattle.control_mgr.specs.WholeControls.{AreBeside, LeavesControls, control_desk, controls_state, records_of}
-use Rattle.control_mgr.proofs.Edited.{All-there}
 use Rattle.control_mgr.proofs.Places.{at_window, layer_there, record_there}
 use Rattle.control_mgr.proofs.Sets.{named_here}
 use Rattle.control_mgr.proofs.Settled.{changed_alike}
 use Rattle.control_mgr.proofs.Steps.{desk_seen, nothing_missing}
+use Rattle.window_items.proofs.EditLemmas.{All-there}
 
 -- how a control lies
 abbrev pub lie_of : ControlRecord → Lie

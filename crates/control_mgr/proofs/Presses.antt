@@ -41,11 +41,11 @@ use Rattle.control_mgr.specs.Damages.{IsPut, IsWhereRight}
 use Rattle.control_mgr.specs.Judged.{part_tested}
 use Rattle.control_mgr.specs.Spots.{IsSpotOf, opened, with_state}
 use Rattle.control_mgr.specs.WholeControls.{AreBeside, IsTrackable, LeavesControls, control_desk, records_of}
-use Rattle.control_mgr.proofs.Edited.{All-there}
 use Rattle.control_mgr.proofs.Places.{found_names}
 use Rattle.control_mgr.proofs.Sets.{highlight_agrees, state_of_control, state_read}
 use Rattle.control_mgr.proofs.Settled.{retold}
 use Rattle.control_mgr.proofs.Steps.{none_missing, one_fails, other_reasons, put_alike, unchanged}
+use Rattle.window_items.proofs.EditLemmas.{All-there}
 
 -- nothing is open
 abbrev pub idle_now : Opened

@@ -36,7 +36,6 @@ use Rattle.control_mgr.specs.Damages.{IsDamageAt, IsDamageOf, IsPut}
 use Rattle.control_mgr.specs.Settled.{AreSettled, IsSettledControl}
 use Rattle.control_mgr.specs.Spots.{IsSpot, IsSpotOf, IsTellable, with_state}
 use Rattle.control_mgr.specs.WholeControls.{AreBeside, AreWholeControls, LeavesControls, control_desk, controls_state, records_of}
-use Rattle.control_mgr.proofs.Edited.{All-there, edit_alike, edit_twice, there_edited}
 use Rattle.control_mgr.proofs.Settled.{changed_settled, retold, whole_put}
 use Rattle.control_mgr.proofs.Sound.{MayHave}
 use Rattle.control_mgr.proofs.Places.{IsThere, ItsLayer, layer_there, names, read_is, record_there, there_is, within}
@@ -45,6 +44,7 @@ use Rattle.control_mgr.proofs.Serials.{with_there}
 use Rattle.window_items.specs.declared.items.Items.{Items}
 use Rattle.window_items.specs.Lends.{with_value}
 use Rattle.window_items.proofs.LentLemmas.{lent_and_written}
+use Rattle.window_items.proofs.EditLemmas.{All-there, edit_alike, edit_twice, there_edited}
 
 -- ---- what the list has after a control that was lent
 

@@ -31,8 +31,9 @@ use Rattle.control_mgr.specs.Laying.{IsShapeOf}
 use Rattle.control_mgr.specs.Spots.{with_lie, with_state}
 use Rattle.control_mgr.specs.Settled.{AreSettled, IsSettledControl, MayHaveSetting}
 use Rattle.control_mgr.specs.WholeControls.{AreControlsApart, AreWholeControls, slots_of}
-use Rattle.control_mgr.proofs.Edited.{All-edit, All-there, AreNoControls, any-edit, begin_edit, edit_alike, map-edit}
+use Rattle.control_mgr.proofs.Edited.{AreNoControls, begin_edit}
 use Rattle.control_mgr.proofs.Sound.{MayHave}
+use Rattle.window_items.proofs.EditLemmas.{All-edit, All-there, any-edit, edit_alike, map-edit, before-edit, count-edit}
 
 -- ---- one control
 
@@ -97,20 +98,10 @@ changed_settled f at before after settled may changed =
     (λ c e. subst (λ x. IsSettledControl (retold f changed.definition x)) (sym (same_there before at changed.control c changed.there e))
     (settled_told (f changed.control) changed.control.kept.definition.definition changed.definition changed.control.kept.definition.slot (may changed.control changed.there) changed.told)))
 
-before-edit : (next : Option ℕ) (f : ControlRecord → ControlRecord) → ((c : ControlRecord) → (f c).serial ≡ c.serial) → (i : ℕ) (cs : List ControlRecord) → are_before next (edit_at f i cs) ≡ are_before next cs
-before-edit next f same i [] = refl
-before-edit next f same zero (c ∷ cs) = ap (λ s. is_before next s && are_before next cs) (same c)
-before-edit next f same (suc i) (c ∷ cs) = ap (λ b. is_before next c.serial && b) (before-edit next f same i cs)
-
 apart-edit : (f : ControlRecord → ControlRecord) → ((c : ControlRecord) → (f c).serial ≡ c.serial) → (i : ℕ) (cs : List ControlRecord) → AreControlsApart cs → AreControlsApart (edit_at f i cs)
 apart-edit f same i [] h = tt
 apart-edit f same zero (c ∷ cs) h = (ap (λ s. list_any (has_serial s) cs) (same c) ∙ h.0, h.1)
 apart-edit f same (suc i) (c ∷ cs) h = (any-edit c.serial f same i cs ∙ h.0, apart-edit f same i cs h.1)
-
-count-edit : (f : ControlRecord → ControlRecord) → ((c : ControlRecord) → (f c).window ≡ c.window) → (t i : ℕ) (cs : List ControlRecord) → count_of t (edit_at f i cs) ≡ count_of t cs
-count-edit f same t i [] = refl
-count-edit f same t zero (c ∷ cs) = ap (λ w. cond (w == t) (suc (count_of t cs)) (count_of t cs)) (same c)
-count-edit f same t (suc i) (c ∷ cs) = ap (λ n. cond (c.window == t) (suc n) n) (count-edit f same t i cs)
 
 -- ---- windows
 

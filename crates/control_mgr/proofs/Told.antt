@@ -22,10 +22,10 @@ use Rattle.control_mgr.specs.ControlDesks.{ControlRecord, news_of_control}
 use Rattle.control_mgr.specs.ControlSteps.{IsChangedAt}
 use Rattle.control_mgr.specs.Damages.{IsDamageAt, IsDamageOf}
 use Rattle.window_paint.proofs.FrameLemmas.{inside_is_point, shared_is}
-use Rattle.control_mgr.proofs.Edited.{edit_alike}
 use Rattle.control_mgr.proofs.Places.{record_read}
 use Rattle.control_mgr.proofs.Settled.{retold}
 use Rattle.window_items.specs.Items.{with_kept}
+use Rattle.window_items.proofs.EditLemmas.{edit_alike}
 
 -- a title that is told is the control's
 pub heard_title : (size : Size) (title told : List ℕ) (setting : Setting) (h : ℕ) (old new : ControlDefinition) → told ≡ title

@@ -15,8 +15,8 @@ use Rattle.control_mgr.specs.ControlSteps.{dragged, is_in_part, is_part, is_thum
 use Rattle.control_mgr.specs.Judged.{is_within, part_tested}
 use Rattle.control_mgr.specs.Settled.{AreSettled, IsSettledControl}
 use Rattle.control_mgr.specs.WholeControls.{records_of}
-use Rattle.control_mgr.proofs.Edited.{All-there}
 use Rattle.control_mgr.proofs.Places.{record_read}
+use Rattle.window_items.proofs.EditLemmas.{All-there}
 
 -- ---- a control as the code reads it
 

@@ -49,11 +49,11 @@ use Rattle.list_mgr.specs.ListSteps.{IsChangedTo, IsLayerMarked, IsListChanged, 
 use Rattle.list_mgr.specs.Spots.{IsSpot, IsSpotOf}
 use Rattle.list_mgr.specs.WholeLists.{AreBeside, AreWholeLists, IsChangedOver, IsSettledList, list_desk, lists_state, records_of}
 use Rattle.list_mgr.specs.Within.{IsSameOutside, IsWhereRight}
-use Rattle.list_mgr.proofs.Drawn.{All-there}
-use Rattle.list_mgr.proofs.Edited.{Keeps, edit_alike, edit_nothing, there_edited, whole_edited}
+use Rattle.list_mgr.proofs.Edited.{Keeps, whole_edited}
 use Rattle.list_mgr.proofs.ListsFound.{with_own}
 use Rattle.list_mgr.proofs.Places.{found_names}
 use Rattle.list_mgr.proofs.Steps.{IsTold, list_named, list_there}
+use Rattle.window_items.proofs.EditLemmas.{All-there, edit_alike, edit_nothing, there_edited}
 
 pub same_item : (ls : List KeptList) (at : ℕ) (x y : KeptList) → slice_get ls at ≡ Some x → slice_get ls at ≡ Some y → x ≡ y
 same_item ls at x y e f = let both : Some x ≡ Some y = sym e ∙ f in cc

@@ -20,6 +20,7 @@ use Rattle.def_iface.specs.ListMeaning.{ListLoan}
 use Rattle.control_mgr.proofs.Places.{get_is}
 use Rattle.list_mgr.specs.ListDesks.{KeptList, list_bit, lists_show}
 use Rattle.list_mgr.specs.WholeLists.{AreSettled, IsSettledList}
+use Rattle.window_items.proofs.EditLemmas.{All-there}
 
 -- ---- what is told of a settled list
 
@@ -43,12 +44,6 @@ told_fits l settled =
     ap is_control_size settled.told
     ∙ ap (λ b. b && is_control_extent l.kept.view.down.cell) (extent_of l.kept.view.across.cell settled.view.across.cell_some settled.view.across.cell_short)
     ∙ extent_of l.kept.view.down.cell settled.view.down.cell_some settled.view.down.cell_short
-
-module _ {D : Type 0} (P : ListRecord D → Type 0) where
-  pub All-there : (i : ℕ) (xs : List (ListRecord D)) (x : ListRecord D) → slice_get xs i ≡ Some x → All P xs → P x
-  All-there i [] x e h = absurd (cc)
-  All-there zero (y ∷ ys) x e h = let same : y ≡ x = cc in subst P same (All-head P y ys h)
-  All-there (suc i) (y ∷ ys) x e h = All-there i ys x e (All-tail P y ys h)
 
 module _ {B : Type 0} (meaning : B → ListLoan) where
   -- the list that is read at a place, as it is seen

@@ -25,10 +25,9 @@ use Rattle.control_mgr.proofs.ControlFacts.{IsNextControl, control_facts}
 use Rattle.list_mgr.specs.GivenBars.{AreBarsApart, AreBarsGiven, HasGivenBars, IsBarGiven, IsFromOne}
 use Rattle.list_mgr.specs.ListDesks.{KeptList, ListDesk, ListsState, with_controls}
 use Rattle.list_mgr.specs.ListSteps.{IsBarGone, IsBarGoneIf, IsBarMade, IsBarSet, IsChangedTo, IsClickOn, IsListDisposed, IsListEffect, IsListMade, IsListStep, IsRelined, IsSeenOrNot, IsToggledOrNot, IsUnseen, clicked_at, new_list}
-use Rattle.list_mgr.proofs.Drawn.{All-there}
-use Rattle.list_mgr.proofs.Edited.{All-edit}
 use Rattle.list_mgr.proofs.ListFacts.{IsNextList, list_facts}
-use Rattle.list_mgr.proofs.ListsWhole.{All-more, All-remove}
+use Rattle.list_mgr.proofs.ListsWhole.{All-more}
+use Rattle.window_items.proofs.EditLemmas.{All-there, All-edit, All-remove}
 
 -- ---- the next serial
 

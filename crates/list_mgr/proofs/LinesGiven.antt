@@ -22,10 +22,11 @@ use Rattle.list_mgr.specs.Spots.{IsSpotOf}
 use Rattle.list_mgr.specs.WholeLists.{records_of, IsSettledList}
 use Rattle.list_mgr.proofs.Becoming.{IsSettledBut, MayBecome, MayBecomeWider, settled_but}
 use Rattle.list_mgr.proofs.Changed.{grid_keeps}
-use Rattle.list_mgr.proofs.Edited.{Keeps, edit_nothing}
+use Rattle.list_mgr.proofs.Edited.{Keeps}
 use Rattle.list_mgr.proofs.Given as given
 use Rattle.list_mgr.proofs.LinesChanged as lines
 use Rattle.list_mgr.proofs.Relined.{IsChange}
+use Rattle.window_items.proofs.EditLemmas.{edit_nothing}
 
 -- two changes of the list at a place, one after the other
 edit_twice : (f g : KeptList → KeptList) (i : ℕ) (xs : List KeptList) → edit_at f i (edit_at g i xs) ≡ edit_at (λ x. f (g x)) i xs

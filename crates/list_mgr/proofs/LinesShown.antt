@@ -24,11 +24,11 @@ use Rattle.list_mgr.specs.ListSteps.{with_columns_fewer, with_columns_more, with
 use Rattle.list_mgr.specs.Spots.{IsSpotOf}
 use Rattle.list_mgr.specs.WholeLists.{IsSettledList, records_of}
 use Rattle.list_mgr.specs.Within.{IsSameOutside}
-use Rattle.list_mgr.proofs.Edited.{there_edited}
 use Rattle.list_mgr.proofs.Given as given
 use Rattle.list_mgr.proofs.LinesFrom.{columns_fewer_outside, columns_more_outside, rows_fewer_outside, rows_more_outside}
 use Rattle.list_mgr.proofs.LinesGiven.{scroll_agrees}
 use Rattle.list_mgr.proofs.Steps.{list_read}
+use Rattle.window_items.proofs.EditLemmas.{there_edited}
 
 module _ {V : Type 0} {H : V → Type 0} (loan : Taken V H → Loan) {X : Type 0} {L : X → Type 0} (list_loan : TakenList X L → ListLoan)
     (l : ListOf) (t : WindowManager V H) (m : Lists (TakenList X L)) (s : Spot) (is : IsSpotOf loan list_loan l t m s)

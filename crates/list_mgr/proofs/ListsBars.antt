@@ -35,7 +35,6 @@ use Rattle.control_mgr.specs.WholeControls.{AreWholeControls}
 use Rattle.control_mgr.proofs.ControlBits.{bare, same_own}
 use Rattle.control_mgr.proofs.ControlFacts.{control_facts}
 use Rattle.control_mgr.proofs.ControlsKept.{control_behind, control_keeps}
-use Rattle.control_mgr.proofs.Edited.{All-there}
 use Rattle.control_mgr.proofs.SerialsFound as controls
 use Rattle.control_mgr.proofs.Sets.{state_of_control}
 use Rattle.control_mgr.proofs.Settled.{changed_alike, whole_put}
@@ -47,6 +46,7 @@ use Rattle.list_mgr.proofs.Edited.{Keeps, named_settled}
 use Rattle.list_mgr.proofs.ListsKept.{IsRightLists, changed_keeps, unchanged_keeps}
 use Rattle.list_mgr.proofs.ListsWhole.{same_whole, whole_behind}
 use Rattle.window_items.specs.Items.{with_kept}
+use Rattle.window_items.proofs.EditLemmas.{All-there}
 
 -- ---- calls about controls
 

@@ -25,8 +25,8 @@ use Rattle.list_mgr.specs.ListClosing.{AreAllListsClosed, AreListsClosed, IsList
 use Rattle.list_mgr.specs.ListDesks.{KeptList, ListSlot, ListsState}
 use Rattle.list_mgr.specs.ListSteps.{IsListShut}
 use Rattle.list_mgr.specs.WholeLists.{AreListsApart, AreLiveLists, AreSettled, IsSettledList, records_of, slots_of}
-use Rattle.list_mgr.proofs.Drawn.{All-there}
-use Rattle.list_mgr.proofs.ListsWhole.{All-remove, apart-remove, slots-remove}
+use Rattle.list_mgr.proofs.ListsWhole.{apart-remove, slots-remove}
+use Rattle.window_items.proofs.EditLemmas.{All-there, All-remove}
 
 abbrev stage_of : ListDefinition → Stage
 stage_of d = d.stage

@@ -19,13 +19,13 @@ use Rattle.control_mgr.proofs.ControlsKept.{IsRightDesk}
 use Rattle.list_mgr.specs.ListDesks.{IsListDeskUnchanged, KeptList, ListDesk, ListsState, list_of, lists_show, with_controls}
 use Rattle.list_mgr.specs.ListSteps.{IsChangedTo, IsListChanged, IsListMarked, IsSeenOrNot, IsShown, IsToggled, IsToggledOrNot, IsUnseen}
 use Rattle.list_mgr.specs.WholeLists.{AreWholeLists, IsSettledList}
-use Rattle.list_mgr.proofs.Drawn.{All-there}
-use Rattle.list_mgr.proofs.Edited.{Keeps, there_edited}
+use Rattle.list_mgr.proofs.Edited.{Keeps}
 use Rattle.list_mgr.proofs.ListsFound.{with_own}
 use Rattle.list_mgr.proofs.ListsRight.{marked_right, redrawn_right, toggled_right, unchanged_right}
 use Rattle.list_mgr.proofs.ListsStay.{lists_edited}
 use Rattle.list_mgr.proofs.ListsWhole.{edited_whole, same_whole}
 use Rattle.list_mgr.proofs.Places.{found_names}
+use Rattle.window_items.proofs.EditLemmas.{All-there, there_edited}
 
 -- what holds between calls: the desk with its controls is right, and the lists are whole
 pub record IsRightLists (d : ListDesk) : Type 0 where

@@ -30,6 +30,7 @@ use Rattle.list_mgr.specs.ListSteps.{AreListLayers, IsChangedTo, IsLayerOf, IsLi
 use Rattle.list_mgr.specs.WholeLists.{AreListsApart, AreWholeLists, IsSettledList, slots_of}
 use Rattle.list_mgr.proofs.Edited.{Keeps, whole_edited}
 use Rattle.list_mgr.proofs.ListsStay.{AreListsJoined}
+use Rattle.window_items.proofs.EditLemmas.{All-remove}
 
 -- ---- layers of windows
 
@@ -132,13 +133,6 @@ slots-remove zero [] = refl
 slots-remove (suc i) [] = refl
 slots-remove zero (l ∷ ls) = refl
 slots-remove (suc i) (l ∷ ls) = ap (λ ns. l.kept.definition.slot ∷ ns) (slots-remove i ls)
-
-module _ (P : KeptList → Type 0) where
-  pub All-remove : (i : ℕ) (ls : List KeptList) → All P ls → All P (remove ls i)
-  All-remove zero [] h = All-nil P
-  All-remove (suc i) [] h = All-nil P
-  All-remove zero (l ∷ ls) h = All-tail P l ls h
-  All-remove (suc i) (l ∷ ls) h = All-cons P l (remove ls i) (All-head P l ls h) (All-remove i ls (All-tail P l ls h))
 
 -- no window has more lists then
 few_left : (at : ℕ) (ls : List KeptList) → ((t : ℕ) → count_of t ls ≤ most_lists) → (t : ℕ) → count_of t (remove ls at) ≤ most_lists

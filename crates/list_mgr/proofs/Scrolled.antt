@@ -21,7 +21,7 @@ use Rattle.list_mgr.specs.ListDesks.{KeptList}
 use Rattle.list_mgr.specs.ListSteps.{with_scroll}
 use Rattle.list_mgr.specs.Changing.{IsSameOrNot}
 use Rattle.list_mgr.specs.WholeLists.{records_of}
-use Rattle.list_mgr.proofs.Edited.{edit_alike}
+use Rattle.window_items.proofs.EditLemmas.{edit_alike}
 
 -- what `==` answers
 abbrev pub same_axes : Axis → Axis → Bool

@@ -43,10 +43,10 @@ use Rattle.list_mgr.specs.Spots.{IsSpotOf}
 use Rattle.list_mgr.specs.WholeLists.{IsChangedOver, count_selected, list_desk, lists_state, records_of, AreWholeLists}
 use Rattle.list_mgr.proofs.Becoming.{MayBecomeWider}
 use Rattle.list_mgr.proofs.Changed.{changed_as, changed_to, grid_keeps, grid_or_not, marked_over, same_item, whole_after}
-use Rattle.list_mgr.proofs.Edited.{there_edited}
 use Rattle.list_mgr.proofs.Given.{edited, of_read, stays, with_cells_there}
 use Rattle.list_mgr.proofs.Places.{found_names}
 use Rattle.list_mgr.proofs.Steps.{list_named, list_read}
+use Rattle.window_items.proofs.EditLemmas.{there_edited}
 
 -- what a call makes of a selection is one list
 pub one_after : (g a b : Grid) (s : Selecting) → IsSelecting g a s → IsSelecting g b s → a ≡ b
