@@ -1,11 +1,10 @@
 -- What holds of each control, and of each with its layer, where one of them is changed, put in or taken out.
 use Rattle.std.proofs.Common.{◌≡◌, ℕ, zero, suc, ◌<◌, ◌≤◌, ◌==◌, ◌||◌, true, false, not, cond, List, [], ◌∷◌, ◌++◌, length, Some, refl, sym, ap, ◌∙◌, subst, arith}
-use Rattle.std.specs.Prelude.{All, map, slice_get}
-use Rattle.std.specs.List.{insert, list_any, remove}
+use Rattle.std.specs.Prelude.{All, slice_get}
+use Rattle.std.specs.List.{insert, remove}
 use Rattle.std.proofs.lemmas.Bool.{true≢false}
-use Rattle.std.proofs.lemmas.List.Elements.{All-cons, All-head, All-nil, All-tail}
 use Rattle.window_items.specs.declared.item.Item.{Item}
-use Rattle.window_items.specs.Items.{edit_at, has_serial}
+use Rattle.window_items.specs.Items.{edit_at}
 use Rattle.def_iface.specs.declared.part.Part.{Part}
 use Rattle.def_iface.specs.declared.part.Part.TheVariants as part
 use Rattle.def_iface.specs.Desk.{same_part}

@@ -10,7 +10,6 @@ use Rattle.tb_geom.specs.Rects.{in_plane, is_in_range, moved_rect}
 use Rattle.window_items.specs.declared.item.Item.{Item}
 use Rattle.control_mgr.specs.declared.control.Control.{Control}
 use Rattle.window_items.specs.Items.{items_of, edit_at, is_in_at, place_among, with_kept}
-use Rattle.control_mgr.specs.Fields.{with_place, with_shown, with_size}
 use Rattle.control_mgr.specs.Seen.{all_seen, kept_seen, seen}
 use Rattle.window_items.proofs.SeenLemmas.{edit_at-seen, length-seen, place_among-seen}
 use Rattle.window_items.proofs.WindowLemmas.{items_of-edit_at, slice_get-items_of}
@@ -59,7 +58,7 @@ use Rattle.control_mgr.proofs.Reshown.{alone, one_control, set_among}
 use Rattle.window_items.specs.declared.items.Items.{Items}
 use Rattle.window_items.specs.Lends.{with_value}
 use Rattle.window_items.proofs.LentLemmas.{lent_and_written}
-use Rattle.window_items.proofs.EditLemmas.{All-there, edit_twice, there_edited}
+use Rattle.window_items.proofs.EditLemmas.{All-there, there_edited}
 
 -- ---- where a control may lie
 

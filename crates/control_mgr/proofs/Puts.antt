@@ -6,7 +6,6 @@ use Rattle.tb_geom.specs.Points.{PixelSet}
 use Rattle.window_items.specs.declared.item.Item.{Item}
 use Rattle.control_mgr.specs.declared.control.Control.{Control}
 use Rattle.window_items.specs.Items.{edit_at, place_among, with_kept}
-use Rattle.control_mgr.specs.Fields.{with_highlight, with_title, with_values}
 use Rattle.control_mgr.specs.Seen.{all_seen, kept_seen}
 use Rattle.window_items.proofs.SeenLemmas.{edit_at-seen, length-seen, place_among-seen}
 use Rattle.def_iface.specs.declared.part.Part.{Part}

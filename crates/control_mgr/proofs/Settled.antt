@@ -9,7 +9,7 @@ use Rattle.tb_geom.specs.declared.rect.Rect.{Rect}
 use Rattle.tb_geom.specs.Points.{PixelSet, minus}
 use Rattle.tb_geom.specs.Rects.{in_plane, is_in_range, moved_rect}
 use Rattle.control_values.specs.Highlights.{is_highlight}
-use Rattle.window_items.specs.Items.{are_before, items_of, count_of, edit_at, has_serial, is_before, is_in_at, with_kept}
+use Rattle.window_items.specs.Items.{are_before, items_of, count_of, edit_at, has_serial, is_in_at, with_kept}
 use Rattle.window_items.proofs.WindowLemmas.{items_of-edit_at, items_of-edit_at_other, is_in_at-other, slice_get-items_of}
 use Rattle.def_iface.specs.ControlMeaning.{ControlDefinition, ControlGoesBy, ControlHears, IsControlBegun, SameControlRegions, is_control_size, is_fitting_control}
 use Rattle.def_iface.specs.ControlNews.{AllControlNews, told_all_of_control}

@@ -1,14 +1,12 @@
 -- What holds of lists between calls holds where one of them is changed that keeps its place among them.
-use Rattle.std.proofs.Common.{◌≡◌, ℕ, zero, suc, ◌≤◌, ◌&&◌, ◌||◌, ◌==◌, Bool, true, false, cond, List, [], ◌∷◌, Option, None, Some, refl, sym, ap, ◌∙◌, subst}
-use Rattle.std.specs.Prelude.{All, map, slice_get}
+use Rattle.std.proofs.Common.{◌≡◌, ℕ, zero, suc, ◌≤◌, ◌&&◌, ◌||◌, ◌==◌, Bool, true, false, List, [], ◌∷◌, Option, None, Some, refl, sym, ap, ◌∙◌, subst}
+use Rattle.std.specs.Prelude.{All, slice_get}
 use Rattle.std.specs.List.{AllZip, list_any}
 use Rattle.std.specs.Option.{option_and_then}
-use Rattle.std.proofs.lemmas.List.Elements.{All-cons, All-head, All-tail, All-weaker}
+use Rattle.std.proofs.lemmas.List.Elements.{All-weaker}
 use Rattle.def_iface.specs.ListMeaning.{ListDefinition, ListLoan}
 use Rattle.layer_list.specs.declared.layer.Layer.{Layer}
-use Rattle.window_items.specs.declared.item.Item.{Item}
-use Rattle.list_mgr.specs.declared.list_record.ListRecord.{ListRecord}
-use Rattle.window_items.specs.Items.{are_before, count_of, edit_at, has_serial, is_before, is_in_at, items_of}
+use Rattle.window_items.specs.Items.{edit_at, has_serial, is_in_at, items_of}
 use Rattle.window_items.proofs.WindowLemmas.{items_of-edit_at, items_of-edit_at_other}
 use Rattle.vis_update.specs.Records.{WindowRecord}
 use Rattle.window_mgr.specs.Refused.{is_missing}
@@ -18,7 +16,7 @@ use Rattle.list_mgr.specs.ListDesks.{KeptList, ListsState, index_of, list_of}
 use Rattle.list_mgr.specs.ListRefusals.{most_lists}
 use Rattle.list_mgr.specs.ListSteps.{AreListLayers, IsLayerOf}
 use Rattle.list_mgr.specs.WholeLists.{AreListsApart, AreSettled, AreWholeLists, IsSettledList}
-use Rattle.window_items.proofs.EditLemmas.{All-there, All-edit, any-edit, before-edit, count-edit}
+use Rattle.window_items.proofs.EditLemmas.{All-there, All-edit, any-edit, before-edit, count-edit, map-edit}
 
 apart-edit : (f : KeptList → KeptList) → ((x : KeptList) → (f x).serial ≡ x.serial) → (i : ℕ) (xs : List KeptList) → AreListsApart xs → AreListsApart (edit_at f i xs)
 apart-edit f same i [] h = tt

@@ -1,7 +1,6 @@
 use Rattle.std.proofs.Common.{◌≡◌, rules, ap}
 use Rattle.def_iface.specs.contracts.taken_control.TakenControlDefinedControl.TheImpl as control
 use Rattle.def_iface.specs.contracts.taken_list.TakenListDefinedList.TheImpl as list
-use Rattle.window_items.specs.declared.item.Item.{Item}
 use Rattle.list_mgr.specs.declared.list_record.ListRecord.{ListRecord}
 use Rattle.window_mgr.specs.Edits.{IsWindowAt}
 use Rattle.window_mgr.proofs.Remarked.{area_there}
