@@ -34,7 +34,7 @@ module _ {V : Type 0} {H : V → Type 0} (loan : Taken V H → Loan) {X : Type 0
     (x : Item (ListRecord (TakenList X L))) (read : x ≡ get_or m.list.items.items s.list x) where
   -- the lists, with these cells in the one that stands here
   abbrev pub with_cells_there : Grid → Lists (TakenList X L)
-  with_cells_there cells = record m { list = record m.list { lists = with_item m.list.items s.list (with_cells cells x) } }
+  with_cells_there cells = record m { list = record m.list { items = with_item m.list.items s.list (with_cells cells x) } }
 
   x_there : slice_get (records_of list_loan m) s.list ≡ Some (seen list_loan x)
   x_there = list_read loan list_loan l t m s is x read

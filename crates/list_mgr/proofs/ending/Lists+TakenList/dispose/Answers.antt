@@ -10,6 +10,7 @@ use Rattle.list_mgr.specs.BarEnds.{bar_serial}
 use Rattle.list_mgr.proofs.ListsDisposed.{controls_first, controls_second, disposed, first_apart, kept_first, kept_second, may_first, next_apart, planned_first, ready_first, ready_second, relaid_apart}
 use Rattle.list_mgr.proofs.ListsEnded.{ended_left, ended_live, settled_left}
 use Rattle.list_mgr.proofs.ending.Lists+TakenList.dispose.Goals as goal
+use Rattle.window_items.specs.declared.item.Item.{Item}
 
 pub without-requires-clause-apart : goal.without-requires-clause-apart
 without-requires-clause-apart g c =
@@ -104,7 +105,7 @@ commit_layers-requires-clause-planned g c =
     c.in_ok-relaid.relaid c.in_ok-relaid.ensures.layers c.area.result.now c.area.ensures c.in_ok-relaid.ensures.gained c.in_ok-relaying.relaying c.in_ok-relaying.ensures
 
 pub commit_layers-requires-clause-whole : goal.commit_layers-requires-clause-whole
-commit_layers-requires-clause-whole g c = settled_left (list.list_loan-value g.dyn-1).it c.args.self.now c.in_ok-spot.spot.list c.remove-ended.new.self.lists.items c.remove-ended.ensures.items c.requires.lists.settled
+commit_layers-requires-clause-whole g c = settled_left (list.list_loan-value g.dyn-1).it c.args.self.now c.in_ok-spot.spot.list c.remove-ended.new.self.items.items c.remove-ended.ensures.items c.requires.lists.settled
 
 pub put_away-requires-clause-live : goal.put_away-requires-clause-live
 put_away-requires-clause-live g c = ended_live (list.list_loan-value g.dyn-1).it c.args.self.now c.in_ok-spot.spot.list c.remove-ended.result c.remove-ended.ensures.value c.requires.lists.settled
@@ -230,4 +231,4 @@ returns g c =
     c.in_ok-relaid.relaid c.in_ok-relaid.ensures.layers c.area.result.now c.area.ensures
     c.in_ok-relaying.relaying (record m { list = c.remove-ended.new.self }) c.remove-ended.result c.remove-ended.ensures.value c.remove-ended.ensures.items c.remove-ended.ensures.next c.commit_layers.new.self c.commit_layers.ensures.put c.commit_layers.ensures.set c.args.controls.now _ c.requires.controls _ c.requires.lists _ c.put_away.ensures
     c.index-list.result.now.kept.vertical c.in_ok-one.one c.in_ok-one.ensures.out c.end_bar.new.windows c.end_bar.new.controls _ c.end_bar.ensures.gone c.end_bar.ensures.put c.index-list.result.now.kept.horizontal c.end_bar-2.new.windows c.end_bar-2.new.controls _ c.end_bar-2.ensures.gone
-    (ap (λ (x : ListRecord _). x.kept.vertical) same) (ap (λ (x : ListRecord _). x.kept.horizontal) same)
+    (ap (λ (x : Item (ListRecord _)). x.kept.vertical) same) (ap (λ (x : Item (ListRecord _)). x.kept.horizontal) same)
