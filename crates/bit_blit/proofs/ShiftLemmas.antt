@@ -10,6 +10,7 @@ use Rattle.std.proofs.lemmas.List.Folds.{list_any-append, list_any_none}
 use Rattle.std.proofs.Math.Bool.{and-false}
 use Rattle.std.proofs.lemmas.Bool.Decides.{Decides-int_eq}
 use Rattle.std.proofs.Math.Seq.{get_or-append_seam}
+use Rattle.std.proofs.lemmas.Bool.{and_parts}
 use Rattle.tb_geom.specs.declared.point.Point.{Point}
 use Rattle.tb_geom.specs.declared.rect.Rect.{Rect}
 use Rattle.tb_geom.specs.Points.{PixelSet, minus}
@@ -24,10 +25,6 @@ use Rattle.bit_blit.specs.Shifts.{shift_holds, shifted, is_onward}
 use Rattle.bit_blit.proofs.OnceLemmas.{Once-on_map, Once-where, once_more}
 use Rattle.bit_blit.proofs.SpansLemmas.{spans_hold, spans-apart}
 use Rattle.bit_blit.proofs.WalkLemmas.{IsCut, cut_row-in_rect, cut_row-where}
-
-both : (a b : Bool) → (a && b) ≡ true → (a ≡ true) × (b ≡ true)
-both true b e = (refl, e)
-both false b e = absurd (cc)
 
 -- a pixel that was not drawn has its old bit, and so has a point off the map
 kept : (p : PixelSet) (f : Point → Bool → Bool) (old mid : Bits) → DrawsOnce p f old mid → (x : Point) → (on_map old x ≡ true → p x ≡ false) → bit mid x ≡ bit old x
@@ -150,7 +147,7 @@ pub record IsHeld (s : Span) (x : Point) : Type 0 where
 
 held : (s : Span) (x : Point) → span_holds s x ≡ true → IsHeld s x
 held s x e =
-    let t = both (int_eq s.v x.v) (between s.left x.h s.right) e in
+    let t = and_parts (int_eq s.v x.v) (between s.left x.h s.right) e in
     let b = t.1 in
     record { row = (Decides-int_eq s.v x.v).0 t.0; left = grind (arith, ints); right = grind (arith, ints) }
 
@@ -261,8 +258,8 @@ pub shift_step : (old mid new : Bits) (d : Point) (before : List Span) (span : S
     → DrawsOnce (shift_holds old (spans_hold (before ++ span ∷ [])) d) (shifted old d) old new
 shift_step old mid new d before span clean alone first second =
     shift-more old mid new d (shift_holds old (spans_hold before) d) (shift_holds mid (span_holds span) d) (shift_holds old (spans_hold (before ++ span ∷ [])) d)
-    (λ x e on. ap (λ t. t && on_map old (minus (minus x d) d)) (clean x (both (span_holds span x) (on_map mid (minus x d)) e).0))
-    (λ x e. ap (λ t. t && on_map old (minus x d)) (alone x (both (span_holds span x) (on_map mid (minus x d)) e).0))
+    (λ x e on. ap (λ t. t && on_map old (minus (minus x d) d)) (clean x (and_parts (span_holds span x) (on_map mid (minus x d)) e).0))
+    (λ x e. ap (λ t. t && on_map old (minus x d)) (alone x (and_parts (span_holds span x) (on_map mid (minus x d)) e).0))
     (λ x. ap (λ t. t && on_map old (minus x d)) (list_any-append (λ s. span_holds s x) before (span ∷ []) ∙ or_swap (span_holds span x) (spans_hold before x))
     ∙ or_and (span_holds span x) (spans_hold before x) (on_map old (minus x d))
     ∙ ap (λ t. (span_holds span x && t) || (spans_hold before x && on_map old (minus x d))) (sym (on_map-same old mid (minus x d) first.width first.height)))

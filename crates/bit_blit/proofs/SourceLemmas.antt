@@ -3,6 +3,7 @@ use Rattle.std.proofs.Common.{◌≡◌, ℕ, ◌<◌, ◌-◌, min, ◌≤◌, 
 use Rattle.std.specs.Int.{saturate_signed}
 use Rattle.std.proofs.lemmas.Int.{ints, clamps}
 use Rattle.std.proofs.lemmas.Bool.Decides.{nat_tests}
+use Rattle.std.proofs.lemmas.Bool.{and_parts}
 use Rattle.tb_geom.specs.declared.point.Point.{Point}
 use Rattle.tb_geom.specs.Points.{PixelSet, minus}
 use Rattle.tb_geom.specs.Rects.{between}
@@ -13,10 +14,6 @@ use Rattle.bit_map.specs.Words.{bit_in}
 use Rattle.bit_map.proofs.WordLemmas.{bit_in-right}
 use Rattle.bit_blit.specs.Sources.{IsNearSource}
 
-both : (a b : Bool) → (a && b) ≡ true → (a ≡ true) × (b ≡ true)
-both true b e = (refl, e)
-both false b e = absurd (cc)
-
 below-near : (limit : ℕ) (x : ℤ) → limit ≤ 65535 → is_below limit x ≡ true → between (pos 0) x (pos 65535) ≡ true
 below-near limit (pos n) l e = grind (arith, ints, nat_tests)
 below-near limit (negsuc n) l e = absurd (cc)
@@ -25,14 +22,14 @@ below-near limit (negsuc n) l e = absurd (cc)
 pub image-near : (i : Image) → i.width ≤ 65535 → i.height ≤ 65535 → IsNearSource (image_holds i)
 unfolding image_holds
 image-near i w h p e =
-    let t = both (is_below i.width p.h) (is_below i.height p.v) e in
+    let t = and_parts (is_below i.width p.h) (is_below i.height p.v) e in
     (λ k. below-near i.width p.h w t.0 k && below-near i.height p.v h t.1 k)
 
 -- and so are maps
 pub map-near : (m : Bits) → m.width ≤ 32767 → m.height ≤ 32767 → IsNearSource (on_map m)
 unfolding on_map
 map-near m w h p e =
-    let t = both (is_below m.width p.h) (is_below m.height p.v) e in
+    let t = and_parts (is_below m.width p.h) (is_below m.height p.v) e in
     (λ k. below-near m.width p.h (omega (arith, w)) t.0 k && below-near m.height p.v (omega (arith, h)) t.1 k)
 
 -- a difference that stops at the ends of 32 bits is the difference where it is near, and where the difference is
@@ -52,12 +49,12 @@ stopped-same p o s near = (by_test (s (stopped p o)) (s (minus p o)) refl refl, 
   where
     here : s (stopped p o) ≡ true → stopped p o ≡ minus p o
     here e =
-        let t = both (between (pos 0) (saturate_signed w32 (p.h -ℤ o.h)) (pos 65535)) (between (pos 0) (saturate_signed w32 (p.v -ℤ o.v)) (pos 65535)) (near (stopped p o) e) in
+        let t = and_parts (between (pos 0) (saturate_signed w32 (p.h -ℤ o.h)) (pos 65535)) (between (pos 0) (saturate_signed w32 (p.v -ℤ o.v)) (pos 65535)) (near (stopped p o) e) in
         λ i. record { h = near-is (p.h -ℤ o.h) t.0 i; v = near-is (p.v -ℤ o.v) t.1 i }
 
     there : s (minus p o) ≡ true → stopped p o ≡ minus p o
     there e =
-        let t = both (between (pos 0) (p.h -ℤ o.h) (pos 65535)) (between (pos 0) (p.v -ℤ o.v) (pos 65535)) (near (minus p o) e) in
+        let t = and_parts (between (pos 0) (p.h -ℤ o.h) (pos 65535)) (between (pos 0) (p.v -ℤ o.v) (pos 65535)) (near (minus p o) e) in
         λ i. record { h = is-near (p.h -ℤ o.h) t.0 i; v = is-near (p.v -ℤ o.v) t.1 i }
 
     by_test : (a b : Bool) → s (stopped p o) ≡ a → s (minus p o) ≡ b → s (stopped p o) ≡ s (minus p o)
@@ -86,13 +83,13 @@ stopped-row p o s near k low = (by_test (s (right_of (stopped p o) k)) (s (minus
   where
     here : s (right_of (stopped p o) k) ≡ true → right_of (stopped p o) k ≡ minus (right_of p k) o
     here e =
-        let t = both (between (pos 0) (saturate_signed w32 (p.h -ℤ o.h) +ℤ pos k) (pos 65535)) (between (pos 0) (saturate_signed w32 (p.v -ℤ o.v)) (pos 65535)) (near (right_of (stopped p o) k) e) in
+        let t = and_parts (between (pos 0) (saturate_signed w32 (p.h -ℤ o.h) +ℤ pos k) (pos 65535)) (between (pos 0) (saturate_signed w32 (p.v -ℤ o.v)) (pos 65535)) (near (right_of (stopped p o) k) e) in
         let h = ap (λ x. x +ℤ pos k) (row-near-is (p.h -ℤ o.h) k low t.0) ∙ sym (seen-turn p.h o.h k) in
         λ i. record { h = h i; v = near-is (p.v -ℤ o.v) t.1 i }
 
     there : s (minus (right_of p k) o) ≡ true → right_of (stopped p o) k ≡ minus (right_of p k) o
     there e =
-        let t = both (between (pos 0) ((p.h +ℤ pos k) -ℤ o.h) (pos 65535)) (between (pos 0) (p.v -ℤ o.v) (pos 65535)) (near (minus (right_of p k) o) e) in
+        let t = and_parts (between (pos 0) ((p.h +ℤ pos k) -ℤ o.h) (pos 65535)) (between (pos 0) (p.v -ℤ o.v) (pos 65535)) (near (minus (right_of p k) o) e) in
         let across : between (pos 0) ((p.h -ℤ o.h) +ℤ pos k) (pos 65535) ≡ true = ap (λ x. between (pos 0) x (pos 65535)) (sym (seen-turn p.h o.h k)) ∙ t.0 in
         let h = ap (λ x. x +ℤ pos k) (row-is-near (p.h -ℤ o.h) k low across) ∙ sym (seen-turn p.h o.h k) in
         λ i. record { h = h i; v = is-near (p.v -ℤ o.v) t.1 i }
@@ -117,7 +114,7 @@ none-before s p near less = by_test (s p) refl
     by_test : (t : Bool) → s p ≡ t → t ≡ false
     by_test false e = refl
     by_test true e =
-        let t = both (between (pos 0) p.h (pos 65535)) (between (pos 0) p.v (pos 65535)) (near p e) in
+        let t = and_parts (between (pos 0) p.h (pos 65535)) (between (pos 0) p.v (pos 65535)) (near p e) in
         let inside = t.0 in
         absurd (grind (arith, ints))
 

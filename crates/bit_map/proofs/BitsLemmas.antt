@@ -6,6 +6,7 @@ use Rattle.std.proofs.lemmas.Bool.Decides.{nat_tests}
 use Rattle.std.proofs.lemmas.Int.{ints}
 use Rattle.std.proofs.lemmas.List.FromFn.{get_or-map-range_with_len}
 use Rattle.std.proofs.lemmas.Nat.{mul-add-lt, div-mul-add, mod-mul-add, same_from_place}
+use Rattle.std.proofs.lemmas.Bool.{and_parts}
 use Rattle.tb_geom.specs.declared.point.Point.{Point}
 use Rattle.tb_geom.specs.declared.rect.Rect.{Rect}
 use Rattle.tb_geom.specs.Rects.{between, rect_holds}
@@ -13,10 +14,6 @@ use Rattle.bit_map.proofs.WordLemmas.{bit_in-none}
 use Rattle.bit_map.proofs.PartLemmas.{IsRunOf, word_part}
 use Rattle.bit_map.specs.Words.{bit_in, place_bit, words_across, black_of, IsWholeMap}
 use Rattle.bit_map.specs.Bits.{Bits, is_below, on_map, bit, is_point, bounds_of}
-
-both_true : (a b : Bool) → (a && b) ≡ true → (a ≡ true) × (b ≡ true)
-both_true true b e = (refl, e)
-both_true false b e = absurd (cc)
 
 is_below-between : (limit : ℕ) (x : ℤ) → between (pos 0) x (pos limit) ≡ is_below limit x
 is_below-between limit (pos n) = grind (arith, ints, nat_tests)
@@ -51,7 +48,7 @@ below_limit limit (negsuc n) e = absurd (cc)
 pub on_map-sides : (m : Bits) (p : Point) → on_map m p ≡ true → IsOn m p
 unfolding on_map
 on_map-sides m p on =
-    let both = both_true (is_below m.width p.h) (is_below m.height p.v) on in
+    let both = and_parts (is_below m.width p.h) (is_below m.height p.v) on in
     record { right = not_negative m.width p.h both.0; across = below_limit m.width p.h both.0; below = not_negative m.height p.v both.1; down = below_limit m.height p.v both.1 }
 
 -- a map whose bits are those of words

@@ -6,6 +6,7 @@ use Rattle.tb_geom.specs.declared.point.Point.{Point}
 use Rattle.bit_map.specs.Bits.{Bits, is_below, on_map, bit, in_row}
 use Rattle.bit_map.specs.Words.{place_bit, words_across, IsWholeMap, IsMoved}
 use Rattle.std.proofs.lemmas.Nat.{mul-le}
+use Rattle.std.proofs.lemmas.Bool.{and_parts}
 use Rattle.tb_geom.specs.Points.{minus}
 use Rattle.bit_map.specs.Rules.{right_of, IsPartRuled}
 use Rattle.bit_map.proofs.PartLemmas.{IsRunOf}
@@ -101,19 +102,15 @@ in_run-of v left right count p low long right_of_0 e =
 
 -- ---- a run that is moved
 
-both_of : (a b : Bool) → (a && b) ≡ true → (a ≡ true) × (b ≡ true)
-both_of true b e = (refl, e)
-both_of false b e = absurd (cc)
-
 -- each pixel of a row lies on the map, and so does its source
 abbrev pub IsShiftOn : Bits → ℤ → ℤ → ℤ → Point → Type 0
 IsShiftOn m v left right d = (p : Point) → in_row v left right p ≡ true → (on_map m p && on_map m (minus p d)) ≡ true
 
 pub shift-on : (m : Bits) (v left right : ℤ) (d : Point) → IsShiftOn m v left right d → (p : Point) → in_row v left right p ≡ true → on_map m p ≡ true
-shift-on m v left right d on p e = (both_of (on_map m p) (on_map m (minus p d)) (on p e)).0
+shift-on m v left right d on p e = (and_parts (on_map m p) (on_map m (minus p d)) (on p e)).0
 
 pub shift-source : (m : Bits) (v left right : ℤ) (d : Point) → IsShiftOn m v left right d → (p : Point) → in_row v left right p ≡ true → on_map m (minus p d) ≡ true
-shift-source m v left right d on p e = (both_of (on_map m p) (on_map m (minus p d)) (on p e)).1
+shift-source m v left right d on p e = (and_parts (on_map m p) (on_map m (minus p d)) (on p e)).1
 
 -- the first pixel of a row is one of it
 pub first_in : (v left right : ℤ) → left <ℤ right → in_row v left right (first_of v left) ≡ true

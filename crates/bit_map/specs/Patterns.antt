@@ -1,7 +1,11 @@
 -- Patterns of eight by eight bits, over the whole plane.
-use Rattle.std.specs.Prelude.{ℕ, ◌-◌, ◌/◌, ◌%◌, ◌^◌, ℤ, pos, negsuc, Bool, nat_eq, slice_index}
+use Rattle.std.specs.Prelude.{ℕ, ◌-◌, ◌/◌, ◌%◌, ◌^◌, ℤ, pos, negsuc, Bool, nat_eq, [], ◌∷◌, slice_index}
 use Rattle.tb_geom.specs.Points.{PixelSet}
 use Rattle.bit_map.specs.declared.pattern.Pattern.{Pattern}
+
+-- black where row and column are both even or both odd
+abbrev pub gray : Pattern
+gray = record { rows = 0xAA ∷ 0x55 ∷ 0xAA ∷ 0x55 ∷ 0xAA ∷ 0x55 ∷ 0xAA ∷ 0x55 ∷ [] }
 
 -- the remainder by 8, which is never negative
 abbrev pub eighth_of : ℤ → ℕ

@@ -2,8 +2,7 @@
 
 use control_values::{ControlPart, ControlValues, Highlight};
 use def_iface::Size;
-use op_ref::BytesRef;
-use tb_geom::Point;
+use tb_geom::{BytesRef, Point};
 
 /// A call about controls (*Inside Macintosh* I, "The Control Manager"). A window and a control are named by their serials, from
 /// 1 on; no one has the serial 0. Numbers are as they were asked for, judged by nobody. One that names no window is

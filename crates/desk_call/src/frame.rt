@@ -1,7 +1,6 @@
 //! What a Toolbox can be asked about the frame of a window, and what it answers.
 
-use op_ref::BytesRef;
-use tb_geom::Point;
+use tb_geom::{BytesRef, Point};
 
 /// A call about the frame of a window: its title, its highlighting and its go-away box (*Inside Macintosh* I, "The Window
 /// Manager"). A window is named by its serial, as in a `WindowCall`. None takes memory.

@@ -2,8 +2,7 @@
 
 use def_iface::Size;
 use list_cells::Cell;
-use op_ref::BytesRef;
-use tb_geom::Point;
+use tb_geom::{BytesRef, Point};
 
 /// A call about lists (*Inside Macintosh* IV, "The List Manager Package"). A window and a list are named by their serials, from
 /// 1 on; no one has the serial 0. Numbers are as they were asked for, judged by nobody. One that names no window is

@@ -1,7 +1,6 @@
 //! What a Toolbox can be asked about menus, and what it answers.
 
-use op_ref::BytesRef;
-use tb_geom::Point;
+use tb_geom::{BytesRef, Point};
 
 /// A call about menus (*Inside Macintosh* I, "The Menu Manager"). A menu is named by its number, and an item by its number in
 /// the menu, which counts from 1 at the top. Numbers are as they were asked for, judged by nobody.

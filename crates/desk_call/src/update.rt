@@ -1,7 +1,6 @@
 //! What a Toolbox can be asked about updates: which pixels of a window are to be redrawn, and their redrawing.
 
-use op_ref::BytesRef;
-use tb_geom::Rect;
+use tb_geom::{BytesRef, Rect};
 
 /// A call about update regions (*Inside Macintosh* I, "The Window Manager", "Update Region Maintenance"). A window is named
 /// by its serial, as in a `WindowCall`.

@@ -2,10 +2,10 @@
 
 use def_iface::Size;
 use draw_port::Picture;
-use op_ref::{BytesRef, OpRef};
+use lent_ops::OpRef;
 use std::alloc::{AllocError, Global};
 use std::marker::Model;
-use tb_geom::Point;
+use tb_geom::{BytesRef, Point};
 
 /// A call of the Window Manager. A window is named by its serial: no window has the serial 0, none is used again, and
 /// one that is not there is NoSuchWindow. Texts and the bytes of operations are borrowed, so that a call

@@ -10,6 +10,7 @@ use Rattle.tb_geom.specs.declared.rect.Rect.{Rect}
 use Rattle.tb_geom.specs.Points.{minus}
 use Rattle.tb_geom.specs.Rects.{rect_holds, between}
 use Rattle.tb_geom.specs.Pixels.{Pixels, holds}
+use Rattle.tb_geom.proofs.PointLemmas.{origin, minus-origin}
 use Rattle.bit_map.specs.declared.pattern.Pattern.{Pattern}
 use Rattle.bit_map.specs.declared.mode.Mode.TheVariants.{Copy}
 use Rattle.bit_map.specs.Bits.{Bits, on_map, bit, is_below}
@@ -17,7 +18,7 @@ use Rattle.bit_map.specs.Modes.{mode_bit}
 use Rattle.bit_map.specs.Patterns.{pattern_bit, bit_of, eighth_of}
 use Rattle.bit_blit.specs.Draws.{Draws}
 use Rattle.bit_blit.proofs.DrawsLemmas.{Draws-on_map}
-use Rattle.desk_ground.specs.Screens.{gray, is_bar, is_screen}
+use Rattle.desk_ground.specs.Screens.{desktop as pattern, is_bar, is_screen}
 use Rattle.desk_ground.specs.Grounds.{last_row, below, IsEmptyPainted, IsGround}
 
 abbrev pub black : Pattern
@@ -53,15 +54,6 @@ bit_of-full (suc (suc (suc (suc (suc (suc (suc (suc k)))))))) l = absurd (omega 
 pub pattern_bit-black : (p : Point) → pattern_bit black p ≡ true
 pattern_bit-black p = ap (λ n. bit_of n (eighth_of p.h)) (full_at (eighth_of p.v) (eighth_of-below p.v)) ∙ bit_of-full (eighth_of p.h) (eighth_of-below p.h)
 
-abbrev pub origin : Point
-origin = record { h = pos 0; v = pos 0 }
-
-pub minus-origin : (p : Point) → minus p origin ≡ p
-minus-origin p = λ i. record { h = same p.h i; v = same p.v i }
-  where
-    same : (x : ℤ) → x -ℤ pos 0 ≡ x
-    same x = grind (arith, ints)
-
 in_row : (bar v : ℤ) → between (bar -ℤ pos 1) v bar ≡ int_eq v (bar -ℤ pos 1)
 in_row bar v = grind (arith, ints)
 
@@ -73,18 +65,18 @@ row_holds : (bar : ℤ) (m : Bits) (p : Point) → on_map m p ≡ true → rect_
 unfolding on_map
 row_holds bar m p on = λ i. below-between m.width p.h (and_parts (is_below m.width p.h) _ on).0 i && in_row bar p.v i
 
--- gray under a row that is black
+-- the pattern of the desktop under a row that is black
 pub empty_painted : (bar right : ℤ) (row : Rect) (region : Pixels) (old mid new : Bits)
     → right ≡ pos mid.width
     → row ≡ last_row bar right
-    → Draws (holds region) (λ p d. mode_bit Copy (pattern_bit gray (minus p origin)) d) old mid
+    → Draws (holds region) (λ p d. mode_bit Copy (pattern_bit pattern (minus p origin)) d) old mid
     → Draws (rect_holds row) (λ p d. mode_bit Copy (pattern_bit black (minus p origin)) d) mid new
     → IsEmptyPainted bar region old new
 empty_painted bar right row region old mid new is_right is_row filled drawn = record {
   pixels = λ p on.
       let there : on_map mid p ≡ true = Draws-on_map _ _ old mid filled p ∙ on in
       let in_last : rect_holds row p ≡ int_eq p.v (bar -ℤ pos 1) = ap (λ r. rect_holds r p) is_row ∙ ap (λ r. rect_holds (last_row bar r) p) is_right ∙ row_holds bar mid p there in
-      let under : bit mid p ≡ (if holds region p then pattern_bit gray p else bit old p) = filled.pixels p on ∙ ap (λ q. if holds region p then pattern_bit gray q else bit old p) (minus-origin p) in
+      let under : bit mid p ≡ (if holds region p then pattern_bit pattern p else bit old p) = filled.pixels p on ∙ ap (λ q. if holds region p then pattern_bit pattern q else bit old p) (minus-origin p) in
       drawn.pixels p there ∙ (λ i. if in_last i then pattern_bit-black (minus p origin) i else under i);
   width = drawn.width ∙ filled.width;
   height = drawn.height ∙ filled.height;
@@ -109,7 +101,7 @@ is_ground width height bar old new region desktop same sides white painted under
   desktop = λ p. ap (λ r. holds r p) same;
   pixels = λ p on.
       painted.pixels p (sym (same_sides old new painted.width painted.height p) ∙ on)
-      ∙ ap (λ b. if int_eq p.v (bar -ℤ pos 1) then true else (if holds region p then pattern_bit gray p else b)) (white p);
+      ∙ ap (λ b. if int_eq p.v (bar -ℤ pos 1) then true else (if holds region p then pattern_bit pattern p else b)) (white p);
 }
 
 -- a screen has a menu bar of its size

@@ -8,7 +8,7 @@ use Rattle.tb_geom.specs.Rects.{rect_holds}
 use Rattle.bit_map.specs.Bits.{Bits, on_map, bit}
 use Rattle.bit_map.specs.Patterns.{pattern_bit}
 use Rattle.desk_ground.specs.declared.ground.Ground.{Ground}
-use Rattle.desk_ground.specs.Screens.{gray as pattern}
+use Rattle.desk_ground.specs.Screens.{desktop as pattern}
 
 -- the last row of a menu bar of so many rows, up to the column right and without it
 abbrev pub last_row : ℤ → ℤ → Rect

@@ -1,7 +1,8 @@
 -- Which screens there may be, and the pattern of the desktop.
-use Rattle.std.specs.Prelude.{Bool, ◌&&◌, ◌||◌, [], ◌∷◌, ℤ, pos, int_le, int_lt}
+use Rattle.std.specs.Prelude.{Bool, ◌&&◌, ◌||◌, ℤ, pos, int_le, int_lt}
 use Rattle.std.specs.Ordering.{int_eq}
 use Rattle.bit_map.specs.declared.pattern.Pattern.{Pattern}
+use Rattle.bit_map.specs.Patterns.{gray}
 
 -- whether a screen may be so wide or so high
 abbrev pub is_screen_side : ℤ → Bool
@@ -16,6 +17,6 @@ abbrev pub is_screen : ℤ → ℤ → ℤ → Bool
 is_screen width height bar =
     is_screen_side width && (is_screen_side height && (is_bar bar && int_lt bar height))
 
--- the pattern of the desktop: black where row and column are both even or both odd
-abbrev pub gray : Pattern
-gray = record { rows = 0xAA ∷ 0x55 ∷ 0xAA ∷ 0x55 ∷ 0xAA ∷ 0x55 ∷ 0xAA ∷ 0x55 ∷ [] }
+-- the pattern of the desktop
+abbrev pub desktop : Pattern
+desktop = gray

@@ -9,6 +9,9 @@ use scan_region::Region;
 use std::alloc::Global;
 use tb_geom::{Point, Rect, Refusal};
 
+/// The pattern of the desktop.
+pub const DESKTOP: Pattern = Pattern::GRAY;
+
 /// The fewest columns that a screen may have, and the fewest rows.
 const SHORTEST_SIDE: i32 = 8;
 
@@ -82,13 +85,13 @@ fn is_less(bar: i32, height: i32) -> bool
     bar < height
 }
 
-/// Paints the desktop gray, and the last row of the menu bar black.
+/// Paints the desktop in its pattern, and the last row of the menu bar black.
 fn paint_empty(screen: &mut BitMap, gray: &Region, bar: i32)
     requires { screens.is_bar bar ≡ true }
     ensures { IsEmptyPainted bar gray.now screen.old screen.new }
 {
     let origin = Point { h: 0, v: 0 };
-    fill(screen, gray, origin, Pattern::GRAY, Mode::Copy);
+    fill(screen, gray, origin, DESKTOP, Mode::Copy);
     let last_row = last_row(bar, screen.bounds().right);
     let black = Ink {
         pattern: Pattern::BLACK,

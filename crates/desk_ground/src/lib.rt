@@ -6,4 +6,4 @@
 
 mod ground;
 
-pub use ground::{Ground, empty_ground, is_screen};
+pub use ground::{DESKTOP, Ground, empty_ground, is_screen};

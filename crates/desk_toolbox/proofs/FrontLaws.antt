@@ -12,8 +12,7 @@ use Rattle.def_iface.proofs.Painting.{scratch_is_owners}
 use Rattle.menu_overlay.specs.Outlines.{outline_holds, outlined}
 use Rattle.menu_overlay.specs.Overlays.{Pulled, pulled_bit, pulled_rect, shown_bit}
 use Rattle.bit_map.specs.Modes.{xor_bit}
-use Rattle.bit_map.specs.Patterns.{pattern_bit}
-use Rattle.desk_ground.specs.Screens.{gray}
+use Rattle.bit_map.specs.Patterns.{pattern_bit, gray}
 use Rattle.desk_call.specs.Outlines.{outline_of}
 use Rattle.tb_geom.specs.declared.rect.Rect.{Rect}
 use Rattle.desk_call.specs.declared.activity.Activity.{Activity}

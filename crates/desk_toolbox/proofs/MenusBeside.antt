@@ -18,8 +18,7 @@ use Rattle.def_iface.specs.Stocked.{SlotView}
 use Rattle.menu_overlay.specs.Overlays.{Pulled, pulled_bit, pulled_rect, shown_bit}
 use Rattle.menu_overlay.specs.Outlines.{IsOutlined, outline_holds, outlined}
 use Rattle.bit_map.specs.Modes.{xor_bit}
-use Rattle.bit_map.specs.Patterns.{pattern_bit}
-use Rattle.desk_ground.specs.Screens.{gray}
+use Rattle.bit_map.specs.Patterns.{pattern_bit, gray}
 use Rattle.desk_call.specs.declared.activity.Activity.{Activity}
 use Rattle.desk_call.specs.declared.activity.Activity.TheVariants.{Idle, Updating, Tracking, Pulling, TrackingControl, Dragging, Growing}
 use Rattle.desk_call.specs.declared.activity.Standing.TheVariants.{Asks, Changes}

@@ -3,6 +3,7 @@ use Rattle.std.proofs.Common.{◌≡◌, ℕ, ◌+◌, ◌<◌, ◌≤◌, ℤ, 
 use Rattle.std.specs.Int.{saturate_signed}
 use Rattle.std.proofs.lemmas.Int.{ints, clamps}
 use Rattle.std.proofs.lemmas.List.Sums.{fold_more}
+use Rattle.std.proofs.lemmas.Bool.{and_parts}
 use Rattle.tb_geom.specs.declared.rect.Rect.{Rect}
 use Rattle.tb_geom.specs.declared.point.Point.{Point}
 use Rattle.tb_geom.specs.Points.{PixelSet, minus}
@@ -26,10 +27,6 @@ use Rattle.draw_port.specs.declared.shapes.TextRun.{TextRun}
 use Rattle.draw_port.specs.declared.shapes.Shape.{Shape}
 use Rattle.draw_port.specs.declared.shapes.Shape.TheVariants.{Text}
 
-pub both : (a b : Bool) → (a && b) ≡ true → (a ≡ true) × (b ≡ true)
-both true b e = (refl, e)
-both false b e = absurd (cc)
-
 near_number : (limit : ℕ) (x o : ℤ) → limit ≤ 32767 → pos 0 ≤ℤ x → nat_abs x < limit → between (negsuc 999999999) o (pos 1000000000) ≡ true → saturate_signed w32 (x -ℤ o) ≡ x -ℤ o
 near_number limit (pos n) o l a b e = grind (arith, ints, clamps)
 near_number limit (negsuc n) o l a b e = absurd (omega (arith, ints))
@@ -42,14 +39,14 @@ seen_number limit (negsuc n) o l a b e = absurd (omega (arith, ints))
 pub seen_near : (m : Bits) (p o : Point) → m.width ≤ 32767 → m.height ≤ 32767 → is_near_origin o ≡ true → on_map m p ≡ true → is_far (minus p o) ≡ false
 seen_near m p o w h near on =
     let at = on_map-sides m p on in
-    let n = both (between (negsuc 999999999) o.h (pos 1000000000)) (between (negsuc 999999999) o.v (pos 1000000000)) near in
+    let n = and_parts (between (negsuc 999999999) o.h (pos 1000000000)) (between (negsuc 999999999) o.v (pos 1000000000)) near in
     λ i. not (seen_number m.width p.h o.h w at.right at.across n.0 i && seen_number m.height p.v o.v h at.below at.down n.1 i)
 
 -- and its numbers are those of 32 bits
 pub stopped-near : (m : Bits) (p o : Point) → m.width ≤ 32767 → m.height ≤ 32767 → is_near_origin o ≡ true → on_map m p ≡ true → stopped p o ≡ minus p o
 stopped-near m p o w h near on =
     let at = on_map-sides m p on in
-    let n = both (between (negsuc 999999999) o.h (pos 1000000000)) (between (negsuc 999999999) o.v (pos 1000000000)) near in
+    let n = and_parts (between (negsuc 999999999) o.h (pos 1000000000)) (between (negsuc 999999999) o.v (pos 1000000000)) near in
     λ i. record { h = near_number m.width p.h o.h w at.right at.across n.0 i; v = near_number m.height p.v o.v h at.below at.down n.1 i }
 
 -- ---- a rule of the canvas

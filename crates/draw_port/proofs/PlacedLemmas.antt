@@ -5,6 +5,7 @@ use Rattle.std.specs.Ordering.{int_eq}
 use Rattle.std.specs.Int.{saturate_signed}
 use Rattle.std.proofs.lemmas.Int.{ints, clamps}
 use Rattle.std.proofs.lemmas.Bool.Decides.{nat_tests}
+use Rattle.std.proofs.lemmas.Bool.{and_parts}
 use Rattle.tb_geom.specs.declared.point.Point.{Point}
 use Rattle.tb_geom.specs.declared.rect.Rect.{Rect}
 use Rattle.tb_geom.specs.Points.{minus}
@@ -66,12 +67,8 @@ enclosed start w h p near =
     let s = sides_of (record { left = negsuc 2147483647; top = negsuc 2147483647; right = pos 2147483647; bottom = pos 2147483647 }) p (not-false _ near) in
     λ i. (int_le start.h p.h && lt-stopped p.h (start.h +ℤ w) s.left s.right i) && (int_le start.v p.v && lt-stopped p.v (start.v +ℤ h) s.top s.bottom i)
 
-both : (a b : Bool) → (a && b) ≡ true → (a ≡ true) × (b ≡ true)
-both true b e = (refl, e)
-both false b e = absurd (cc)
-
 pub both_true : (a b c d : Bool) → (a ≡ true → c ≡ true) → (b ≡ true → d ≡ true) → (a && b) ≡ true → (c && d) ≡ true
-both_true a b c d f g e = let t = both a b e in (λ i. f t.0 i && g t.1 i)
+both_true a b c d f g e = let t = and_parts a b e in (λ i. f t.0 i && g t.1 i)
 
 -- one row, or one column
 pub one_row : (x v : ℤ) → between v x (v +ℤ pos 1) ≡ int_eq x v

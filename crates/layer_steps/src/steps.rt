@@ -8,7 +8,7 @@ use bit_map::{BitMap, Mode, Pattern};
 use def_iface::{Defined, Part, Size, Stocked, Taken, WindowStock};
 use desk_call::{Activity, PictureRef};
 use draw_port::{Op, Picture, Shade, Shape as Form};
-use op_ref::{BytesRef, OpRef, ShapeRef};
+use lent_ops::{OpRef, ShapeRef};
 use plain_layers::desk::{Owner, Painting, PlainDesk, PlainLayer, PlainWindow, seen_from};
 use plain_layers::pixels::Plain;
 use plain_layers::steps::{Effect, Step};
@@ -16,7 +16,7 @@ use std::alloc::Global;
 use strike_font::Font;
 use striped_layers::relaying::{put, take_out};
 use striped_layers::updating::{update, update_at_once, updates_for};
-use tb_geom::{Point, Rect, Refusal};
+use tb_geom::{BytesRef, Point, Rect, Refusal};
 use window_list::{Ranks, WindowList};
 use window_mgr::{
     Drawing, MoveWindow, NewPicture, NewWindow, ScrollPicture, SendBehind, SizeWindow, WindowCall,

@@ -5,7 +5,7 @@ ghost use Rattle.std.specs.List.{list_all};
 ghost use Rattle.line_words.specs.Hex.{hex_digit_value, hex_value, hex_of, is_hex_text};
 
 use crate::piece::Piece;
-use op_ref::BytesRef;
+use tb_geom::BytesRef;
 
 /// The bytes that hex digits stand for, two digits each; None of other words. They lie where their
 /// digits were.

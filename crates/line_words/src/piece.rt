@@ -2,8 +2,8 @@
 ghost use Rattle.std.specs.Prelude.{◌≡◌, ◌==◌, position};
 ghost use Rattle.line_words.specs.Words.{first_of, parts, split_at};
 
-use op_ref::BytesRef;
 use std::marker::Model;
+use tb_geom::BytesRef;
 
 /// Some bytes of a line, which nothing else holds: so hex digits can make room for the bytes that they
 /// stand for. Contracts see the list of the bytes.

@@ -11,9 +11,8 @@ ghost use Rattle.line_words.specs.Words.{word_at, number_at, number_said, serial
 
 use crate::hex::hex_bytes;
 use crate::piece::Piece;
-use op_ref::BytesRef;
 use std::marker::Model;
-use tb_geom::{Point, Rect, Refusal};
+use tb_geom::{BytesRef, Point, Rect, Refusal};
 
 /// What is left of a line, as words. Contracts see its bytes, or None at the end of the line.
 #[derive(Drop)]

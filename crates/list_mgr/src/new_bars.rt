@@ -11,8 +11,7 @@ use desk_call::{NewControl, NewList};
 use draw_port::ShortText;
 use list_cells::ListCells;
 use list_view::ListView;
-use op_ref::BytesRef;
-use tb_geom::{Point, Rect};
+use tb_geom::{BytesRef, Point, Rect};
 
 /// A scroll bar of a new list: where it lies in its window, and how it is set.
 #[derive(Clone, Copy)]

@@ -1,6 +1,6 @@
 -- Lemmas behind the laws.
 use Rattle.std.proofs.Common.{◌≡◌, ◌↔◌, Bool, true, false, ◌&&◌, ℕ, ◌≤◌, ℤ, pos, ◌≤ℤ◌, refl, sym, ap, ◌∙◌, arith, if◌then◌else◌, Some, None}
-use Rattle.std.proofs.lemmas.Bool.{true≢false}
+use Rattle.std.proofs.lemmas.Bool.{true≢false, and_parts}
 use Rattle.std.specs.Prelude.{int_le, int_lt, Option, is_some, unwrap_or}
 use Rattle.std.proofs.lemmas.Int.{ints}
 use Rattle.tb_geom.specs.declared.point.Point.{Point}
@@ -12,10 +12,6 @@ use Rattle.list_cells.specs.Grids.{Grid, IsGrid, is_cell}
 use Rattle.list_view.specs.Axes.{IsLine}
 use Rattle.list_view.specs.Views.{View, IsView, IsCell, view_rect, whole_cell, common_rect, cell_rect, any_cell_at, is_before, cell_at}
 use Rattle.list_view.proofs.LineLemmas.{line_is, lies_in_line, line_at_counted}
-
-and_true : (a b : Bool) → (a && b) ≡ true → (a ≡ true) × (b ≡ true)
-and_true true b e = (refl, e)
-and_true false b e = absurd (cc)
 
 -- ---- rectangles
 
@@ -35,7 +31,7 @@ pub record IsIn (v : View) (c : Cell) (p : Point) : Type 0 where
 
 pub is_in : (v : View) (c : Cell) (p : Point) → rect_holds (cell_rect v c) p ≡ true → IsIn v c p
 is_in v c p e =
-    let both = and_true (rect_holds (view_rect v) p) (rect_holds (whole_cell v c) p) (sym (common_holds (view_rect v) (whole_cell v c) p) ∙ e) in
+    let both = and_parts (rect_holds (view_rect v) p) (rect_holds (whole_cell v c) p) (sym (common_holds (view_rect v) (whole_cell v c) p) ∙ e) in
     record { view = both.0; cell = both.1 }
 
 -- ---- cells and points
@@ -77,7 +73,7 @@ found columns rows v p c e = by_value (rect_holds (view_rect v) p && is_before c
   where
     by_value : (b : Bool) → (rect_holds (view_rect v) p && is_before columns rows (any_cell_at v p)) ≡ b → (if b then Some (any_cell_at v p) else None) ≡ Some c → IsFound columns rows v p c
     by_value true f g =
-        let both = and_true (rect_holds (view_rect v) p) (is_before columns rows (any_cell_at v p)) f in
+        let both = and_parts (rect_holds (view_rect v) p) (is_before columns rows (any_cell_at v p)) f in
         record { view = both.0; before = both.1; place = ap (λ (o : Option Cell). unwrap_or o c) g }
     by_value false f g = absurd (true≢false (sym (ap (λ (o : Option Cell). is_some o) g)))
 
@@ -96,9 +92,9 @@ record IsListed (list : Grid) (c : Cell) : Type 0 where
 
 is_listed : (list : Grid) (c : Cell) → is_cell list c ≡ true → IsListed list c
 is_listed list c e =
-    let both = and_true (int_le (pos 0) c.column && int_lt c.column (pos list.columns)) (int_le (pos 0) c.row && int_lt c.row (pos list.rows)) e in
-    let column = and_true (int_le (pos 0) c.column) (int_lt c.column (pos list.columns)) both.0 in
-    let row = and_true (int_le (pos 0) c.row) (int_lt c.row (pos list.rows)) both.1 in
+    let both = and_parts (int_le (pos 0) c.column && int_lt c.column (pos list.columns)) (int_le (pos 0) c.row && int_lt c.row (pos list.rows)) e in
+    let column = and_parts (int_le (pos 0) c.column) (int_lt c.column (pos list.columns)) both.0 in
+    let row = and_parts (int_le (pos 0) c.row) (int_lt c.row (pos list.rows)) both.1 in
     record { column = column.0; before_column = column.1; row = row.0; before_row = row.1 }
 
 line_of : (z : ℤ) (n : ℕ) → n ≤ 4096 → int_le (pos 0) z ≡ true → int_lt z (pos n) ≡ true → IsLine z
@@ -133,6 +129,6 @@ found_is_cell v list c p h e =
     let view = sides_of (view_rect v) p is.view in
     let column = line_at_counted v.across v.first.column p.h h.across view.left h.first.column in
     let row = line_at_counted v.down v.first.row p.v h.down view.top h.first.row in
-    let before = and_true (int_lt (any_cell_at v p).column (pos list.columns)) (int_lt (any_cell_at v p).row (pos list.rows)) is.before in
+    let before = and_parts (int_lt (any_cell_at v p).column (pos list.columns)) (int_lt (any_cell_at v p).row (pos list.rows)) is.before in
     ap (is_cell list) (sym is.place)
     ∙ (λ i. (counted (any_cell_at v p).column column i && before.0 i) && (counted (any_cell_at v p).row row i && before.1 i))

@@ -2,7 +2,7 @@
 use Rattle.std.proofs.Common.{◌≡◌, ℕ, ◌+◌, ℤ, pos, ◌+ℤ◌, ◌-ℤ◌, ◌≤ℤ◌, Bool, true, false, cond, ◌&&◌, ◌||◌, refl, sym, ap, ◌∙◌, arith}
 use Rattle.std.specs.Ordering.{int_eq}
 use Rattle.std.proofs.lemmas.Int.{ints}
-use Rattle.std.proofs.lemmas.Bool.{true≢false}
+use Rattle.std.proofs.lemmas.Bool.{true≢false, and_parts}
 use Rattle.std.proofs.lemmas.Bool.Decides.{Decides-int_eq}
 use Rattle.tb_geom.specs.declared.point.Point.{Point}
 use Rattle.tb_geom.specs.declared.rect.Rect.{Rect}
@@ -24,10 +24,6 @@ same_tests : (a b : Bool) → (a ≡ true → b ≡ true) → (b ≡ true → a 
 same_tests true b f g = sym (f refl)
 same_tests false true f g = g refl
 same_tests false false f g = refl
-
-and_true : (a b : Bool) → (a && b) ≡ true → (a ≡ true) × (b ≡ true)
-and_true true b e = (refl, e)
-and_true false b e = absurd (cc)
 
 all_three : (a b c : Bool) → a ≡ true → b ≡ true → c ≡ true → (a && (b && c)) ≡ true
 all_three a b c x y z = λ i. x i && (y i && z i)
@@ -54,7 +50,7 @@ pixel_one r h v inside p = same_tests _ _ there back
 
     back : (rect_holds r p && (int_eq p.h h && int_eq p.v v)) ≡ true → rect_holds (pixel_at h v) p ≡ true
     back e =
-        let b = and_true (int_eq p.h h) (int_eq p.v v) (and_true (rect_holds r p) (int_eq p.h h && int_eq p.v v) e).1 in
+        let b = and_parts (int_eq p.h h) (int_eq p.v v) (and_parts (rect_holds r p) (int_eq p.h h && int_eq p.v v) e).1 in
         let column = (Decides-int_eq p.h h).0 b.0 in
         let row = (Decides-int_eq p.v v).0 b.1 in
         holds_in (pixel_at h v) p (omega (arith, ints)) (omega (arith, ints)) (omega (arith, ints)) (omega (arith, ints))
@@ -69,8 +65,8 @@ pixel_none r h v out p = same_tests _ _ there back
 
     back : (rect_holds r p && (int_eq p.h h && int_eq p.v v)) ≡ true → rect_holds (record { left = pos 0; top = pos 0; right = pos 0; bottom = pos 0 }) p ≡ true
     back e =
-        let a = and_true (rect_holds r p) (int_eq p.h h && int_eq p.v v) e in
-        let b = and_true (int_eq p.h h) (int_eq p.v v) a.1 in
+        let a = and_parts (rect_holds r p) (int_eq p.h h && int_eq p.v v) e in
+        let b = and_parts (int_eq p.h h) (int_eq p.v v) a.1 in
         let column = (Decides-int_eq p.h h).0 b.0 in
         let row = (Decides-int_eq p.v v).0 b.1 in
         absurd (true≢false (sym a.0 ∙ (λ i. between r.left (column i) r.right && between r.top (row i) r.bottom) ∙ out))
@@ -173,18 +169,18 @@ rows_none r p = same_tests _ _ there (λ e. absurd (cc))
   where
     there : (cross_holds r p && is_before r 0 p) ≡ true → false ≡ true
     there e =
-        let a = and_true (cross_holds r p) (is_before r 0 p) e in
-        let b = and_true (rect_holds r p) (on_diagonals r p) a.0 in
+        let a = and_parts (cross_holds r p) (is_before r 0 p) e in
+        let b = and_parts (rect_holds r p) (on_diagonals r p) a.0 in
         let s = sides_of r p b.0 in
         absurd (grind (arith, ints))
 
 -- every row
 pub rows_all : (r : Rect) (k : ℕ) (p : Point) → r.bottom ≤ℤ (r.top +ℤ pos k) → (cross_holds r p && is_before r k p) ≡ cross_holds r p
-rows_all r k p past = same_tests _ _ (λ e. (and_true (cross_holds r p) (is_before r k p) e).0) there
+rows_all r k p past = same_tests _ _ (λ e. (and_parts (cross_holds r p) (is_before r k p) e).0) there
   where
     there : cross_holds r p ≡ true → (cross_holds r p && is_before r k p) ≡ true
     there e =
-        let s = sides_of r p (and_true (rect_holds r p) (on_diagonals r p) e).0 in
+        let s = sides_of r p (and_parts (rect_holds r p) (on_diagonals r p) e).0 in
         let below : is_before r k p ≡ true = grind (arith, ints) in
         λ i. e i && below i
 

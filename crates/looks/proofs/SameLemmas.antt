@@ -1,6 +1,6 @@
 -- Steps that the tests tell to be the same are.
-use Rattle.std.proofs.Common.{◌≡◌, ℕ, zero, suc, Bool, true, false, ◌&&◌, refl, sym, ap, ◌∙◌}
-use Rattle.std.proofs.lemmas.Bool.{eqb-true}
+use Rattle.std.proofs.Common.{◌≡◌, ℕ, zero, suc, true, ◌&&◌, refl, sym, ap, ◌∙◌}
+use Rattle.std.proofs.lemmas.Bool.{eqb-true, and_parts}
 use Rattle.std.proofs.lemmas.Bool.Decides.{Decides-int_eq}
 use Rattle.std.proofs.lemmas.Slice.Eq.{bytes_eq-Decides}
 use Rattle.std.specs.Prelude.{nat_eq}
@@ -22,15 +22,11 @@ use Rattle.looks.specs.declared.step.Mark.TheVariants.{Fill, Frame, Behind, Text
 use Rattle.looks.specs.declared.step.Step.{Step}
 use Rattle.looks.specs.Same.{same_rects, same_shades, same_marks, same_plates, same_pens, same_baselines}
 
-and_true : (a b : Bool) → (a && b) ≡ true → (a ≡ true) × (b ≡ true)
-and_true true b e = (refl, e)
-and_true false b e = absurd (cc)
-
 pub rects_same : (a b : Rect) → same_rects a b ≡ true → a ≡ b
 rects_same a b e =
-    let l = and_true (int_eq a.left b.left) (int_eq a.top b.top && (int_eq a.right b.right && int_eq a.bottom b.bottom)) e in
-    let t = and_true (int_eq a.top b.top) (int_eq a.right b.right && int_eq a.bottom b.bottom) l.1 in
-    let r = and_true (int_eq a.right b.right) (int_eq a.bottom b.bottom) t.1 in
+    let l = and_parts (int_eq a.left b.left) (int_eq a.top b.top && (int_eq a.right b.right && int_eq a.bottom b.bottom)) e in
+    let t = and_parts (int_eq a.top b.top) (int_eq a.right b.right && int_eq a.bottom b.bottom) l.1 in
+    let r = and_parts (int_eq a.right b.right) (int_eq a.bottom b.bottom) t.1 in
     same_rect a b ((Decides-int_eq a.left b.left).0 l.0) ((Decides-int_eq a.top b.top).0 t.0) ((Decides-int_eq a.right b.right).0 r.0) ((Decides-int_eq a.bottom b.bottom).0 r.1)
 
 -- the mode of a number
@@ -60,14 +56,14 @@ modes_same a b e = sym (back a) ∙ ap mode_of e ∙ back b
 
 pub shades_same : (a b : Shade) → same_shades a b ≡ true → a ≡ b
 shades_same a b e =
-    let both = and_true (bytes_eq a.pattern.rows b.pattern.rows) (nat_eq (source_number a.mode) (source_number b.mode)) e in
+    let both = and_parts (bytes_eq a.pattern.rows b.pattern.rows) (nat_eq (source_number a.mode) (source_number b.mode)) e in
     λ i. record { pattern = record { rows = (bytes_eq-Decides a.pattern.rows b.pattern.rows).0 both.0 i }; mode = modes_same a.mode b.mode (eqb-true (source_number a.mode) (source_number b.mode) both.1) i }
 
 pub plates_same : (a b : Plate) → same_plates a b ≡ true → a ≡ b
 plates_same a b e =
-    let w = and_true (nat_eq a.width b.width) (nat_eq a.margin b.margin && (int_eq a.top b.top && int_eq a.bottom b.bottom)) e in
-    let m = and_true (nat_eq a.margin b.margin) (int_eq a.top b.top && int_eq a.bottom b.bottom) w.1 in
-    let t = and_true (int_eq a.top b.top) (int_eq a.bottom b.bottom) m.1 in
+    let w = and_parts (nat_eq a.width b.width) (nat_eq a.margin b.margin && (int_eq a.top b.top && int_eq a.bottom b.bottom)) e in
+    let m = and_parts (nat_eq a.margin b.margin) (int_eq a.top b.top && int_eq a.bottom b.bottom) w.1 in
+    let t = and_parts (int_eq a.top b.top) (int_eq a.bottom b.bottom) m.1 in
     λ i. record { width = eqb-true a.width b.width w.0 i; margin = eqb-true a.margin b.margin m.0 i; top = (Decides-int_eq a.top b.top).0 t.0 i; bottom = (Decides-int_eq a.bottom b.bottom).0 t.1 i }
 
 pub pens_same : (a b : Pen) → same_pens a b ≡ true → a ≡ b
@@ -83,10 +79,10 @@ baselines_same (AtRow x) (MiddleRow k) e = absurd (cc)
 baselines_same (MiddleRow h) (AtRow y) e = absurd (cc)
 
 pub marks_same : (a b : Mark) → same_marks a b ≡ true → a ≡ b
-marks_same (Fill r s) (Fill q t) e = let both = and_true (same_rects r q) (same_shades s t) e in λ i. Fill (rects_same r q both.0 i) (shades_same s t both.1 i)
-marks_same (Frame r s) (Frame q t) e = let both = and_true (same_rects r q) (same_shades s t) e in λ i. Frame (rects_same r q both.0 i) (shades_same s t both.1 i)
+marks_same (Fill r s) (Fill q t) e = let both = and_parts (same_rects r q) (same_shades s t) e in λ i. Fill (rects_same r q both.0 i) (shades_same s t both.1 i)
+marks_same (Frame r s) (Frame q t) e = let both = and_parts (same_rects r q) (same_shades s t) e in λ i. Frame (rects_same r q both.0 i) (shades_same s t both.1 i)
 marks_same (Behind a) (Behind b) e = ap Behind (plates_same a b e)
-marks_same (Text a) (Text b) e = let both = and_true (same_pens a.pen b.pen) (same_baselines a.baseline b.baseline) e in λ i. Text (record { pen = pens_same a.pen b.pen both.0 i; baseline = baselines_same a.baseline b.baseline both.1 i })
+marks_same (Text a) (Text b) e = let both = and_parts (same_pens a.pen b.pen) (same_baselines a.baseline b.baseline) e in λ i. Text (record { pen = pens_same a.pen b.pen both.0 i; baseline = baselines_same a.baseline b.baseline both.1 i })
 marks_same (Cross r) (Cross q) e = ap Cross (rects_same r q e)
 marks_same (Fill r s) (Frame q t) e = absurd (cc)
 marks_same (Fill r s) (Behind q) e = absurd (cc)

@@ -1,5 +1,5 @@
 -- One title after another.
-use Rattle.std.proofs.Common.{◌≡◌, ℕ, ◌+◌, ◌≤◌, ℤ, pos, negsuc, not, arith, ◌-ℤ◌, Bool, true, false, ◌&&◌, if◌then◌else◌, None, List, [], ◌∷◌, ◌++◌, take, refl, sym, ap, ◌∙◌}
+use Rattle.std.proofs.Common.{◌≡◌, ℕ, ◌+◌, ◌≤◌, ℤ, pos, negsuc, not, arith, Bool, true, false, ◌&&◌, if◌then◌else◌, None, List, [], ◌∷◌, ◌++◌, take, refl, sym, ap, ◌∙◌}
 use Rattle.tb_geom.specs.declared.point.Point.{Point}
 use Rattle.std.specs.Prelude.{int_lt}
 use Rattle.std.specs.Ordering.{int_eq}
@@ -15,7 +15,9 @@ use Rattle.draw_port.specs.Ops.{shade_value}
 use Rattle.scan_region.specs.declared.cut.Cut.{Cut}
 use Rattle.scan_region.specs.Cuts.{cut_holds}
 use Rattle.std.specs.Borrow.{Bor}
+use Rattle.std.proofs.lemmas.Bool.{and_parts}
 use Rattle.tb_geom.specs.declared.rect.Rect.{Rect}
+use Rattle.tb_geom.proofs.PointLemmas.{minus-origin}
 use Rattle.desk_ground.proofs.GroundLemmas.{pattern_bit-black}
 use Rattle.draw_port.specs.Canvases.{canvas_holds, canvas_point, SameFrame}
 use Rattle.looks.specs.declared.step.Step.{Step}
@@ -64,16 +66,6 @@ font_stays c d t f = λ i. title_width ((f.font i).now) t
 
 -- ---- the whole bar
 
-at_origin : (p : Point) → minus p (record { h = pos 0; v = pos 0 }) ≡ p
-at_origin p = λ i. record { h = same p.h i; v = same p.v i }
-  where
-    same : (x : ℤ) → x -ℤ pos 0 ≡ x
-    same x = grind (arith, ints)
-
-both_true : (a b : Bool) → (a && b) ≡ true → (a ≡ true) × (b ≡ true)
-both_true true b e = (refl, e)
-both_true false b e = absurd (cc)
-
 across : (h : ℤ) (limit : ℕ) → is_below limit h ≡ true → limit ≤ 1024 → between (pos 0) h (pos 1024) ≡ true
 across (pos n) limit on few = grind (arith, ints, nat_tests)
 across (negsuc n) limit on few = absurd (cc)
@@ -90,7 +82,7 @@ in_rows : (m : Bits) (rows : ℤ) (p : Point) → m.width ≤ 1024 → on_map m 
     → (between (pos 0) p.h (pos 1024) ≡ true) × (rect_holds (box (pos 0) (pos 0) (pos 1024) rows) p ≡ int_lt p.v rows)
 unfolding on_map
 in_rows m rows p few on =
-    let o = both_true _ _ on in
+    let o = and_parts _ _ on in
     let h = across p.h m.width o.0 few in
     (h, ap (λ b. b && between (pos 0) p.v rows) h ∙ down p.v rows m.height o.1)
 
@@ -139,7 +131,7 @@ bar_drawn titles shown step rows clip at cut font d first middle last end is_sho
     plain p = look_bit (lettering font.now []) (black_fill (box (pos 0) (pos 19) (pos 1024) (pos 20)) ∷ []) p
 
     moved : (p : Point) → minus p at ≡ p
-    moved p = ap (minus p) is_at ∙ at_origin p
+    moved p = ap (minus p) is_at ∙ minus-origin p
 
     held : (m : Bits) (p : Point) → m.width ≤ 1024 → on_map m p ≡ true → (rect_holds clip p && cut_holds cut.now p) ≡ int_lt p.v rows
     held m p w on = (λ i. rect_holds (is_clip i) p && cut_holds (is_whole i) p) ∙ whole_cut (rect_holds (box (pos 0) (pos 0) (pos 1024) rows) p) ∙ (in_rows m rows p w on).1

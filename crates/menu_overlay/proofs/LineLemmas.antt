@@ -6,16 +6,15 @@ use Rattle.tb_geom.specs.declared.point.Point.{Point}
 use Rattle.tb_geom.specs.declared.rect.Rect.{Rect}
 use Rattle.tb_geom.specs.Points.{minus}
 use Rattle.tb_geom.specs.Rects.{rect_holds}
+use Rattle.tb_geom.proofs.PointLemmas.{origin, minus-origin}
 use Rattle.bit_map.specs.Bits.{Bits, bit, is_point}
 use Rattle.bit_map.specs.declared.mode.Mode.TheVariants.{Xor}
 use Rattle.bit_map.specs.Modes.{mode_bit, xor_bit}
-use Rattle.bit_map.specs.Patterns.{bit_of, eighth_of, pattern_bit}
+use Rattle.bit_map.specs.Patterns.{bit_of, eighth_of, pattern_bit, gray}
 use Rattle.bit_map.proofs.BitsLemmas.{is_point-is}
 use Rattle.bit_blit.specs.Draws.{Draws, DrawsOnce}
 use Rattle.bit_blit.proofs.DrawsLemmas.{Draws-more, Draws-none, Draws-once, Draws-same, Draws-value}
 use Rattle.bit_blit.proofs.WalkLemmas.{in_rows, in_rows-none}
-use Rattle.desk_ground.specs.Screens.{gray}
-use Rattle.desk_ground.proofs.GroundLemmas.{origin, minus-origin}
 use Rattle.menu_overlay.proofs.OutlineLemmas.{inverted}
 
 -- a pattern whose origin is that of the map

@@ -10,10 +10,9 @@ use Rattle.tb_geom.specs.Points.{PixelSet}
 use Rattle.tb_geom.specs.Rects.{between, rect_holds}
 use Rattle.bit_map.specs.Bits.{Bits, bit, on_map}
 use Rattle.bit_map.specs.Modes.{xor_bit}
-use Rattle.bit_map.specs.Patterns.{pattern_bit}
+use Rattle.bit_map.specs.Patterns.{pattern_bit, gray}
 use Rattle.bit_blit.specs.Draws.{Draws}
 use Rattle.bit_blit.proofs.DrawsLemmas.{Draws-more, Draws-none, Draws-on_map}
-use Rattle.desk_ground.specs.Screens.{gray}
 use Rattle.def_iface.specs.Lines.{AreApart, line_holds}
 use Rattle.menu_overlay.specs.Outlines.{IsOutlined, outline_holds, outlined}
 use Rattle.menu_overlay.specs.Overlays.{IsShown}

@@ -9,6 +9,7 @@ use Rattle.tb_geom.specs.Rects.{rect_holds, in_plane, is_coordinate}
 use Rattle.bit_map.specs.Bits.{Bits, bit, on_map, is_below, bounds_of}
 use Rattle.bit_map.proofs.BitsLemmas.{on_map-same}
 use Rattle.std.specs.Prelude.{int_le}
+use Rattle.std.proofs.lemmas.Bool.{and_parts}
 use Rattle.bit_blit.specs.Draws.{Draws}
 use Rattle.bit_blit.proofs.DrawsLemmas.{Draws-same, Draws-on_map}
 use Rattle.scan_region.specs.declared.cut.Cut.{Cut}
@@ -67,14 +68,10 @@ seen : (h left : ℤ) (limit : ℕ) → is_below limit h ≡ true → limit ≤ 
 seen (pos n) left limit on few at = grind (arith, ints, nat_tests)
 seen (negsuc n) left limit on few at = absurd (cc)
 
-both_true : (a b : Bool) → (a && b) ≡ true → (a ≡ true) × (b ≡ true)
-both_true true b e = (refl, e)
-both_true false b e = absurd (cc)
-
 seen_in_plane : (m : Bits) (place p : Point) → (m.width ≤ 1024) × (m.height ≤ 1024) → is_menu_place place ≡ true → on_map m p ≡ true → in_plane (minus p place) ≡ true
 unfolding on_map
 seen_in_plane m place p few at on =
-    let o = both_true _ _ on in let a = both_true _ _ at in
+    let o = and_parts _ _ on in let a = and_parts _ _ at in
     rw (seen p.h place.h m.width o.0 few.0 a.0) (seen p.v place.v m.height o.1 few.1 a.1)
 
 -- a menu is drawn anew within the damage

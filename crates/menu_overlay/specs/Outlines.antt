@@ -5,8 +5,7 @@ use Rattle.tb_geom.specs.declared.rect.Rect.{Rect}
 use Rattle.tb_geom.specs.Points.{PixelSet}
 use Rattle.bit_map.specs.Bits.{Bits, on_map, bit}
 use Rattle.bit_map.specs.Modes.{xor_bit}
-use Rattle.bit_map.specs.Patterns.{pattern_bit}
-use Rattle.desk_ground.specs.Screens.{gray}
+use Rattle.bit_map.specs.Patterns.{pattern_bit, gray}
 use Rattle.def_iface.specs.Lines.{line_holds}
 
 -- the pixel lies on one of the lines, and below the menu bar, which has so many rows

@@ -6,9 +6,8 @@ ghost use Rattle.tb_geom.specs.declared.point.Point.{Point};
 ghost use Rattle.tb_geom.specs.Rects.{rect_holds};
 ghost use Rattle.bit_map.specs.Bits.{is_point, on_map};
 ghost use Rattle.bit_map.specs.Modes.{xor_bit};
-ghost use Rattle.bit_map.specs.Patterns.{pattern_bit};
+ghost use Rattle.bit_map.specs.Patterns.{pattern_bit, gray};
 ghost use Rattle.bit_blit.specs.Draws.{Draws};
-ghost use Rattle.desk_ground.specs.Screens.{gray};
 
 use bit_blit::{Ink, draw_rect};
 use bit_map::{BitMap, Mode, Pattern};

@@ -3,9 +3,8 @@ ghost use Rattle.std.specs.Prelude.{◌≡◌};
 ghost use Rattle.std.specs.Int.{int_max};
 ghost use Rattle.bit_map.specs.Bits.{Bits};
 ghost use Rattle.bit_map.specs.Modes.{xor_bit};
-ghost use Rattle.bit_map.specs.Patterns.{pattern_bit};
+ghost use Rattle.bit_map.specs.Patterns.{pattern_bit, gray};
 ghost use Rattle.bit_blit.specs.Draws.{Draws};
-ghost use Rattle.desk_ground.specs.Screens.{gray};
 ghost use Rattle.def_iface.specs.Lines.{AreApart};
 ghost use Rattle.menu_overlay.specs.Outlines.{IsOutlined, outline_holds};
 

@@ -2,10 +2,10 @@
 
 use bit_map::{Mode, Pattern};
 use draw_port::{Picture, TextMode};
-use op_ref::{BitsRef, BytesRef, LineRef, OpRef, ShapeRef, TextRef};
+use lent_ops::{BitsRef, LineRef, OpRef, ShapeRef, TextRef};
 use std::test::Fail;
 use strike_font::Font;
-use tb_geom::Refusal;
+use tb_geom::{BytesRef, Refusal};
 use test_pixels::images::{drawn, shade, shows};
 use test_pixels::small::SMALL;
 use test_pixels::{point, rect};

@@ -3,6 +3,7 @@ use Rattle.std.proofs.Common.{◌≡◌, Bool, true, false, ◌&&◌, refl, arit
 use Rattle.std.proofs.Common.{ℤ, pos, negsuc, ◌+ℤ◌, ◌-ℤ◌, ◌≤ℤ◌, ◌<ℤ◌}
 use Rattle.std.proofs.lemmas.Int.{ints}
 use Rattle.std.specs.Int.{int_div_euclid}
+use Rattle.std.proofs.lemmas.Bool.{and_parts}
 use Rattle.tb_geom.specs.declared.point.Point.{Point}
 use Rattle.tb_geom.specs.declared.rect.Rect.{Rect}
 use Rattle.tb_geom.specs.Rects.{rect_holds, is_in_range, is_coordinate, IsBoxOf}
@@ -14,10 +15,6 @@ use Rattle.looks.specs.Areas.{area_holds, piece_fits, added_rect, removed_rect}
 use Rattle.looks.proofs.AreaLemmas.{box-by-corners, coordinate, coordinate_high, two_fit, without, with_all}
 use Rattle.own_kind.specs.HollowWindows.{outline, third, hole, hollow_structure, hollow_content}
 
-pub and_true : (a b : Bool) → (a && b) ≡ true → (a ≡ true) × (b ≡ true)
-and_true true b e = (refl, e)
-and_true false b e = absurd (cc)
-
 -- the sides of a size
 record IsSome (s : Size) : Type 0 where
   pub across : pos 0 <ℤ s.width
@@ -28,7 +25,7 @@ extent-some n e = grind (arith, ints)
 
 size_some : (s : Size) → is_size s ≡ true → IsSome s
 size_some s e =
-    let both = and_true (is_extent s.width) (is_extent s.height) e in
+    let both = and_parts (is_extent s.width) (is_extent s.height) e in
     record { across = extent-some s.width both.0; down = extent-some s.height both.1 }
 
 -- a third of a number
@@ -53,7 +50,7 @@ record IsLow (s : Size) : Type 0 where
 
 low_of : (s : Size) → is_in_range (outline s) ≡ true → IsLow s
 low_of s e =
-    let both = and_true (is_coordinate (s.width +ℤ pos 1)) (is_coordinate (s.height +ℤ pos 1)) e in
+    let both = and_parts (is_coordinate (s.width +ℤ pos 1)) (is_coordinate (s.height +ℤ pos 1)) e in
     let w = coordinate_high (s.width +ℤ pos 1) both.0 in
     let h = coordinate_high (s.height +ℤ pos 1) both.1 in
     record { across = omega (arith, ints); down = omega (arith, ints) }

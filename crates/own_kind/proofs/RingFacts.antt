@@ -2,6 +2,7 @@
 use Rattle.std.proofs.Common.{◌≡◌, Bool, true, false, ◌&&◌, refl, arith, All}
 use Rattle.std.proofs.Common.{ℤ, pos, ◌-ℤ◌, ◌≤ℤ◌, ◌<ℤ◌}
 use Rattle.std.proofs.lemmas.Int.{ints}
+use Rattle.std.proofs.lemmas.Bool.{and_parts}
 use Rattle.tb_geom.specs.declared.point.Point.{Point}
 use Rattle.tb_geom.specs.declared.rect.Rect.{Rect}
 use Rattle.tb_geom.specs.Rects.{rect_holds, is_in_range, IsBoxOf}
@@ -13,7 +14,7 @@ use Rattle.def_iface.specs.Meaning.{IsWithin}
 use Rattle.looks.specs.Areas.{area_holds, piece_fits, added_rect, removed_rect}
 use Rattle.looks.proofs.AreaLemmas.{box-by-corners, coordinate, two_fit, without, with_all}
 use Rattle.own_kind.specs.Rings.{across, down, hole, ring_region}
-use Rattle.own_kind.proofs.HoleFacts.{and_true, IsThird, third_of}
+use Rattle.own_kind.proofs.HoleFacts.{IsThird, third_of}
 
 -- the sides of a control's size
 record IsSmall (n : ℤ) : Type 0 where
@@ -29,7 +30,7 @@ record AreSmall (s : Size) : Type 0 where
 
 sides_small : (s : Size) → is_control_size s ≡ true → AreSmall s
 sides_small s e =
-    let both = and_true (is_control_extent s.width) (is_control_extent s.height) e in
+    let both = and_parts (is_control_extent s.width) (is_control_extent s.height) e in
     record { width = small s.width both.0; height = small s.height both.1 }
 
 -- the sides of the hole

@@ -11,12 +11,11 @@ use anyhow::{Result, bail};
 use banner::Banner;
 use def_iface::{Size, Stock};
 use desk_toolbox::{Call, NewWindow, Reply, Toolbox, WindowCall};
-use op_ref::BytesRef;
 use screen_pbm::write_p1;
 use std::alloc::AllocError;
 use std::io;
 use strike_font::Font;
-use tb_geom::{Point, Refusal};
+use tb_geom::{BytesRef, Point, Refusal};
 use watched_io::WatchedWriter;
 
 /// The call that makes a window. Its content, of 30 by 14 pixels, begins at this place of the screen.

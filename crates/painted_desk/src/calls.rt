@@ -4,9 +4,8 @@ use bit_map::{Mode, Pattern};
 use def_iface::Size;
 use desk_toolbox::{Call, NewPicture, NewWindow, PictureRef, UpdateCall, WindowCall};
 use draw_port::{Op, Picture, Shade, Shape};
-use op_ref::BytesRef;
 use std::alloc::Global;
-use tb_geom::{Point, Rect, Refusal};
+use tb_geom::{BytesRef, Point, Rect, Refusal};
 
 /// A bar of two columns and nine rows.
 const BAR: Rect = Rect {

@@ -4,7 +4,7 @@ use Rattle.std.specs.List.{list_any, AllPairs}
 use Rattle.std.specs.Ordering.{int_eq}
 use Rattle.std.proofs.Math.Bool.{and-false}
 use Rattle.std.proofs.lemmas.Int.{ints, by_lt_z}
-use Rattle.std.proofs.lemmas.Bool.{true≢false, false≢true}
+use Rattle.std.proofs.lemmas.Bool.{true≢false, and_parts}
 use Rattle.std.proofs.lemmas.List.{reverse-append, length-map, length-reverse, get_or-map, get_or-reverse}
 use Rattle.std.proofs.lemmas.List.Folds.{list_any-append, list_any_at}
 use Rattle.std.proofs.lemmas.List.Elements.{All-nil, All-cons, All-head, All-tail, All-append, All-map, All-weaker}
@@ -50,15 +50,11 @@ in_first x rest run =
     let within : between x.left x.left x.right ≡ true = grind (arith, ints) in
     λ i. (int_eq-same x.v i && within i) || list_any (λ span. span_holds span (record { h = x.left; v = x.v })) rest
 
-parts : (a b : Bool) → (a && b) ≡ true → (a ≡ true) × (b ≡ true)
-parts true b e = (refl, e)
-parts false b e = absurd (false≢true e)
-
 pub some_meets : (spans rest : List Span) (x : Span) (s : Pixels) (area : Rect) (q : PixelSet) → IsScanOf spans (λ p. rect_holds area p && q p) → spans ≡ x ∷ rest → ((p : Point) → q p ≡ holds s p) → (p : Point) × (rect_holds area p ≡ true) × (holds s p ≡ true)
 some_meets spans rest x s area q scan e same =
     let p : Point = record { h = x.left; v = x.v } in
     let run = All-head IsRun x rest (subst (All IsRun) e scan.runs) in
-    let t = parts (rect_holds area p) (q p) (scan.pixels p ∙ ap (λ l. list_any (λ span. span_holds span p) l) e ∙ in_first x rest run) in
+    let t = and_parts (rect_holds area p) (q p) (scan.pixels p ∙ ap (λ l. list_any (λ span. span_holds span p) l) e ∙ in_first x rest run) in
     (p, t.0, sym (same p) ∙ t.1)
 
 pub none_meet : (spans : List Span) (s : Pixels) (area : Rect) (q : PixelSet) → IsScanOf spans (λ p. rect_holds area p && q p) → spans ≡ [] → ((p : Point) → q p ≡ holds s p) → (p : Point) → rect_holds area p ≡ true → holds s p ≡ true → ⊥
@@ -170,8 +166,8 @@ up_near rows r area q inner g ea eb ec ed scan = λ k d l.
     let last : between x.left (x.right -ℤ pos 1) x.right ≡ true = grind (arith, ints) in
     let p : Point = record { h = x.left; v = x.v } in
     let z : Point = record { h = x.right -ℤ pos 1; v = x.v } in
-    let a = sides_of area p (parts (rect_holds area p) (q p) (scan.pixels p ∙ list_any_at (λ s. span_holds s p) inner k d l (λ i. int_eq-same x.v i && within i))).0 in
-    let b = sides_of area z (parts (rect_holds area z) (q z) (scan.pixels z ∙ list_any_at (λ s. span_holds s z) inner k d l (λ i. int_eq-same x.v i && last i))).0 in
+    let a = sides_of area p (and_parts (rect_holds area p) (q p) (scan.pixels p ∙ list_any_at (λ s. span_holds s p) inner k d l (λ i. int_eq-same x.v i && within i))).0 in
+    let b = sides_of area z (and_parts (rect_holds area z) (q z) (scan.pixels z ∙ list_any_at (λ s. span_holds s z) inner k d l (λ i. int_eq-same x.v i && last i))).0 in
     let c = sides_in rows r g in
     let f = ends_in rows r g in
     let c1 = c.0.0 in

@@ -17,7 +17,7 @@ use Rattle.bit_blit.specs.Draws.{Draws}
 use Rattle.bit_blit.proofs.DrawsLemmas.{Draws-on_map, Draws-over}
 use Rattle.draw_port.specs.Ops.{picture_bit}
 use Rattle.desk_ground.specs.declared.ground.Ground.{Ground}
-use Rattle.desk_ground.specs.Screens.{is_screen, is_screen_side, is_bar, gray}
+use Rattle.desk_ground.specs.Screens.{is_screen, is_screen_side, is_bar, desktop}
 use Rattle.desk_ground.specs.Grounds.{IsGround}
 use Rattle.def_iface.specs.News.{no_news}
 use Rattle.def_iface.specs.declared.part.Part.{Part}
@@ -236,8 +236,8 @@ module _ {V : Type 0} {H : V → Type 0} (loan : Taken V H → Loan) (look : Loo
 
 -- painting from nothing is painting the windows over the desktop, and the menu bar over them
 scratch_is : (desk : FullDesk) (p : Point)
-    → scratch (layered_desk desk) p ≡ (if int_lt p.v desk.bar.rows then bar_picture desk.font desk.bar.titles p else windows_value (look_of desk) desk.windows p (pattern_bit gray p))
-scratch_is desk p = fold-append (painted p) (pattern_bit gray p) (layers_of (map (layered_window (look_of desk)) desk.windows)) _
+    → scratch (layered_desk desk) p ≡ (if int_lt p.v desk.bar.rows then bar_picture desk.font desk.bar.titles p else windows_value (look_of desk) desk.windows p (pattern_bit desktop p))
+scratch_is desk p = fold-append (painted p) (pattern_bit desktop p) (layers_of (map (layered_window (look_of desk)) desk.windows)) _
 
 -- the desk's pixels are those of the ground
 on_ground : (desk : FullDesk) (g : Ground) → IsGround desk.width desk.height desk.bar.rows g → (p : Point) → on_screen (layered_desk desk) p ≡ on_map g.screen p
@@ -275,13 +275,13 @@ desk_painted desk g mid new bar_is ground drawn topped = record {
         over_bar b below = if b then bar_picture desk.font desk.bar.titles p else below
 
         by_bar : on_map g.screen p ≡ true → (b : Bool) → int_lt p.v desk.bar.rows ≡ b
-            → over_bar (int_lt p.v desk.bar.rows) (bit mid p) ≡ over_bar (int_lt p.v desk.bar.rows) (windows_value (look_of desk) desk.windows p (pattern_bit gray p))
-        by_bar there true e = ap (λ b. over_bar b (bit mid p)) e ∙ sym (ap (λ b. over_bar b (windows_value (look_of desk) desk.windows p (pattern_bit gray p))) e)
+            → over_bar (int_lt p.v desk.bar.rows) (bit mid p) ≡ over_bar (int_lt p.v desk.bar.rows) (windows_value (look_of desk) desk.windows p (pattern_bit desktop p))
+        by_bar there true e = ap (λ b. over_bar b (bit mid p)) e ∙ sym (ap (λ b. over_bar b (windows_value (look_of desk) desk.windows p (pattern_bit desktop p))) e)
         by_bar there false e =
             let h : holds g.gray p ≡ true = is_gray p on ∙ ap not e in
-            let under : bit g.screen p ≡ pattern_bit gray p = ground.pixels p there
-            ∙ (λ i. if no_row desk.bar.rows p.v e i then true else (if h i then pattern_bit gray p else false)) in
-            let held : bit mid p ≡ windows_value (look_of desk) desk.windows p (pattern_bit gray p) = drawn.pixels p there
+            let under : bit g.screen p ≡ pattern_bit desktop p = ground.pixels p there
+            ∙ (λ i. if no_row desk.bar.rows p.v e i then true else (if h i then pattern_bit desktop p else false)) in
+            let held : bit mid p ≡ windows_value (look_of desk) desk.windows p (pattern_bit desktop p) = drawn.pixels p there
             ∙ (λ i. if h i then windows_value (look_of desk) desk.windows p (under i) else under i) in
             ap (over_bar (int_lt p.v desk.bar.rows)) held
 

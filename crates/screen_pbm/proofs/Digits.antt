@@ -6,6 +6,7 @@ use Rattle.std.specs.List.{range_with_len}
 use Rattle.std.proofs.lemmas.Bool.Decides.{nat_tests}
 use Rattle.std.proofs.lemmas.List.{ext_get_or, length-take, length-drop, get_or-take, get_or-drop}
 use Rattle.std.proofs.lemmas.List.FromFn.{get_or-map-range_with_len, length-map-range_with_len}
+use Rattle.std.proofs.lemmas.Bool.{and_parts}
 use Rattle.tb_geom.specs.Points.{PixelSet}
 use Rattle.bit_map.specs.Patterns.{bit_of}
 use Rattle.bit_map.specs.Words.{bit_in, place_bit}
@@ -20,17 +21,13 @@ below : (ℕ → Bool) → ℕ → Bool
 below p zero = true
 below p (suc n) = p n && below p n
 
-both : (a b : Bool) → (a && b) ≡ true → (a ≡ true) × (b ≡ true)
-both true b e = (refl, e)
-both false b e = absurd (cc)
-
 below-at : (p : ℕ → Bool) (n : ℕ) → below p n ≡ true → (k : ℕ) → k < n → p k ≡ true
 unfolding below
 below-at p zero e k low = absurd (omega (arith, low))
-below-at p (suc n) e k low = by_test (λ l. below-at p n (both (p n) (below p n) e).1 k l) (nat_eq k n) refl
+below-at p (suc n) e k low = by_test (λ l. below-at p n (and_parts (p n) (below p n) e).1 k l) (nat_eq k n) refl
   where
     by_test : (k < n → p k ≡ true) → (t : Bool) → nat_eq k n ≡ t → p k ≡ true
-    by_test before true same = let is : k ≡ n = grind (arith, nat_tests) in ap p is ∙ (both (p n) (below p n) e).0
+    by_test before true same = let is : k ≡ n = grind (arith, nat_tests) in ap p is ∙ (and_parts (p n) (below p n) e).0
     by_test before false other = before (grind (arith, nat_tests))
 
 -- the eight bits of a byte, each spread to a byte of its own, and turned into a character

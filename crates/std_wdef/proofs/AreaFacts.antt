@@ -16,10 +16,6 @@ use Rattle.std_wdef.specs.Kinds.{has_size_box}
 use Rattle.std_wdef.specs.Looks.{ring, document_box, shadow_box, size_box}
 use Rattle.std_wdef.specs.Areas.{structure_of, content_of, structure_box}
 
-pub and_true : (a b : Bool) → (a && b) ≡ true → (a ≡ true) × (b ≡ true)
-and_true true b e = (refl, e)
-and_true false b e = absurd (cc)
-
 -- the sides of a size
 pub record IsSome (s : Size) : Type 0 where
   pub across : pos 0 <ℤ s.width

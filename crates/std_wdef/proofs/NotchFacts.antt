@@ -2,6 +2,7 @@
 use Rattle.std.proofs.Common.{◌≡◌, Bool, true, false, ◌&&◌, ℤ, pos, negsuc, ◌+ℤ◌, ◌-ℤ◌, ◌≤ℤ◌, ◌<ℤ◌, refl, arith, All}
 use Rattle.std.proofs.lemmas.Int.{ints, clamps}
 use Rattle.std.specs.Int.{int_min, int_div_euclid}
+use Rattle.std.proofs.lemmas.Bool.{and_parts}
 use Rattle.tb_geom.specs.declared.point.Point.{Point}
 use Rattle.tb_geom.specs.declared.rect.Rect.{Rect}
 use Rattle.tb_geom.specs.Rects.{rect_holds, is_in_range, is_coordinate, IsBoxOf}
@@ -14,7 +15,7 @@ use Rattle.looks.specs.Marks.{box, neg}
 use Rattle.looks.proofs.AreaLemmas.{box-by-corners, coordinate, coordinate_high, two_fit, without, with_all}
 use Rattle.std_wdef.specs.Looks.{ring}
 use Rattle.std_wdef.specs.Notched.{notch, notched_structure, notched_content}
-use Rattle.std_wdef.proofs.AreaFacts.{size_some, first_of, last_of, and_true}
+use Rattle.std_wdef.proofs.AreaFacts.{size_some, first_of, last_of}
 
 -- half of a number
 record IsHalf (n m : ℤ) : Type 0 where
@@ -50,8 +51,8 @@ pub record IsLow (s : Size) : Type 0 where
 
 pub low_of : (s : Size) → is_in_range (ring 1 s) ≡ true → IsLow s
 low_of s e =
-    let w = coordinate_high (s.width +ℤ pos 1) (and_true (is_coordinate (s.width +ℤ pos 1)) (is_coordinate (s.height +ℤ pos 1)) e).0 in
-    let h = coordinate_high (s.height +ℤ pos 1) (and_true (is_coordinate (s.width +ℤ pos 1)) (is_coordinate (s.height +ℤ pos 1)) e).1 in
+    let w = coordinate_high (s.width +ℤ pos 1) (and_parts (is_coordinate (s.width +ℤ pos 1)) (is_coordinate (s.height +ℤ pos 1)) e).0 in
+    let h = coordinate_high (s.height +ℤ pos 1) (and_parts (is_coordinate (s.width +ℤ pos 1)) (is_coordinate (s.height +ℤ pos 1)) e).1 in
     record { across = omega (arith, ints); down = omega (arith, ints) }
 
 module _ (s : Size) (e : is_size s ≡ true) where

@@ -1,6 +1,6 @@
 -- The pixels of glyphs and texts.
 use Rattle.std.proofs.Common.{◌≡◌, ◌⊎◌, ℕ, zero, suc, ◌+◌, ◌<◌, ℤ, pos, negsuc, ◌+ℤ◌, ◌-ℤ◌, Bool, true, false, ◌&&◌, ◌||◌, List, [], ◌∷◌, length, take, drop, get_or, refl, arith, inl, inr, nat_lt, add-one, drop-cons}
-use Rattle.std.proofs.lemmas.Bool.{ltb-true, lt-ltb}
+use Rattle.std.proofs.lemmas.Bool.{ltb-true, lt-ltb, and_parts}
 use Rattle.std.proofs.lemmas.Int.{ints}
 use Rattle.tb_geom.specs.declared.point.Point.{Point}
 use Rattle.strike_font.specs.declared.glyph.Glyph.{Glyph}
@@ -50,20 +50,15 @@ pub record IsGlyphPixel (font : List ℕ) (g : Glyph) (x y : ℤ) : Type 0 where
   pub x_is : x -ℤ (kern font +ℤ pos g.offset) ≡ pos column
   pub y_is : y +ℤ pos (ascent font) ≡ pos row
 
-and_three : (a b c : Bool) → ((a && b) && c) ≡ true → (a ≡ true) × (b ≡ true) × (c ≡ true)
-and_three true true true e = (refl, refl, refl)
-and_three false b c e = absurd (cc)
-and_three true false c e = absurd (cc)
-and_three true true false e = absurd (cc)
-
 pub glyph-to : (font : List ℕ) (g : Glyph) (x y : ℤ) → glyph_pixel font g x y ≡ true → IsGlyphPixel font g x y
 unfolding glyph_pixel
 glyph-to font g x y e = by_place (x -ℤ (kern font +ℤ pos g.offset)) (y +ℤ pos (ascent font)) refl refl e
   where
     by_place : (k r : ℤ) → x -ℤ (kern font +ℤ pos g.offset) ≡ k → y +ℤ pos (ascent font) ≡ r → glyph_bit font g k r ≡ true → IsGlyphPixel font g x y
     by_place (pos column) (pos row) is_k is_r bit =
-        let parts = and_three (nat_lt column g.columns) (nat_lt row (height font)) (image_bit font (g.first + column) row) bit in
-        record { column = column; row = row; column_in = ltb-true _ _ parts.0; row_in = ltb-true _ _ parts.1; bit = parts.2; x_is = is_k; y_is = is_r }
+        let parts = and_parts (nat_lt column g.columns && nat_lt row (height font)) (image_bit font (g.first + column) row) bit in
+        let place = and_parts (nat_lt column g.columns) (nat_lt row (height font)) parts.0 in
+        record { column = column; row = row; column_in = ltb-true _ _ place.0; row_in = ltb-true _ _ place.1; bit = parts.1; x_is = is_k; y_is = is_r }
     by_place (pos column) (negsuc row) is_k is_r bit = absurd (cc)
     by_place (negsuc column) r is_k is_r bit = absurd (cc)
 

@@ -1,3 +1,4 @@
+pub mod PointLemmas
 pub mod RectLemmas
 pub mod PixelsLemmas
 pub mod Steps

@@ -1,6 +1,6 @@
 -- Rectangles, pixel by pixel.
 use Rattle.std.proofs.Common.{◌≡◌, ◌⊎◌, inl, inr, ◌↔◌, IsTrue, Bool, true, false, ◌&&◌, ◌||◌, ℤ, pos, ◌-ℤ◌, ◌+ℤ◌, ◌≤ℤ◌, ◌<ℤ◌, refl, sym, ap, ◌∙◌, arith}
-use Rattle.std.proofs.lemmas.Bool.{true≢false}
+use Rattle.std.proofs.lemmas.Bool.{true≢false, and_parts}
 use Rattle.std.specs.Prelude.{int_le, int_lt}
 use Rattle.std.specs.Int.{int_min, int_max}
 use Rattle.std.proofs.lemmas.Int.{ints, clamps}
@@ -49,15 +49,11 @@ pub record IsInside (r : Rect) (p : Point) : Type 0 where
   pub top : r.top ≤ℤ p.v
   pub bottom : p.v <ℤ r.bottom
 
-and_true : (a b : Bool) → (a && b) ≡ true → (a ≡ true) × (b ≡ true)
-and_true true b e = (refl, e)
-and_true false b e = absurd (cc)
-
 pub sides_of : (r : Rect) (p : Point) → rect_holds r p ≡ true → IsInside r p
 sides_of r p e =
-    let both = and_true (between r.left p.h r.right) (between r.top p.v r.bottom) e in
-    let across = and_true (int_le r.left p.h) (int_lt p.h r.right) both.0 in
-    let down = and_true (int_le r.top p.v) (int_lt p.v r.bottom) both.1 in
+    let both = and_parts (between r.left p.h r.right) (between r.top p.v r.bottom) e in
+    let across = and_parts (int_le r.left p.h) (int_lt p.h r.right) both.0 in
+    let down = and_parts (int_le r.top p.v) (int_lt p.v r.bottom) both.1 in
     record { left = grind (arith, ints); right = grind (arith, ints); top = grind (arith, ints); bottom = grind (arith, ints) }
 
 -- a rectangle that encloses nothing is empty: it would enclose its first pixel

@@ -2,7 +2,7 @@
 use Rattle.std.proofs.Common.{◌≡◌, ◌≢◌, ℕ, zero, suc, ◌<◌, ◌⊎◌, inl, inr, ◌==◌, Bool, true, false, not, ◌&&◌, ◌||◌, List, [], ◌∷◌, length, get_or, refl, sym, ap, ◌∙◌, arith}
 use Rattle.std.specs.Option.{is_some}
 use Rattle.std.proofs.Math.Bool.{beq}
-use Rattle.std.proofs.lemmas.Bool.{false≢true, eqb-true}
+use Rattle.std.proofs.lemmas.Bool.{false≢true, eqb-true, and_parts}
 use Rattle.tb_geom.specs.declared.point.Point.{Point}
 use Rattle.bit_map.specs.Bits.{Bits, bit, count}
 use Rattle.def_iface.specs.Desk.{LayeredDesk, on_screen}
@@ -74,10 +74,6 @@ is_beq true true e = refl
 is_beq true false e = absurd (cc e)
 is_beq false true e = absurd (cc e)
 is_beq false false e = refl
-
-and_parts : (a b : Bool) → (a && b) ≡ true → (a ≡ true) × (b ≡ true)
-and_parts true b e = (refl, e)
-and_parts false b e = absurd (cc e)
 
 -- one that is informed knows each
 pub informed_knows : (flag : Flag) (w : WindowRecord) → is_informed w ≡ true → Knows flag w

@@ -22,7 +22,7 @@ use Rattle.vis_update.specs.declared.plan.Plan.{Plan}
 use Rattle.vis_update.specs.declared.plan.Touch.{Touch}
 use Rattle.vis_update.specs.Records.{WindowRecord, Look, layered_window}
 use Rattle.window_mgr.specs.FullDesk.{FullDesk, FullState, layered_desk, layered_state, look_of}
-use Rattle.desk_ground.specs.Screens.{gray}
+use Rattle.desk_ground.specs.Screens.{desktop as pattern}
 use Rattle.window_mgr.specs.Commits.{painted_part, painted_parts, uncovered_bit, IsPlanDrawn}
 use Rattle.window_paint.specs.Moves.{moved_bit}
 use Rattle.vis_update.specs.Touches.{change_of, draws_whole, moves}
@@ -193,7 +193,7 @@ module _ (t : Touch) (before : FullState) (after : FullDesk) (desktop : Pixels) 
     -- no pixel of an owner that is no content and not the desktop is touched before parts are painted
     under_plain : (o : Owner) → owner is p ≡ o → moves t o ≡ false → same_owner o Desktop ≡ false → under ≡ bit old p
     under_plain o e still away =
-        ap (λ b. if b then pattern_bit gray p else moved_bit plan.copied t.by old p) (uncovered_by o e ∙ ap (λ b. (true && b) && not (true && same_owner (owner was p) Desktop)) away)
+        ap (λ b. if b then pattern_bit pattern p else moved_bit plan.copied t.by old p) (uncovered_by o e ∙ ap (λ b. (true && b) && not (true && same_owner (owner was p) Desktop)) away)
         ∙ stays (copied_by o e ∙ ap (λ b. (true && b) && plain.had (change_of t) was o p) still)
 
     -- ---- by the owner
@@ -202,14 +202,14 @@ module _ (t : Touch) (before : FullState) (after : FullDesk) (desktop : Pixels) 
     desktop_bit e =
         painted
         ∙ parts_elsewhere (look_of after) t (layered_state before) is p after.windows plan.parts.items under R.planned.parts (apart after.windows)
-        ∙ ap (λ b. if b then pattern_bit gray p else moved_bit plan.copied t.by old p) (uncovered_by Desktop e)
+        ∙ ap (λ b. if b then pattern_bit pattern p else moved_bit plan.copied t.by old p) (uncovered_by Desktop e)
         ∙ by_test (same_owner (owner was p) Desktop) refl
       where
         apart : (ws : List WindowRecord) → AreApart (look_of after) t (layered_state before) is p ws
         apart [] = tt
         apart (w ∷ ws) = (ap (is_other w.serial) e, apart ws)
 
-        by_test : (b : Bool) → same_owner (owner was p) Desktop ≡ b → (if not b then pattern_bit gray p else moved_bit plan.copied t.by old p) ≡ own_bit is Desktop p
+        by_test : (b : Bool) → same_owner (owner was p) Desktop ≡ b → (if not b then pattern_bit pattern p else moved_bit plan.copied t.by old p) ≡ own_bit is Desktop p
         by_test true f = stays (copied_by Desktop e) ∙ plain_was Desktop (same_owner-true (owner was p) Desktop f) refl
         by_test false f = refl
 
@@ -304,7 +304,7 @@ module _ (t : Touch) (before : FullState) (after : FullDesk) (desktop : Pixels) 
             by_way (Some by) c m = by_test by (s == t.window) c m
 
         by_had : (b : Bool) → plain.had (change_of t) was (Content s part) p ≡ b → (if false then one.window.definition.picture no_news after.font (minus p one.window.place) else (if not b then false else under)) ≡ (if not b then false else before.image (moved_from t.window t.by (Content s part) p))
-        by_had true f = ap (λ b. if b then pattern_bit gray p else moved_bit plan.copied t.by old p) uncovered ∙ from_source f ∙ sym (R.image (moved_from t.window t.by (Content s part) p))
+        by_had true f = ap (λ b. if b then pattern_bit pattern p else moved_bit plan.copied t.by old p) uncovered ∙ from_source f ∙ sym (R.image (moved_from t.window t.by (Content s part) p))
         by_had false f = refl
 
     -- ---- the whole

@@ -10,7 +10,7 @@ use Rattle.bit_map.specs.Bits.{Bits}
 use Rattle.bit_blit.specs.Draws.{Draws}
 use Rattle.draw_port.specs.declared.shapes.Op.{Op}
 use Rattle.draw_port.specs.Ops.{op_value}
-use Rattle.op_ref.specs.OpRefs.{IsMeant}
+use Rattle.lent_ops.specs.OpRefs.{IsMeant}
 use Rattle.def_iface.specs.declared.taken.Taken.{Taken}
 use Rattle.def_iface.specs.Meaning.{Loan}
 use Rattle.desk_call.specs.declared.window.Drawing.{Drawing}

@@ -6,7 +6,7 @@ use Rattle.std.specs.Option.{option_map}
 use Rattle.std.proofs.lemmas.Option.{slice_get-map, slice_get-get_or, slice_get_within}
 use Rattle.tb_geom.specs.declared.refusal.Refusal.{Refusal}
 use Rattle.tb_geom.specs.declared.refusal.Refusal.TheVariants.{BadSyntax, BadRegion, NoSuchWindow, OutOfRange, TooLong, TooMany}
-use Rattle.op_ref.specs.OpRefs.{IsGood, IsRefused}
+use Rattle.lent_ops.specs.OpRefs.{IsGood, IsRefused}
 use Rattle.def_iface.specs.declared.taken.Taken.{Taken}
 use Rattle.def_iface.specs.Meaning.{Loan}
 use Rattle.desk_call.specs.declared.window.Drawing.{Drawing}

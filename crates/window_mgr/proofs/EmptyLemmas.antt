@@ -22,7 +22,7 @@ use Rattle.def_iface.proofs.Painting.{scratch_is_owners}
 use Rattle.window_mgr.specs.declared.manager.WindowManager.{WindowManager}
 use Rattle.vis_update.specs.declared.area.Area.{Area}
 use Rattle.window_mgr.specs.FullDesk.{FullDesk, layered_desk}
-use Rattle.desk_ground.specs.Screens.{gray}
+use Rattle.desk_ground.specs.Screens.{desktop}
 use Rattle.vis_update.specs.Records.{record_of}
 use Rattle.window_mgr.specs.Records.{desk_of}
 use Rattle.window_paint.specs.White.{all_white}
@@ -99,7 +99,7 @@ module _ {V : Type 0} {H : V → Type 0} (loan : Taken V H → Loan) (width heig
       low : int_le (pos 0) p.v ≡ true
       low = (and_parts (int_le (pos 0) p.v) _ (and_parts (between (pos 0) p.h width) _ on).1).0
 
-      by_bar : (b : Bool) → int_lt p.v bar ≡ b → (if int_eq p.v (bar -ℤ pos 1) then true else (if holds t.gray p then pattern_bit gray p else false)) ≡ own_bit (layered_desk empty) (owner (layered_desk empty) p) p
+      by_bar : (b : Bool) → int_lt p.v bar ≡ b → (if int_eq p.v (bar -ℤ pos 1) then true else (if holds t.gray p then pattern_bit desktop p else false)) ≡ own_bit (layered_desk empty) (owner (layered_desk empty) p) p
       by_bar true e =
           let g : holds t.gray p ≡ false = gray_is p ∙ (λ i. on i && not (e i)) in
           rw (row_of_bar bar p.v bar_is low e, g, e) (by_row (int_eq p.v (pos 19)))

@@ -19,7 +19,7 @@ use Rattle.vis_update.specs.declared.plan.Part.{Part}
 use Rattle.vis_update.specs.declared.plan.Plan.{Plan}
 use Rattle.window_list.specs.declared.window.Window.{Window}
 use Rattle.vis_update.specs.Records.{WindowRecord}
-use Rattle.desk_ground.specs.Screens.{gray}
+use Rattle.desk_ground.specs.Screens.{desktop}
 use Rattle.vis_update.specs.Records.{record_of}
 use Rattle.window_mgr.specs.Commits.{ArePainted, IsPlanDrawn, erased, painted_part, painted_parts, redrawn}
 use Rattle.window_mgr.proofs.WriteLemmas.{plan_written}
@@ -27,7 +27,7 @@ use Rattle.window_paint.specs.Writes.{IsWrittenBy, arrives, nowhere}
 use Rattle.window_mgr.specs.Whole.{IsSettled}
 use Rattle.window_paint.specs.Frames.{IsPlaced, IsPainted}
 use Rattle.window_paint.specs.Moves.{IsMoved}
-use Rattle.desk_ground.proofs.GroundLemmas.{origin, minus-origin}
+use Rattle.tb_geom.proofs.PointLemmas.{origin, minus-origin}
 
 -- a settled window can be drawn
 pub settled_placed : (w : WindowRecord) → IsSettled w → IsPlaced w.place w.size w.definition
@@ -76,7 +76,7 @@ module _ {V : Type 0} {H : V → Type 0} (loan : Taken V H → Loan) where
 pub drawn_by : (plan : Plan) (by : Option Point) (font : List ℕ) (ws : List WindowRecord) (old moved filled new : Bits)
     → IsMoved plan.copied by old moved
     → IsWrittenBy (arrives plan.copied by) nowhere old moved
-    → DrawsOnce (holds plan.uncovered) (λ p d. mode_bit Copy (pattern_bit gray (minus p origin)) d) moved filled
+    → DrawsOnce (holds plan.uncovered) (λ p d. mode_bit Copy (pattern_bit desktop (minus p origin)) d) moved filled
     → ArePainted font ws plan.parts.items filled new
     → IsWrittenBy (erased plan.parts.items) (redrawn plan.parts.items) filled new
     → IsPlanDrawn plan by font ws old new
@@ -85,7 +85,7 @@ drawn_by plan by font ws old moved filled new first first_written second third t
       let there = on_map-same old moved p first.width first.height ∙ on in
       let further = Once-on_map _ _ moved filled second p ∙ there in
       third.pixels p further
-      ∙ ap (painted_parts font ws plan.parts.items p) (second.pixels p there ∙ (λ i. if holds plan.uncovered p then pattern_bit gray (minus-origin p i) else first.pixels p on i));
+      ∙ ap (painted_parts font ws plan.parts.items p) (second.pixels p there ∙ (λ i. if holds plan.uncovered p then pattern_bit desktop (minus-origin p i) else first.pixels p on i));
   width = third.width ∙ second.width ∙ first.width;
   height = third.height ∙ second.height ∙ first.height;
   written = plan_written plan by _ old moved filled new (λ p. on_map-same old moved p first.width first.height) (Once-on_map _ _ moved filled second) first_written second third_written;

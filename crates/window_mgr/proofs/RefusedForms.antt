@@ -2,7 +2,7 @@
 use Rattle.std.proofs.Common.{◌≡◌, inl, inr, true, false, Some, None, refl, sym, ap, ◌∙◌, subst}
 use Rattle.tb_geom.specs.declared.refusal.Refusal.{Refusal}
 use Rattle.tb_geom.specs.declared.refusal.Refusal.TheVariants.{BadSyntax, BadRegion, OutOfRange, TooLong}
-use Rattle.op_ref.specs.OpRefs.{IsGood, IsRefused}
+use Rattle.lent_ops.specs.OpRefs.{IsGood, IsRefused}
 use Rattle.desk_call.specs.declared.window.Drawing.{Drawing}
 use Rattle.desk_call.specs.declared.window.WindowCall.TheVariants.{Draw}
 use Rattle.window_mgr.specs.FullDesk.{FullDesk}

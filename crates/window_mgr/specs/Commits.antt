@@ -10,7 +10,7 @@ use Rattle.def_iface.specs.Meaning.{Definition}
 use Rattle.vis_update.specs.declared.plan.Part.{Part}
 use Rattle.vis_update.specs.declared.plan.Plan.{Plan}
 use Rattle.vis_update.specs.Records.{WindowRecord}
-use Rattle.desk_ground.specs.Screens.{gray}
+use Rattle.desk_ground.specs.Screens.{desktop}
 use Rattle.window_paint.specs.Frames.{painted_bit}
 use Rattle.window_paint.specs.Moves.{everywhere, moved_bit}
 use Rattle.window_paint.specs.Writes.{IsWrittenBy, arrives, one}
@@ -26,9 +26,9 @@ painted_parts font (w ∷ ws) [] p value = value
 painted_parts font (w ∷ ws) (part ∷ parts) p value =
     painted_parts font ws parts p (painted_part font w.definition w.place part p value)
 
--- what of the desktop is new is gray
+-- what of the desktop is new has its pattern
 abbrev pub uncovered_bit : Pixels → PixelSet → PixelSet
-uncovered_bit uncovered others p = if holds uncovered p then pattern_bit gray p else others p
+uncovered_bit uncovered others p = if holds uncovered p then pattern_bit desktop p else others p
 
 -- the windows' parts were painted on a map
 abbrev pub ArePainted : List ℕ → List WindowRecord → List Part → Bits → Bits → Type 0
@@ -48,7 +48,7 @@ redrawn (part ∷ parts) p = holds part.redraw p || redrawn parts p
 abbrev pub planned_times : Plan → Option Point → Point → ℕ
 planned_times plan by p = arrives plan.copied by p + (one (holds plan.uncovered p) + erased plan.parts.items p)
 
--- a plan was drawn: pixels moved, the desktop that is new became gray, and the windows' parts were painted; each pixel was
+-- a plan was drawn: pixels moved, the desktop that is new got its pattern, and the windows' parts were painted; each pixel was
 -- written as often as the plan says, but for those of frames
 pub record IsPlanDrawn (plan : Plan) (by : Option Point) (font : List ℕ) (ws : List WindowRecord) (old new : Bits) : Type 0 where
   pub pixels : (p : Point) → on_map old p ≡ true

@@ -4,7 +4,7 @@ use Rattle.tb_geom.specs.declared.point.Point.{Point}
 use Rattle.tb_geom.specs.Points.{PixelSet, plus, minus}
 use Rattle.draw_port.specs.declared.shapes.Op.{Op}
 use Rattle.draw_port.specs.Ops.{op_value}
-use Rattle.op_ref.specs.OpRefs.{IsMeant}
+use Rattle.lent_ops.specs.OpRefs.{IsMeant}
 use Rattle.std.specs.Option.{is_some}
 use Rattle.def_iface.specs.News.{News, AllNews, told_placed, new_window_news}
 use Rattle.def_iface.specs.declared.size.Size as sizes

@@ -2,7 +2,7 @@
 use Rattle.std.specs.Prelude.{ℕ, ◌<◌, ◌≤◌, List, ◌∷◌, [], Option, None, Some, map, ℤ}
 use Rattle.tb_geom.specs.Points.{PixelSet}
 use Rattle.bit_map.specs.Patterns.{pattern_bit}
-use Rattle.desk_ground.specs.Screens.{gray}
+use Rattle.desk_ground.specs.Screens.{desktop}
 use Rattle.menu_bar.specs.declared.titles.MenuBar.{MenuBar}
 use Rattle.menu_bar.specs.Bars.{bar_picture}
 use Rattle.def_iface.specs.Stocked.{SlotView}
@@ -46,7 +46,7 @@ layered_desk d = record {
   height = d.height;
   bar = d.bar.rows;
   bar_picture = bar_picture d.font d.bar.titles;
-  desktop = pattern_bit gray;
+  desktop = pattern_bit desktop;
   windows = map (layered_window (look_of d)) d.windows;
 }
 

@@ -10,7 +10,7 @@ use Rattle.tb_geom.specs.Rects.{rect_holds}
 use Rattle.bit_blit.specs.Draws.{Draws}
 use Rattle.draw_port.specs.declared.shapes.Op.{Op}
 use Rattle.draw_port.specs.Ops.{op_value}
-use Rattle.op_ref.specs.OpRefs.{IsGood, IsMeant}
+use Rattle.lent_ops.specs.OpRefs.{IsGood, IsMeant}
 use Rattle.def_iface.specs.declared.taken.Taken.{Taken}
 use Rattle.def_iface.specs.Meaning.{Definition, Loan, SameRegions, IsWithin, IsBegun}
 use Rattle.window_list.specs.declared.window.Window.{Window}

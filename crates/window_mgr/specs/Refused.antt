@@ -8,8 +8,8 @@ use Rattle.tb_geom.specs.declared.refusal.Refusal.TheVariants.{NoSuchName, NoSuc
 use Rattle.tb_geom.specs.Refusals.{first_refusal, number_of}
 use Rattle.tb_geom.specs.Rects.{in_plane}
 use Rattle.draw_port.specs.declared.shapes.Op.{Op}
-use Rattle.op_ref.specs.declared.op_ref.OpRef.{OpRef}
-use Rattle.op_ref.specs.OpRefs.{IsGood, IsRefused}
+use Rattle.lent_ops.specs.declared.op_ref.OpRef.{OpRef}
+use Rattle.lent_ops.specs.OpRefs.{IsGood, IsRefused}
 use Rattle.def_iface.specs.declared.size.Size as sizes
 use Rattle.def_iface.specs.Stocked.{has_kind, offered}
 use Rattle.layer_list.specs.Holders.{fits_at}

@@ -8,8 +8,9 @@ ghost use Rattle.window_paint.specs.Writes.{IsWrittenBy};
 
 use crate::WindowManager;
 use bit_blit::fill;
-use bit_map::{BitMap, Mode, Pattern};
+use bit_map::{BitMap, Mode};
 use def_iface::{Defined, Taken};
+use desk_ground::DESKTOP;
 use strike_font::Font;
 use tb_geom::Point;
 use vis_update::{Part, Plan, settle};
@@ -37,7 +38,7 @@ impl WindowManager {
             &mut self.screen,
             &plan.uncovered,
             origin,
-            Pattern::GRAY,
+            DESKTOP,
             Mode::Copy,
         );
         paint_parts(&mut self.screen, &self.windows, &plan.parts, &self.font);

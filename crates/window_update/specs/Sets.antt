@@ -7,7 +7,7 @@ use Rattle.tb_geom.specs.Points.{PixelSet, minus}
 use Rattle.tb_geom.specs.Pixels.{Pixels, holds}
 use Rattle.tb_geom.specs.Rects.{rect_holds, is_in_range}
 use Rattle.region_bytes.specs.Bytes.{IsRegionBytes, IsBad}
-use Rattle.op_ref.specs.OpRefs.{IsRegion}
+use Rattle.lent_ops.specs.OpRefs.{IsRegion}
 use Rattle.def_iface.specs.Owner.{Owner}
 use Rattle.desk_call.specs.declared.update.AreaRef.{AreaRef}
 use Rattle.desk_call.specs.declared.update.AreaRef.TheVariants.{Rect, Region}

@@ -2,13 +2,13 @@
 use Rattle.std.specs.Prelude.{ℕ, List, [], ◌∷◌, Option, Some, None, option_map, codes, if◌then◌else◌}
 use Rattle.std.specs.Str.{bytes_eq}
 use Rattle.tb_geom.specs.declared.rect.Rect.{Rect}
+use Rattle.tb_geom.specs.LentBytes.{are_rows}
 use Rattle.draw_port.specs.declared.shapes.Shade.{Shade}
-use Rattle.op_ref.specs.declared.op_ref.LineRef.{LineRef}
-use Rattle.op_ref.specs.declared.op_ref.TextRef.{TextRef}
-use Rattle.op_ref.specs.declared.op_ref.BitsRef.{BitsRef}
-use Rattle.op_ref.specs.declared.op_ref.ShapeRef.{ShapeRef}
-use Rattle.op_ref.specs.declared.op_ref.ShapeRef.TheVariants.{Erase, Invert, Fill, Frame, HLine, VLine, Text, Bits, FillRgn}
-use Rattle.op_ref.specs.OpRefs.{are_rows}
+use Rattle.lent_ops.specs.declared.op_ref.LineRef.{LineRef}
+use Rattle.lent_ops.specs.declared.op_ref.TextRef.{TextRef}
+use Rattle.lent_ops.specs.declared.op_ref.BitsRef.{BitsRef}
+use Rattle.lent_ops.specs.declared.op_ref.ShapeRef.{ShapeRef}
+use Rattle.lent_ops.specs.declared.op_ref.ShapeRef.TheVariants.{Erase, Invert, Fill, Frame, HLine, VLine, Text, Bits, FillRgn}
 use Rattle.desk_call.specs.declared.window.Drawing.{Drawing}
 use Rattle.line_words.specs.Shapes.{Shape, ends, says, never, number, name, text, hex, serial, point, rect, mapped}
 use Rattle.line_words.specs.Tables.{named}

@@ -11,9 +11,9 @@ use crate::names::{shade_of, source_mode_of, text_mode_of};
 use crate::operation::{Operation, operation_of};
 use desk_call::Drawing;
 use draw_port::Shade;
+use lent_ops::{BitsRef, LineRef, OpRef, ShapeRef, TextRef};
 use line_words::Words;
-use op_ref::{BitsRef, BytesRef, LineRef, OpRef, ShapeRef, TextRef};
-use tb_geom::{Rect, Refusal};
+use tb_geom::{BytesRef, Rect, Refusal};
 
 /// The words after `draw`: a window, perhaps the word `clip` and a region, and an operation.
 #[tactic(auto, unfolding(crate::specs::Drawings::drawing_shape))]

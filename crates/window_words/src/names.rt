@@ -6,7 +6,7 @@ ghost use Rattle.window_words.specs.Names.{pattern_modes, patterns, shade_of, so
 use bit_map::{Mode, Pattern};
 use draw_port::{Shade, TextMode};
 use line_words::named;
-use op_ref::BytesRef;
+use tb_geom::BytesRef;
 
 static PATTERNS: [(&[u8], Pattern); 5] = [
     (b"black", Pattern::BLACK),

@@ -1,8 +1,7 @@
 use Rattle.std.proofs.Common.{◌≡◌, ◌≤ℤ◌}
-use Rattle.bit_map.specs.Patterns.{pattern_bit}
+use Rattle.bit_map.specs.Patterns.{pattern_bit, gray}
 use Rattle.bit_blit.specs.Draws.{Draws}
 use Rattle.bit_blit.proofs.WalkLemmas.{in_rows}
-use Rattle.desk_ground.specs.Screens.{gray}
 use Rattle.menu_overlay.proofs.OutlineLemmas.{inverted}
 use Rattle.menu_overlay.proofs.lines.draw_column.Given as goal
 

@@ -1,13 +1,13 @@
 //! Operations made of those that calls carry.
 ghost use Rattle.std.specs.Prelude.{◌≡◌, ◌⊎◌, ◌≤◌, ◌≤ℤ◌, pos, nat_abs, true, false, length, IfOk, MatchResult};
 ghost use Rattle.region_bytes.specs.Bytes.{IsRegionBytes};
-ghost use Rattle.op_ref.specs.OpRefs.{has_rows, is_shape_in_range, is_line, is_long, IsGood, IsRefused, IsMeant, MeansShape, MeansClip};
+ghost use Rattle.lent_ops.specs.OpRefs.{has_rows, is_shape_in_range, is_line, is_long, IsGood, IsRefused, IsMeant, MeansShape, MeansClip};
 
-use crate::op_ref::{BitsRef, BytesRef, LineRef, OpRef, ShapeRef, TextRef};
+use crate::op_ref::{BitsRef, LineRef, OpRef, ShapeRef, TextRef};
 use draw_port::{Bytes, Line, Op, RowsOfBits, Shape, ShortText, TextRun};
 use scan_region::Region;
 use std::alloc::{AllocError, Global};
-use tb_geom::Refusal;
+use tb_geom::{BytesRef, Refusal};
 
 impl OpRef<'_> {
     /// The operation that this one means, with bytes and regions of its own. It refuses as `judge` does,

@@ -1,11 +1,11 @@
 //! Why operations that calls carry are refused.
 ghost use Rattle.std.specs.Prelude.{◌≡◌, Some, MatchResult};
-ghost use Rattle.op_ref.specs.OpRefs.{are_rows, has_rows, is_line, is_shape_in_range, is_long, region_of, HasForm, HasSome, Stands, IsGood, IsRefused};
+ghost use Rattle.lent_ops.specs.OpRefs.{has_rows, is_line, is_shape_in_range, is_long, region_of, HasForm, HasSome, Stands, IsGood, IsRefused};
 
-use crate::op_ref::{BitsRef, BytesRef, LineRef, OpRef, ShapeRef};
+use crate::op_ref::{BitsRef, LineRef, OpRef, ShapeRef};
 use draw_port::LONGEST_TEXT;
 use region_bytes::RegionBytes;
-use tb_geom::Refusal;
+use tb_geom::{BytesRef, Refusal};
 
 /// The most pixels that a line may have.
 const LONGEST_LINE: i32 = 1024;
@@ -133,19 +133,5 @@ impl BitsRef<'_> {
         ensures { result ≡ has_rows (ShapeRef.Bits self.now) }
     {
         self.rows.are_rows(self.width, self.height)
-    }
-}
-
-impl BytesRef<'_> {
-    /// Whether these are the bytes of an image of this size: it has rows and columns, and each row takes
-    /// `(width + 7) / 8` of the bytes.
-    pub fn are_rows(&self, width: i32, height: i32) -> bool
-        ensures { result ≡ are_rows width height self.now }
-    {
-        if width < 1 || height < 1 {
-            return false;
-        }
-        let row_bytes = (u64::from(width.unsigned_abs()) + 7) / 8;
-        self.as_slice().len() as u64 == row_bytes * u64::from(height.unsigned_abs())
     }
 }

@@ -1,7 +1,7 @@
 use Rattle.std.proofs.Common.{◌∙◌, inl, inr, refl, sym}
-use Rattle.op_ref.proofs.JudgeLemmas.{far_out}
-use Rattle.op_ref.proofs.op_ref.OpRef.judge.Goals as goal
-use Rattle.op_ref.proofs.op_ref.OpRef.judge.Goals.{then-not-is_near-via-then-not-is_near, then-not-is_near-via-else-not-is_near+then-not-is_clip_in_range, then-not-is_near-via-else-not-is_near+else-not-is_clip_in_range+then-not-is_region_in_range}
+use Rattle.lent_ops.proofs.JudgeLemmas.{far_out}
+use Rattle.lent_ops.proofs.op_ref.OpRef.judge.Goals as goal
+use Rattle.lent_ops.proofs.op_ref.OpRef.judge.Goals.{then-not-is_near-via-then-not-is_near, then-not-is_near-via-else-not-is_near+then-not-is_clip_in_range, then-not-is_near-via-else-not-is_near+else-not-is_clip_in_range+then-not-is_region_in_range}
 
 pub returns-then-not-is_near : goal.returns-then-not-is_near
 returns-then-not-is_near c =

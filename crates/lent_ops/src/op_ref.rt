@@ -1,40 +1,7 @@
 //! Operations as calls carry them.
-ghost use Rattle.std.specs.Prelude.{◌≡◌};
-
 use bit_map::Mode;
 use draw_port::{Shade, TextMode};
-use std::marker::Model;
-use tb_geom::{Point, Rect};
-
-/// Bytes that a call lends, not yet judged. Contracts see the list of the bytes.
-#[derive(Drop)]
-pub struct BytesRef<'a> {
-    bytes: &'a [u8],
-}
-
-impl<'a> Model for BytesRef<'a> {
-    ghost use Rattle.std.specs.Prelude.{List, ℕ};
-
-    ghost Value = { List ℕ };
-
-    ghost view = { λ b. b.bytes.now };
-}
-
-impl<'a> BytesRef<'a> {
-    /// These bytes.
-    pub fn new(bytes: &'a [u8]) -> BytesRef<'a>
-        ensures { result ≡ bytes.entry.now }
-    {
-        BytesRef { bytes }
-    }
-
-    /// The bytes.
-    pub fn as_slice(&self) -> &'a [u8]
-        ensures { result.now ≡ self.now }
-    {
-        self.bytes
-    }
-}
+use tb_geom::{BytesRef, Point, Rect};
 
 /// A line of any length, as `Line`.
 #[derive(Clone, Copy)]

@@ -1,8 +1,8 @@
 -- Why operations that calls carry are refused.
 use Rattle.std.proofs.Common.{◌≡◌, ◌⊎◌, inl, inr, ℕ, Bool, true, false, List, Option, Some, None, IfSome}
 use Rattle.region_bytes.proofs.Formed.{region_form}
-use Rattle.op_ref.specs.OpRefs.{has_rows, is_shape_in_range, region_of, HasForm, IsFormOutOfRange, HasSome, Stands, SomeRegion, IsFarOut}
-use Rattle.op_ref.specs.declared.op_ref.OpRef.{OpRef}
+use Rattle.lent_ops.specs.OpRefs.{has_rows, is_shape_in_range, region_of, HasForm, IsFormOutOfRange, HasSome, Stands, SomeRegion, IsFarOut}
+use Rattle.lent_ops.specs.declared.op_ref.OpRef.{OpRef}
 
 -- the bytes of a region have its form, whether its coordinates are in range or not
 formed : (given : Option (List ℕ)) (good : Bool) → Stands given good → IfSome given HasForm

@@ -1,25 +1,22 @@
 -- Operations as calls carry them: why they are refused, and what they mean.
-use Rattle.std.specs.Prelude.{◌≡◌, ◌⊎◌, ℕ, ◌+◌, ◌*◌, ◌/◌, Bool, true, false, ◌&&◌, nat_eq, nat_lt, ℤ, pos, int_le, nat_abs, List, length, All, Option, Some, None, IfSome}
+use Rattle.std.specs.Prelude.{◌≡◌, ◌⊎◌, ℕ, Bool, true, false, ◌&&◌, nat_lt, pos, int_le, nat_abs, List, length, All, Option, Some, None, IfSome}
 use Rattle.tb_geom.specs.declared.refusal.Refusal.{Refusal}
 use Rattle.tb_geom.specs.declared.refusal.Refusal.TheVariants.{BadSyntax, BadRegion, OutOfRange, TooLong}
 use Rattle.tb_geom.specs.Pixels.{Pixels}
 use Rattle.tb_geom.specs.Rects.{in_plane, is_in_range}
+use Rattle.tb_geom.specs.LentBytes.{are_rows}
 use Rattle.region_bytes.specs.Points.{PointRow, IsInRange}
 use Rattle.region_bytes.specs.Bytes.{IsForm, IsRegionBytes}
 use Rattle.draw_port.specs.declared.shapes.Line.{Line}
 use Rattle.draw_port.specs.declared.shapes.Op.{Op}
 use Rattle.draw_port.specs.declared.shapes.Shape.{Shape}
 use Rattle.draw_port.specs.declared.shapes.Shape.TheVariants.{Erase, Invert, Fill, Frame, HLine, VLine, Text, Bits, FillRgn}
-use Rattle.op_ref.specs.declared.op_ref.LineRef.{LineRef}
-use Rattle.op_ref.specs.declared.op_ref.OpRef.{OpRef}
-use Rattle.op_ref.specs.declared.op_ref.ShapeRef.{ShapeRef}
-use Rattle.op_ref.specs.declared.op_ref.ShapeRef.TheVariants.{Erase as EraseRef, Invert as InvertRef, Fill as FillRef, Frame as FrameRef, HLine as HLineRef, VLine as VLineRef, Text as RunRef, Bits as ImageRef, FillRgn as FillRgnRef}
+use Rattle.lent_ops.specs.declared.op_ref.LineRef.{LineRef}
+use Rattle.lent_ops.specs.declared.op_ref.OpRef.{OpRef}
+use Rattle.lent_ops.specs.declared.op_ref.ShapeRef.{ShapeRef}
+use Rattle.lent_ops.specs.declared.op_ref.ShapeRef.TheVariants.{Erase as EraseRef, Invert as InvertRef, Fill as FillRef, Frame as FrameRef, HLine as HLineRef, VLine as VLineRef, Text as RunRef, Bits as ImageRef, FillRgn as FillRgnRef}
 
--- whether an image of this size has rows and columns, and the bytes are those of its rows
-abbrev pub are_rows : ℤ → ℤ → List ℕ → Bool
-are_rows w h rows = (int_le (pos 1) w && int_le (pos 1) h) && nat_eq (length rows) ((nat_abs w + 7) / 8 * nat_abs h)
-
--- the same of the image of a shape; of a shape without one, true
+-- whether the image of a shape has rows and columns, and its bytes are those of its rows; of a shape without one, true
 abbrev pub has_rows : ShapeRef → Bool
 has_rows (ImageRef b) = are_rows b.width b.height b.rows
 has_rows s = true
