@@ -7,9 +7,9 @@ use Rattle.tb_geom.specs.declared.point.Point.{Point}
 use Rattle.tb_geom.specs.Points.{minus}
 use Rattle.tb_geom.specs.Pixels.{Pixels, holds}
 use Rattle.tb_geom.specs.Rects.{is_in_range, moved_rect}
-use Rattle.control_list.specs.Lists.{are_before, controls_of, has_serial, is_in}
-use Rattle.control_list.proofs.LawLemmas.{no_others}
-use Rattle.control_list.proofs.WindowLemmas.{count_of-length}
+use Rattle.window_items.specs.Items.{are_before, items_of, has_serial, is_in}
+use Rattle.window_items.proofs.LawLemmas.{no_others}
+use Rattle.window_items.proofs.WindowLemmas.{count_of-length}
 use Rattle.def_iface.specs.declared.part.Part.{Part}
 use Rattle.def_iface.specs.declared.part.Part.TheVariants as part
 use Rattle.def_iface.specs.declared.taken.Taken.{Taken}
@@ -53,14 +53,14 @@ or_parts true b e = absurd (cc)
 or_parts false b e = (refl, e)
 
 -- a serial that no control has, no control of a window has
-pub none_in_window : (n window : ℕ) (cs : List ControlRecord) → list_any (has_serial n) cs ≡ false → list_any (has_serial n) (controls_of window cs) ≡ false
+pub none_in_window : (n window : ℕ) (cs : List ControlRecord) → list_any (has_serial n) cs ≡ false → list_any (has_serial n) (items_of window cs) ≡ false
 none_in_window n window [] e = refl
 none_in_window n window (c ∷ cs) e =
     let both = or_parts (has_serial n c) (list_any (has_serial n) cs) e in
     by_test (is_in window c) both.0 (none_in_window n window cs both.1)
   where
-    by_test : (b : Bool) → has_serial n c ≡ false → list_any (has_serial n) (controls_of window cs) ≡ false
-        → list_any (has_serial n) (cond b (c ∷ controls_of window cs) (controls_of window cs)) ≡ false
+    by_test : (b : Bool) → has_serial n c ≡ false → list_any (has_serial n) (items_of window cs) ≡ false
+        → list_any (has_serial n) (cond b (c ∷ items_of window cs) (items_of window cs)) ≡ false
     by_test true f rest = λ i. f i || rest i
     by_test false f rest = rest
 
@@ -144,22 +144,22 @@ module _ {V : Type 0} {H : V → Type 0} (loan : Taken V H → Loan) {W : Type 0
   unused = no_others (new_control n k.serial 0 d) cs (subst (λ o. are_before o cs ≡ true) ticket.serial beside.whole.given)
 
   module _ (w : Window V H) (lies : IsWindowAt t.windows.records.items k.window w) where
-    pub its : AreLayersOf (controls_of n.window cs) w.layers.layers
+    pub its : AreLayersOf (items_of n.window cs) w.layers.layers
     its =
-        subst (λ s. AreLayersOf (controls_of s cs) w.layers.layers) (ticket.window.1 w lies)
-        (at_window loan (λ r. AreLayersOf (controls_of r.serial cs) r.layers) t.windows.records.items k.window w ticket.window.0 lies beside.whole.joined)
+        subst (λ s. AreLayersOf (items_of s cs) w.layers.layers) (ticket.window.1 w lies)
+        (at_window loan (λ r. AreLayersOf (items_of r.serial cs) r.layers) t.windows.records.items k.window w ticket.window.0 lies beside.whole.joined)
 
     -- there are no more controls than layers
     no_more : k.layer ≤ length w.layers.layers
     no_more =
         subst (λ k. k ≤ length w.layers.layers) (sym (ticket.layer ∙ count_of-length n.window cs))
-        (begin_length IsLayerOf AreNoControls (controls_of n.window cs) w.layers.layers its)
+        (begin_length IsLayerOf AreNoControls (items_of n.window cs) w.layers.layers its)
 
     pub may_grow : MayGrow n d k w.layers
     may_grow = record {
       index = no_more;
       apart = contents.layers_apart loan t kept.slots kept.whole k.window ticket.window.0 w lies (λ font q p. false);
-      unused = others_named k.serial (controls_of n.window cs) w.layers.layers its (none_in_window k.serial n.window cs unused);
+      unused = others_named k.serial (items_of n.window cs) w.layers.layers its (none_in_window k.serial n.window cs unused);
       placed =
           ap (λ place. may_be_placed (Some d) n.place n.size place) (contents.layers_there loan t kept.slots kept.whole k.window ticket.window.0 w lies (λ font q p. false))
           ∙ ticket.placed w lies;

@@ -9,7 +9,7 @@ use Rattle.std.proofs.lemmas.List.Elements.{All-head, All-tail}
 use Rattle.tb_geom.specs.declared.point.Point.{Point}
 use Rattle.tb_geom.specs.Points.{PixelSet, minus}
 use Rattle.draw_port.specs.Ops.{picture_bit}
-use Rattle.control_list.specs.Lists.{controls_of, has_serial}
+use Rattle.window_items.specs.Items.{items_of, has_serial}
 use Rattle.def_iface.specs.declared.part.Part.{Part}
 use Rattle.def_iface.specs.declared.part.Part.TheVariants as part
 use Rattle.def_iface.specs.Desk as layers
@@ -188,11 +188,11 @@ named n (c ∷ cs) (l ∷ ls) q h e = by_test (named n cs ls q h.1) (layer_has l
         ap (λ b. b || list_any (has_serial n) cs) (same c.serial n serial)
     by_test rest false e = further (has_serial n c) (list_any (has_serial n) cs) (rest e)
 
-pub named_there : (d : FullDesk) (cs : List ControlRecord) (s n : ℕ) (p : Point) → AreJoined cs d.windows → IsShownBy d s (part.Control n) p → list_any (has_serial n) (controls_of s cs) ≡ true
+pub named_there : (d : FullDesk) (cs : List ControlRecord) (s n : ℕ) (p : Point) → AreJoined cs d.windows → IsShownBy d s (part.Control n) p → list_any (has_serial n) (items_of s cs) ≡ true
 named_there d cs s n p joined its =
-    let there = at_serial (λ w. AreLayersOf (controls_of w.serial cs) w.layers) s d.windows its.window its.found joined in
-    ap (λ k. list_any (has_serial n) (controls_of k cs)) (sym there.1)
-    ∙ named n (controls_of its.window.serial cs) its.window.layers (minus p its.window.place) there.0 its.part_is
+    let there = at_serial (λ w. AreLayersOf (items_of w.serial cs) w.layers) s d.windows its.window its.found joined in
+    ap (λ k. list_any (has_serial n) (items_of k cs)) (sym there.1)
+    ∙ named n (items_of its.window.serial cs) its.window.layers (minus p its.window.place) there.0 its.part_is
 
 -- ---- what is shown before and after
 

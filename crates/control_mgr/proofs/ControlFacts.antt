@@ -7,7 +7,7 @@ use Rattle.tb_geom.specs.declared.refusal.Refusal.{Refusal}
 use Rattle.tb_geom.specs.declared.refusal.Refusal.TheVariants.{NoSuchControl, NoSuchWindow}
 use Rattle.tb_geom.specs.Refusals.{first_refusal}
 use Rattle.control_values.specs.declared.part.ControlPart.{ControlPart}
-use Rattle.control_list.specs.Lists.{serial_after}
+use Rattle.window_items.specs.Items.{serial_after}
 use Rattle.def_iface.specs.declared.part.Part.{Part}
 use Rattle.def_iface.specs.ControlMeaning.{ControlDefinition, ControlLoan}
 use Rattle.def_iface.specs.Slots.{IsTaken, holding}
@@ -228,7 +228,7 @@ module _ (before after : ControlDesk) where
       desk = laid_desk c.window _ before after gone.laid;
       begun = gone.activity.begun;
       activity = inl gone.activity.activity;
-      kinds = shut_kinds gone.control.definition before.controls.stock after.controls.stock gone.shut;
+      kinds = shut_kinds gone.control.kept.definition before.controls.stock after.controls.stock gone.shut;
       others = gone.laid.elsewhere;
     }),
     ap (λ (s : ControlsState). s.next) gone.controls,

@@ -7,8 +7,8 @@ use Rattle.std.proofs.lemmas.Bool.Decides.{nat_tests}
 use Rattle.std.proofs.lemmas.List.Elements.{All-cons, All-contains, All-head, All-nil, All-tail, All-weaker}
 use Rattle.tb_geom.specs.declared.point.Point.{Point}
 use Rattle.tb_geom.specs.Points.{PixelSet}
-use Rattle.control_list.specs.Lists.{are_before, controls_of, count_of, has_serial, is_before, is_in}
-use Rattle.control_list.proofs.WindowLemmas.{count_of-length}
+use Rattle.window_items.specs.Items.{are_before, items_of, count_of, has_serial, is_before, is_in}
+use Rattle.window_items.proofs.WindowLemmas.{count_of-length}
 use Rattle.def_iface.specs.declared.part.Part.{Part}
 use Rattle.def_iface.specs.Desk.{IsDesk}
 use Rattle.def_iface.specs.Owner.{Owner, is_content, owner, own_bit}
@@ -45,11 +45,11 @@ pub all_within : {X : Type 0} (P : X → Type 0) (xs ys : List X) → All (Conta
 all_within P xs ys within h = All-weaker (Contains xs) P (λ y its. All-contains P xs y h its) ys within
 
 -- where a window has no control, each control is in another
-all_elsewhere : (window : ℕ) (cs : List ControlRecord) → controls_of window cs ≡ [] → All (λ c. is_in window c ≡ false) cs
+all_elsewhere : (window : ℕ) (cs : List ControlRecord) → items_of window cs ≡ [] → All (λ c. is_in window c ≡ false) cs
 all_elsewhere window [] none = All-nil (λ (c : ControlRecord). is_in window c ≡ false)
 all_elsewhere window (c ∷ cs) none = by_test (all_elsewhere window cs) (is_in window c) refl none
   where
-    by_test : (controls_of window cs ≡ [] → All (λ x. is_in window x ≡ false) cs) → (b : Bool) → is_in window c ≡ b → cond b (c ∷ controls_of window cs) (controls_of window cs) ≡ [] → All (λ x. is_in window x ≡ false) (c ∷ cs)
+    by_test : (items_of window cs ≡ [] → All (λ x. is_in window x ≡ false) cs) → (b : Bool) → is_in window c ≡ b → cond b (c ∷ items_of window cs) (items_of window cs) ≡ [] → All (λ x. is_in window x ≡ false) (c ∷ cs)
     by_test rest true e none = absurd (cc)
     by_test rest false e none = All-cons (λ (x : ControlRecord). is_in window x ≡ false) c cs e (rest none)
 
@@ -120,7 +120,7 @@ module _ (window : ℕ) (before after : ControlsState) (left : IsWindowLeft wind
 
       by_test : (b : Bool) → (window == s) ≡ b → with_serial n after.controls ≡ with_serial n before.controls
       by_test true e =
-          let none : controls_of s after.controls ≡ [] = ap (λ k. controls_of k after.controls) (sym (eqb-true window s e)) ∙ left.gone in
+          let none : items_of s after.controls ≡ [] = ap (λ k. items_of k after.controls) (sym (eqb-true window s e)) ∙ left.gone in
           absurd (false≢true (sym (ap (list_any (has_serial n)) none) ∙ is))
       by_test false e =
           sym (with_among n s after.controls (left.apart apart) is)
@@ -130,7 +130,7 @@ module _ (window : ℕ) (before after : ControlsState) (left : IsWindowLeft wind
   -- the layers of each window that is there begin with its controls', and no other is a control's
   joined_left : (ws : List WindowRecord) → is_missing window ws ≡ true → AreJoined before.controls ws → AreJoined after.controls ws
   joined_left ws missing joined =
-      both_all (λ w. (window == w.serial) ≡ false) (λ w. AreLayersOf (controls_of w.serial before.controls) w.layers) (λ w. AreLayersOf (controls_of w.serial after.controls) w.layers)
+      both_all (λ w. (window == w.serial) ≡ false) (λ w. AreLayersOf (items_of w.serial before.controls) w.layers) (λ w. AreLayersOf (items_of w.serial after.controls) w.layers)
       (λ w away its. subst (λ cs. AreLayersOf cs w.layers) (sym (left.others w.serial (differ window w.serial away))) its)
       ws (no_such_window window ws missing) joined
     where
@@ -159,7 +159,7 @@ module _ (window : ℕ) (before after : ControlsState) (left : IsWindowLeft wind
 
       by_test : (b : Bool) → (window == t) ≡ b → count_of t after.controls ≤ most_controls
       by_test true e =
-          let none : count_of t after.controls ≡ 0 = count_of-length t after.controls ∙ ap length (ap (λ k. controls_of k after.controls) (sym (eqb-true window t e)) ∙ left.gone) in
+          let none : count_of t after.controls ≡ 0 = count_of-length t after.controls ∙ ap length (ap (λ k. items_of k after.controls) (sym (eqb-true window t e)) ∙ left.gone) in
           omega (arith, none)
       by_test false e =
           let same : count_of t after.controls ≡ count_of t before.controls = count_of-length t after.controls ∙ ap length (left.others t (differ window t e)) ∙ sym (count_of-length t before.controls) in

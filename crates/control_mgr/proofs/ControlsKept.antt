@@ -6,7 +6,7 @@ use Rattle.std.proofs.lemmas.Bool.{false≢true}
 use Rattle.std.proofs.lemmas.List.Elements.{All-head, All-tail}
 use Rattle.tb_geom.specs.declared.refusal.Refusal.{Refusal}
 use Rattle.tb_geom.specs.Points.{PixelSet}
-use Rattle.control_list.specs.Lists.{controls_of, has_serial, is_in}
+use Rattle.window_items.specs.Items.{items_of, has_serial, is_in}
 use Rattle.def_iface.specs.declared.part.Part.{Part}
 use Rattle.def_iface.specs.declared.part.Part.TheVariants as part
 use Rattle.def_iface.specs.Desk as layers
@@ -95,11 +95,11 @@ parts_of look content w (c ∷ cs) (l ∷ ls) h apart behind = (
 )
 
 -- the controls of one window are apart where all are
-pub apart_among : (window : ℕ) (cs : List ControlRecord) → AreControlsApart cs → AreControlsApart (controls_of window cs)
+pub apart_among : (window : ℕ) (cs : List ControlRecord) → AreControlsApart cs → AreControlsApart (items_of window cs)
 apart_among window [] apart = tt
 apart_among window (c ∷ cs) apart = by_test (is_in window c) (apart_among window cs apart.1)
   where
-    by_test : (b : Bool) → AreControlsApart (controls_of window cs) → AreControlsApart (cond b (c ∷ controls_of window cs) (controls_of window cs))
+    by_test : (b : Bool) → AreControlsApart (items_of window cs) → AreControlsApart (cond b (c ∷ items_of window cs) (items_of window cs))
     by_test true rest = (none_in_window c.serial window cs apart.0, rest)
     by_test false rest = rest
 
@@ -136,9 +136,9 @@ distinct_windows look other ds (w ∷ ws) (v ∷ vs) apart same behind joined di
           (none_of other v.serial vs ∙ missing_alike v.serial ws vs rest ∙ sym (none_of look v.serial ws)
           ∙ ap (λ (x : WindowRecord). is_none (layers.window_of x.serial (map (layered_window look) ws))) first ∙ ap is_none distinct.0),
       (
-        parts_of other (v.definition.content v.size) v (controls_of v.serial ds) v.layers (All-head (λ x. AreLayersOf (controls_of x.serial ds) x.layers) v vs joined) (apart_among v.serial ds apart)
+        parts_of other (v.definition.content v.size) v (items_of v.serial ds) v.layers (All-head (λ x. AreLayersOf (items_of x.serial ds) x.layers) v vs joined) (apart_among v.serial ds apart)
             (parts_alike look other (uncontrolled w) (uncontrolled v) (ap (λ (x : WindowRecord). x.layers) first_behind) (parts_behind look (w.definition.content w.size) w w.layers distinct.1.0)),
-        distinct_windows look other ds ws vs apart rest rest_behind (All-tail (λ x. AreLayersOf (controls_of x.serial ds) x.layers) v vs joined) distinct.1.1,
+        distinct_windows look other ds ws vs apart rest rest_behind (All-tail (λ x. AreLayersOf (items_of x.serial ds) x.layers) v vs joined) distinct.1.1,
       ),
     )
 

@@ -28,7 +28,7 @@ use Rattle.window_mgr.specs.FullDesk.{AreSerials, FullDesk, FullState, IsRightSt
 use Rattle.window_mgr.specs.Relayered.{IsLayerRedrawn, redrawn_change}
 use Rattle.window_mgr.proofs.EachChanged.{numbered_map}
 use Rattle.window_mgr.proofs.Running.{unchanged_stays_right}
-use Rattle.control_list.specs.Lists.{with_highlight}
+use Rattle.control_mgr.specs.Fields.{with_highlight}
 use Rattle.control_mgr.specs.ControlDesks.{ControlDesk, ControlRecord, ControlsState, ShowsControls, controls_show}
 use Rattle.control_mgr.specs.ControlSteps.{AreControlsLaid, IsControlEffect, IsControlLaid, IsControlStep, IsHighlighted, IsControlReleased, IsShownAnew, IsStepped, IsTracked, SameShown, highlight_of, is_thumb, new_control, released, tested}
 use Rattle.control_mgr.specs.WholeControls.{AreControlsApart, AreWholeControls}

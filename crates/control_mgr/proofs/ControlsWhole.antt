@@ -12,9 +12,10 @@ use Rattle.control_values.specs.declared.part.ControlPart.{ControlPart}
 use Rattle.control_values.specs.Highlights.{is_highlight}
 use Rattle.control_values.specs.Parts.{number_of}
 use Rattle.control_values.specs.Settings.{Setting}
-use Rattle.control_list.specs.Lists.{are_before, controls_of, count_of, with_highlight, with_place, with_shown, with_size, with_title}
-use Rattle.control_list.proofs.LawLemmas.{no_others}
-use Rattle.control_list.proofs.WindowLemmas.{controls_of-push, found_in}
+use Rattle.window_items.specs.Items.{are_before, items_of, count_of}
+use Rattle.control_mgr.specs.Fields.{with_highlight, with_place, with_shown, with_size, with_title}
+use Rattle.window_items.proofs.LawLemmas.{no_others}
+use Rattle.window_items.proofs.WindowLemmas.{items_of-push, found_in}
 use Rattle.def_iface.specs.Slots.{has_kind}
 use Rattle.desk_call.specs.declared.activity.Activity.{Activity}
 use Rattle.desk_call.specs.declared.activity.Activity.TheVariants.{TrackingControl}
@@ -38,7 +39,6 @@ use Rattle.control_mgr.specs.Spots.{with_lie, with_state}
 use Rattle.control_mgr.specs.WholeControls.{AreWholeControls}
 use Rattle.control_mgr.proofs.Added.{or_parts}
 use Rattle.control_mgr.proofs.Disposed.{whole_ended}
-use Rattle.control_mgr.proofs.Edited.{All-there}
 use Rattle.control_mgr.proofs.Lays.{lie_parts}
 use Rattle.control_mgr.proofs.Made.{whole_made}
 use Rattle.control_mgr.proofs.Moves.{lie_of}
@@ -46,6 +46,7 @@ use Rattle.control_mgr.proofs.Settled.{MayBeSo, changed_alike, settled_told, who
 use Rattle.control_mgr.proofs.Sets.{state_of_control}
 use Rattle.control_mgr.proofs.Sound.{MayHave, after_shows, found_shows, maximum_given, minimum_given, part_shows, released_given, setting_given, value_given}
 use Rattle.control_mgr.proofs.Steps.{none_hold}
+use Rattle.window_items.proofs.EditLemmas.{All-there}
 
 -- ---- reasons that do not hold
 
@@ -111,12 +112,12 @@ module _ (before after : ControlDesk) (whole : AreWholeControls before.desk.wind
 
   -- a control came to lie so
   laid_whole : (c : ControlOf) (f : ControlRecord → ControlRecord) → ((x : ControlRecord) → f x ≡ with_lie (lie_of (f x)) x)
-      → ((x : ControlRecord) → control_of c cs ≡ Some x → IsSettledControl x → MayBeSo x.definition.definition (f x)) → IsControlLaid c f before after → IsWhole
+      → ((x : ControlRecord) → control_of c cs ≡ Some x → IsSettledControl x → MayBeSo x.kept.definition.definition (f x)) → IsControlLaid c f before after → IsWhole
   laid_whole c f keeps may done =
       subst (λ (x : List WindowRecord × ControlsState). AreWholeControls x.0 x.1) (λ i. (ap (λ (d : FullDesk). d.windows) (sym done.laid.set.desk) i, sym done.changed.state i))
       (whole_laid (lie_of (f control)) done.changed.at c.window done.laid.layers ws before.controls done.changed.controls whole (found_in c.window c.control done.changed.at cs done.changed.found) may_be
       (changed_alike f (with_lie (lie_of (f control))) done.changed.at cs done.changed.controls agrees done.changed.changed)
-      (subst (λ xs. AreLayersOf (controls_of c.window xs) done.laid.layers) (ap (λ (s : ControlsState). s.controls) done.changed.state) done.laid.joined))
+      (subst (λ xs. AreLayersOf (items_of c.window xs) done.laid.layers) (ap (λ (s : ControlsState). s.controls) done.changed.state) done.laid.joined))
     where
       control : ControlRecord
       control = done.changed.changed.control
@@ -129,18 +130,18 @@ module _ (before after : ControlDesk) (whole : AreWholeControls before.desk.wind
           one : (y z : ControlRecord) → slice_get cs done.changed.at ≡ Some y → slice_get cs done.changed.at ≡ Some z → y ≡ z
           one y z e g = cc
 
-      may_be : (x : ControlRecord) → slice_get cs done.changed.at ≡ Some x → MayBeSo x.definition.definition (with_lie (lie_of (f control)) x)
-      may_be x e = subst (MayBeSo x.definition.definition) (agrees x e) (may x (ap (option_and_then (slice_get cs)) done.changed.found ∙ e) (All-there IsSettledControl done.changed.at cs x e whole.settled))
+      may_be : (x : ControlRecord) → slice_get cs done.changed.at ≡ Some x → MayBeSo x.kept.definition.definition (with_lie (lie_of (f control)) x)
+      may_be x e = subst (MayBeSo x.kept.definition.definition) (agrees x e) (may x (ap (option_and_then (slice_get cs)) done.changed.found ∙ e) (All-there IsSettledControl done.changed.at cs x e whole.settled))
 
   -- one that lies as it lay, shown or hidden
-  stays : (shown : Bool) (x : ControlRecord) → IsSettledControl x → MayBeSo x.definition.definition (with_shown shown x)
+  stays : (shown : Bool) (x : ControlRecord) → IsSettledControl x → MayBeSo x.kept.definition.definition (with_shown shown x)
   stays shown x its = record { placed = its.placed; fits = its.fits; inside = its.inside; setting = its.setting; highlight = its.highlight }
 
   -- one that may be placed so in its window
-  placed_so : (x : ControlRecord) → IsSettledControl x → (k : Lie) (window : ℕ) → is_missing window ws ≡ false → may_be_in (Some x.definition.definition) k.place k.size (record_with window ws) ≡ true → MayBeSo x.definition.definition (with_lie k x)
+  placed_so : (x : ControlRecord) → IsSettledControl x → (k : Lie) (window : ℕ) → is_missing window ws ≡ false → may_be_in (Some x.kept.definition.definition) k.place k.size (record_with window ws) ≡ true → MayBeSo x.kept.definition.definition (with_lie k x)
   placed_so x its k window there may =
       let w = there_window (record_with window ws) there in
-      let so = (lie_parts x.definition.definition k w.0.place (sym (ap (may_be_in (Some x.definition.definition) k.place k.size) w.1) ∙ may)).so in
+      let so = (lie_parts x.kept.definition.definition k w.0.place (sym (ap (may_be_in (Some x.kept.definition.definition) k.place k.size) w.1) ∙ may)).so in
       record { placed = so.placed; fits = so.fits; inside = so.inside; setting = its.setting; highlight = its.highlight }
 
   -- where nothing refuses a call about a control, its window is there, and what else was asked holds
@@ -212,13 +213,13 @@ module _ (before after : ControlDesk) (whole : AreWholeControls before.desk.wind
         (whole_made one made.loan.definition n.kind made.laid.layers ws before.controls after.controls.stock whole made.serials
         (no_others one cs (subst (λ o. are_before o cs ≡ true) made.serials whole.given))
         (settled_told one made.loan.definition made.begun made.loan.slot may made.live) judged.there judged.room made.taken
-        (subst (λ xs. AreLayersOf xs made.laid.layers) (ap (controls_of n.window) made.controls ∙ controls_of-push n.window cs one (self n.window)) made.laid.joined))
+        (subst (λ xs. AreLayersOf xs made.laid.layers) (ap (items_of n.window) made.controls ∙ items_of-push n.window cs one (self n.window)) made.laid.joined))
 
   ended_whole : (c : ControlOf) → IsControlDisposed c before after → IsWhole
   ended_whole c gone =
       subst (λ (x : List WindowRecord × ControlsState). AreWholeControls x.0 x.1) (λ i. (ap (λ (d : FullDesk). d.windows) (sym gone.laid.set.desk) i, sym gone.controls i))
       (whole_ended gone.at c.window gone.control gone.laid.layers ws before.controls after.controls.stock whole gone.there (found_in c.window c.control gone.at cs gone.found) gone.shut
-      (subst (λ xs. AreLayersOf (controls_of c.window xs) gone.laid.layers) (ap (λ (s : ControlsState). s.controls) gone.controls) gone.laid.joined))
+      (subst (λ xs. AreLayersOf (items_of c.window xs) gone.laid.layers) (ap (λ (s : ControlsState). s.controls) gone.controls) gone.laid.joined))
 
   -- ---- each call
 
@@ -243,7 +244,7 @@ module _ (before after : ControlDesk) (whole : AreWholeControls before.desk.wind
 
   released_whole : (a : Activity) (p : Point) (answer : Option ControlPart) → IsControlReleased a p answer before after → IsWhole
   released_whole (TrackingControl k) p answer done = anew_whole k.control (released k p answer) (λ x. refl)
-      (λ x e its. record { setting = released_given k p answer x its.setting; highlight = after_shows k.part x.highlight its.highlight }) done.2
+      (λ x e its. record { setting = released_given k p answer x its.setting; highlight = after_shows k.part x.kept.highlight its.highlight }) done.2
   released_whole a p answer wrong = absurd wrong
 
   effect_whole : (call : ControlCall) (answer : ControlReply) → first_refusal (control_refusals call before.desk.windows.desk before.controls) ≡ None → IsControlEffect call answer before after → IsWhole
@@ -254,19 +255,19 @@ module _ (before after : ControlDesk) (whole : AreWholeControls before.desk.wind
   effect_whole (Move m) answer none (is, done) = laid_whole m.control (with_place m.place) (λ x. refl)
       (λ x e its.
       let its_window = asked m.control (may_go_to m.place (control_of m.control cs) (record_with m.control.window ws)) none in
-      placed_so x its (record { place = m.place; size = x.size; shown = x.shown }) m.control.window its_window.0 (ap (λ o. may_go_to m.place o (record_with m.control.window ws)) (sym e) ∙ its_window.1))
+      placed_so x its (record { place = m.place; size = x.kept.size; shown = x.kept.shown }) m.control.window its_window.0 (ap (λ o. may_go_to m.place o (record_with m.control.window ws)) (sym e) ∙ its_window.1))
       done
   effect_whole (Size z) answer none (is, done) = laid_whole z.control (with_size z.size) (λ x. refl)
       (λ x e its.
       let its_window = asked z.control (may_get_size z.size (control_of z.control cs) (record_with z.control.window ws)) none in
-      placed_so x its (record { place = x.place; size = z.size; shown = x.shown }) z.control.window its_window.0 (ap (λ o. may_get_size z.size o (record_with z.control.window ws)) (sym e) ∙ its_window.1))
+      placed_so x its (record { place = x.kept.place; size = z.size; shown = x.kept.shown }) z.control.window its_window.0 (ap (λ o. may_get_size z.size o (record_with z.control.window ws)) (sym e) ∙ its_window.1))
       done
   effect_whole (SetValue n) answer none done = anew_whole n.control (with_value n.number) (λ x. refl)
-      (λ x e its. set_so x its _ (value_given x.values n.number its.setting)) done.2
+      (λ x e its. set_so x its _ (value_given x.kept.values n.number its.setting)) done.2
   effect_whole (SetMinimum n) answer none done = anew_whole n.control (with_minimum n.number) (λ x. refl)
-      (λ x e its. set_so x its _ (minimum_given x.values n.number its.setting (ap (may_be_minimum n.number) (sym e) ∙ (asked n.control (may_be_minimum n.number (control_of n.control cs)) none).1))) done.2
+      (λ x e its. set_so x its _ (minimum_given x.kept.values n.number its.setting (ap (may_be_minimum n.number) (sym e) ∙ (asked n.control (may_be_minimum n.number (control_of n.control cs)) none).1))) done.2
   effect_whole (SetMaximum n) answer none done = anew_whole n.control (with_maximum n.number) (λ x. refl)
-      (λ x e its. set_so x its _ (maximum_given x.values n.number its.setting (ap (may_be_maximum n.number) (sym e) ∙ (asked n.control (may_be_maximum n.number (control_of n.control cs)) none).1))) done.2
+      (λ x e its. set_so x its _ (maximum_given x.kept.values n.number its.setting (ap (may_be_maximum n.number) (sym e) ∙ (asked n.control (may_be_maximum n.number (control_of n.control cs)) none).1))) done.2
   effect_whole (Hilite n) answer none (h, is, done) = anew_whole n.control (with_highlight h) (λ x. refl)
       (λ x e its. lit_so h x its (ap is_highlight (sym is) ∙ (asked n.control (is_highlight n.number) none).1)) done.2
   effect_whole (SetTitle t) answer none done = anew_whole t.control (with_title t.title) (λ x. refl)

@@ -4,11 +4,12 @@ use Rattle.std.specs.Prelude.{map, slice_get}
 use Rattle.std.specs.List.{list_any, remove}
 use Rattle.std.specs.Option.{option_map}
 use Rattle.tb_geom.specs.Points.{PixelSet}
-use Rattle.control_list.specs.declared.control.Control.{Control}
-use Rattle.control_list.specs.Lists.{controls_of, count_of, has_serial, is_before, is_in_at, place_among}
-use Rattle.control_list.specs.Seen.{all_seen, seen}
-use Rattle.control_list.proofs.SeenLemmas.{place_among-seen, remove-seen, slice_get-seen}
-use Rattle.control_list.proofs.WindowLemmas.{controls_of-remove, controls_of-remove_other, count_of-remove, count_of-remove_other, is_in_at-other, slice_get-controls_of}
+use Rattle.window_items.specs.declared.item.Item.{Item}
+use Rattle.control_mgr.specs.declared.control.Control.{Control}
+use Rattle.window_items.specs.Items.{items_of, count_of, has_serial, is_before, is_in_at, place_among}
+use Rattle.control_mgr.specs.Seen.{all_seen, kept_seen, seen}
+use Rattle.window_items.proofs.SeenLemmas.{place_among-seen, remove-seen, slice_get-seen}
+use Rattle.window_items.proofs.WindowLemmas.{items_of-remove, items_of-remove_other, count_of-remove, count_of-remove_other, is_in_at-other, slice_get-items_of}
 use Rattle.def_iface.specs.declared.part.Part.{Part}
 use Rattle.def_iface.specs.declared.taken.Taken.{Taken}
 use Rattle.def_iface.specs.declared.taken_control.TakenControl.{TakenControl}
@@ -48,13 +49,14 @@ use Rattle.control_mgr.specs.Settled.{AreSettled, IsSettledControl}
 use Rattle.control_mgr.specs.Spots.{IsSpotOf}
 use Rattle.control_mgr.specs.WholeControls.{AreControlsApart, AreWholeControls, LeavesOver, control_desk, controls_state, records_of, slots_of}
 use Rattle.control_mgr.proofs.Added.{or_parts}
-use Rattle.control_mgr.proofs.Edited.{All-remove, All-there, AreNoControls, begin_remove, behind_removed, map-remove}
+use Rattle.control_mgr.proofs.Edited.{AreNoControls, begin_remove, behind_removed}
 use Rattle.control_mgr.proofs.LayerOut.{all-remove}
 use Rattle.control_mgr.proofs.Places.{at_window, in_its_window, layer_there, layers_named, read_is, record_there, there_is, within}
 use Rattle.control_mgr.proofs.Reshown.{alone, set_among}
 use Rattle.control_mgr.proofs.Settled.{AreJoined, joined_laid, somewhere_laid}
 use Rattle.control_mgr.proofs.Steps.{nothing_missing}
 use Rattle.control_mgr.proofs.Stocks.{slot_is_left, slot_of, stocked_without}
+use Rattle.window_items.proofs.EditLemmas.{All-remove, All-there, map-remove}
 
 -- ---- one taken out
 
@@ -72,17 +74,17 @@ apart-remove (suc i) [] h = tt
 apart-remove zero (c ∷ cs) h = h.1
 apart-remove (suc i) (c ∷ cs) h = (none-remove c.serial i cs h.0, apart-remove i cs h.1)
 
-slot_at : (cs : List ControlRecord) (i : ℕ) (c : ControlRecord) → slice_get cs i ≡ Some c → slice_get (slots_of cs) i ≡ Some c.definition.slot
+slot_at : (cs : List ControlRecord) (i : ℕ) (c : ControlRecord) → slice_get cs i ≡ Some c → slice_get (slots_of cs) i ≡ Some c.kept.definition.slot
 slot_at [] i c e = absurd (cc)
-slot_at (x ∷ xs) zero c e = let same : x ≡ c = cc in ap (λ (y : ControlRecord). Some y.definition.slot) same
+slot_at (x ∷ xs) zero c e = let same : x ≡ c = cc in ap (λ (y : ControlRecord). Some y.kept.definition.slot) same
 slot_at (x ∷ xs) (suc i) c e = slot_at xs i c e
 
 -- the slot of a control that is there is empty
 pub slot_left : (i : ℕ) (cs : List ControlRecord) (c : ControlRecord) (slots : List ControlSlot) → slice_get cs i ≡ Some c
-    → AreStocked (λ (d : ControlDefinition). d.stage) (slots_of cs) slots → is_left c.definition.slot slots ≡ true
+    → AreStocked (λ (d : ControlDefinition). d.stage) (slots_of cs) slots → is_left c.kept.definition.slot slots ≡ true
 slot_left i cs c slots e stocked =
-    slot_is_left (λ (d : ControlDefinition). d.stage) c.definition.slot slots
-    (slot_of (λ (d : ControlDefinition). d.stage) i (slots_of cs) c.definition.slot slots (slot_at cs i c e) stocked).0
+    slot_is_left (λ (d : ControlDefinition). d.stage) c.kept.definition.slot slots
+    (slot_of (λ (d : ControlDefinition). d.stage) i (slots_of cs) c.kept.definition.slot slots (slot_at cs i c e) stocked).0
 
 -- no window has more controls then
 few_left : (at : ℕ) (cs : List ControlRecord) → ((t : ℕ) → count_of t cs ≤ most_controls) → (t : ℕ) → count_of t (remove cs at) ≤ most_controls
@@ -94,7 +96,7 @@ few_left at cs few t = by_test (is_in_at t at cs) refl
 
 -- what was whole is whole without one control, over slots into one of which its definition came back, beside the windows without its layer
 pub whole_ended : (at window : ℕ) (c : ControlRecord) (ls : List Layer) (ws : List WindowRecord) (state : ControlsState) (back : List ControlSlot) → AreWholeControls ws state
-    → slice_get state.controls at ≡ Some c → is_in_at window at state.controls ≡ true → IsControlShut c.definition state.stock back → AreLayersOf (controls_of window (remove state.controls at)) ls
+    → slice_get state.controls at ≡ Some c → is_in_at window at state.controls ≡ true → IsControlShut c.kept.definition state.stock back → AreLayersOf (items_of window (remove state.controls at)) ls
     → AreWholeControls (map (with_layers_of window ls) ws) (record state { controls = remove state.controls at; stock = back })
 whole_ended at window c ls ws state back whole there here shut joined = record {
   settled = All-remove IsSettledControl at state.controls whole.settled;
@@ -103,27 +105,27 @@ whole_ended at window c ls ws state back whole there here shut joined = record {
   somewhere = somewhere_laid window ls ws (remove state.controls at) (All-remove (λ (x : ControlRecord). is_missing x.window ws ≡ false) at state.controls whole.somewhere);
   few = few_left at state.controls whole.few;
   joined = joined_laid window ls state.controls (remove state.controls at) ws joined
-      (λ t away. controls_of-remove_other t at state.controls (is_in_at-other window t at state.controls (λ e. away (sym e)) here))
+      (λ t away. items_of-remove_other t at state.controls (is_in_at-other window t at state.controls (λ e. away (sym e)) here))
       whole.joined;
-  stocked = subst (λ ns. AreStocked (λ (d : ControlDefinition). d.stage) ns back) (sym (map-remove (λ (x : ControlRecord). x.definition.slot) at state.controls))
-      (stocked_without (λ (d : ControlDefinition). d.stage) at (slots_of state.controls) (record { definition = shut.definition; slot = c.definition.slot }) state.stock back
+  stocked = subst (λ ns. AreStocked (λ (d : ControlDefinition). d.stage) ns back) (sym (map-remove (λ (x : ControlRecord). x.kept.definition.slot) at state.controls))
+      (stocked_without (λ (d : ControlDefinition). d.stage) at (slots_of state.controls) (record { definition = shut.definition; slot = c.kept.definition.slot }) state.stock back
       (slot_at state.controls at c there) shut.closed shut.back whole.stocked);
 }
 
 module _ {W : Type 0} {K : W → Type 0} (control_loan : TakenControl W K → ControlLoan) (m : Controls (TakenControl W K)) where
   -- a control that was read at a place
-  pub seen_at : (at : ℕ) (x : Control (TakenControl W K)) → slice_get m.list.controls.items at ≡ Some x → slice_get (records_of control_loan m) at ≡ Some (seen control_loan x)
-  seen_at at x e = slice_get-seen control_loan m.list.controls.items at ∙ ap (λ o. option_map (seen control_loan) o) e
+  pub seen_at : (at : ℕ) (x : Item (Control (TakenControl W K))) → slice_get m.list.items.items at ≡ Some x → slice_get (records_of control_loan m) at ≡ Some (seen control_loan x)
+  seen_at at x e = slice_get-seen (kept_seen control_loan) m.list.items.items at ∙ ap (λ o. option_map (seen control_loan) o) e
 
-  pub ended_live : (at : ℕ) (x : Control (TakenControl W K)) → slice_get m.list.controls.items at ≡ Some x → AreSettled (records_of control_loan m) → (control_loan x.definition).definition.stage ≡ Live
+  pub ended_live : (at : ℕ) (x : Item (Control (TakenControl W K))) → slice_get m.list.items.items at ≡ Some x → AreSettled (records_of control_loan m) → (control_loan x.kept.definition).definition.stage ≡ Live
   ended_live at x e settled = (All-there IsSettledControl at (records_of control_loan m) (seen control_loan x) (seen_at at x e) settled).live
 
-  pub ended_left : (at : ℕ) (x : Control (TakenControl W K)) (slots : List ControlSlot) → slice_get m.list.controls.items at ≡ Some x
-      → AreStocked (λ (d : ControlDefinition). d.stage) (slots_of (records_of control_loan m)) slots → is_left (control_loan x.definition).slot slots ≡ true
+  pub ended_left : (at : ℕ) (x : Item (Control (TakenControl W K))) (slots : List ControlSlot) → slice_get m.list.items.items at ≡ Some x
+      → AreStocked (λ (d : ControlDefinition). d.stage) (slots_of (records_of control_loan m)) slots → is_left (control_loan x.kept.definition).slot slots ≡ true
   ended_left at x slots e stocked = slot_left at (records_of control_loan m) (seen control_loan x) slots (seen_at at x e) stocked
 
-  pub settled_left : (at : ℕ) (xs : List (Control (TakenControl W K))) → xs ≡ remove m.list.controls.items at → AreSettled (records_of control_loan m) → AreSettled (all_seen control_loan xs)
-  settled_left at xs is settled = subst AreSettled (sym (ap (all_seen control_loan) is ∙ remove-seen control_loan m.list.controls.items at)) (All-remove IsSettledControl at (records_of control_loan m) settled)
+  pub settled_left : (at : ℕ) (xs : List (Item (Control (TakenControl W K)))) → xs ≡ remove m.list.items.items at → AreSettled (records_of control_loan m) → AreSettled (all_seen control_loan xs)
+  settled_left at xs is settled = subst AreSettled (sym (ap (all_seen control_loan) is ∙ remove-seen (kept_seen control_loan) m.list.items.items at)) (All-remove IsSettledControl at (records_of control_loan m) settled)
 
 module _ {V : Type 0} {H : V → Type 0} (loan : Taken V H → Loan) {W : Type 0} {K : W → Type 0} (control_loan : TakenControl W K → ControlLoan)
     (c : ControlOf) (t : WindowManager V H) (m : Controls (TakenControl W K)) (s : Spot) (is : IsSpotOf loan control_loan c t m s) where
@@ -131,25 +133,25 @@ module _ {V : Type 0} {H : V → Type 0} (loan : Taken V H → Loan) {W : Type 0
   cs = records_of control_loan m
 
   module _ (kept : IsKept loan t) (joined : AreJoined cs (desk_of loan t []).windows) (w : Window V H) (lies : IsWindowAt t.windows.records.items s.window w)
-      (index : ℕ) (index_is : index ≡ place_among s.control m.list.controls.items) where
+      (index : ℕ) (index_is : index ≡ place_among s.control m.list.items.items) where
     index_seen : place_among s.control cs ≡ index
-    index_seen = place_among-seen control_loan s.control m.list.controls.items ∙ sym index_is
+    index_seen = place_among-seen (kept_seen control_loan) s.control m.list.items.items ∙ sym index_is
 
     module _ (layers : PlacedLayers) (layers_are : layers ≡ record w.layers { layers = remove w.layers.layers index }) where
       new_is : layers.layers ≡ remove w.layers.layers index
       new_is = ap (λ (ls : PlacedLayers). ls.layers) layers_are
 
-      pub joined_left : AreLayersOf (controls_of c.window (remove cs s.control)) layers.layers
+      pub joined_left : AreLayersOf (items_of c.window (remove cs s.control)) layers.layers
       joined_left =
-          subst (λ ls. AreLayersOf (controls_of c.window (remove cs s.control)) ls) (sym new_is)
+          subst (λ ls. AreLayersOf (items_of c.window (remove cs s.control)) ls) (sym new_is)
           (subst (λ xs. AreLayersOf xs (remove w.layers.layers index))
-          (sym (controls_of-remove c.window s.control cs (in_its_window loan control_loan c t m s is) ∙ ap (λ i. remove (controls_of c.window cs) i) index_seen))
-          (begin_remove IsLayerOf AreNoControls index (controls_of c.window cs) w.layers.layers
-          (subst (λ i. i < length (controls_of c.window cs)) index_seen
-          (within (controls_of c.window cs) (place_among s.control cs) (record_there loan control_loan c t m s is).item
-          (slice_get-controls_of c.window s.control cs (in_its_window loan control_loan c t m s is) ∙ (record_there loan control_loan c t m s is).there)))
-          (subst (λ n. AreLayersOf (controls_of n cs) w.layers.layers) (is.window.1 w lies)
-          (at_window loan (λ r. AreLayersOf (controls_of r.serial cs) r.layers) t.windows.records.items s.window w is.window.0 lies joined))))
+          (sym (items_of-remove c.window s.control cs (in_its_window loan control_loan c t m s is) ∙ ap (λ i. remove (items_of c.window cs) i) index_seen))
+          (begin_remove IsLayerOf AreNoControls index (items_of c.window cs) w.layers.layers
+          (subst (λ i. i < length (items_of c.window cs)) index_seen
+          (within (items_of c.window cs) (place_among s.control cs) (record_there loan control_loan c t m s is).item
+          (slice_get-items_of c.window s.control cs (in_its_window loan control_loan c t m s is) ∙ (record_there loan control_loan c t m s is).there)))
+          (subst (λ n. AreLayersOf (items_of n cs) w.layers.layers) (is.window.1 w lies)
+          (at_window loan (λ r. AreLayersOf (items_of r.serial cs) r.layers) t.windows.records.items s.window w is.window.0 lies joined))))
 
       -- the layers behind the controls are as they were
       pub behind_left : behind_controls layers.layers ≡ behind_controls w.layers.layers
@@ -165,11 +167,11 @@ module _ {V : Type 0} {H : V → Type 0} (loan : Taken V H → Loan) {W : Type 0
       → IsWholeManager loan u slots × AreLayersSet w.serial ls afresh (state_showing was (state_of loan t slots)) (state_showing shows (state_of loan u slots))
 
   -- the control was disposed of
-  pub ended : (kept : IsKept loan t) → (index : ℕ) → index ≡ place_among s.control m.list.controls.items
+  pub ended : (kept : IsKept loan t) → (index : ℕ) → index ≡ place_among s.control m.list.items.items
       → (layers : PlacedLayers) → ((w : Window V H) → IsWindowAt t.windows.records.items s.window w → layers ≡ record w.layers { layers = remove w.layers.layers index })
-      → (u : WindowManager V H) (n : Controls (TakenControl W K)) (x : Control (TakenControl W K)) → slice_get m.list.controls.items s.control ≡ Some x
-      → n.list.controls.items ≡ remove m.list.controls.items s.control → n.list.next ≡ m.list.next
-      → (before back : List ControlSlot) → IsControlShut (control_loan x.definition) before back
+      → (u : WindowManager V H) (n : Controls (TakenControl W K)) (x : Item (Control (TakenControl W K))) → slice_get m.list.items.items s.control ≡ Some x
+      → n.list.items.items ≡ remove m.list.items.items s.control → n.list.next ≡ m.list.next
+      → (before back : List ControlSlot) → IsControlShut (control_loan x.kept.definition) before back
       → AreLeftFor s.window layers.layers (alone (records_of control_loan n)) t u
       → (o : Opened) → LeavesOver control_loan loan before back (IsControlDisposed c) t o m u o n
   ended kept index index_is layers layers_are u n x there controls_are next_is before back shut set o others slots whole controls =
@@ -181,8 +183,8 @@ module _ {V : Type 0} {H : V → Type 0} (loan : Taken V H → Loan) {W : Type 0
       let was = state_showing (controls_show others cs) (state_of loan t slots) in
       let sets = set_among others (records_of control_loan n) (state_of loan u slots) leaves.0.sound.distinct c.window was layers.layers None (λ q e. absurd (cc))
       (subst (λ k. AreLayersSet k layers.layers None was (state_showing (alone (records_of control_loan n)) (state_of loan u slots))) serial leaves.1) in
-      let left : records_of control_loan n ≡ remove cs s.control = ap (all_seen control_loan) controls_are ∙ remove-seen control_loan m.list.controls.items s.control in
-      let joined : AreLayersOf (controls_of c.window (remove cs s.control)) layers.layers = joined_left kept controls.joined w lies index index_is layers (layers_are w lies) in
+      let left : records_of control_loan n ≡ remove cs s.control = ap (all_seen control_loan) controls_are ∙ remove-seen (kept_seen control_loan) m.list.items.items s.control in
+      let joined : AreLayersOf (items_of c.window (remove cs s.control)) layers.layers = joined_left kept controls.joined w lies index index_is layers (layers_are w lies) in
       let windows_are : (desk_of loan u []).windows ≡ map (with_layers_of c.window layers.layers) (desk_of loan t []).windows = ap (λ (d : FullDesk). d.windows) sets.desk in
       let state_is : controls_state control_loan n back ≡ record { controls = remove cs s.control; next = m.list.next; stock = back } = (λ i. record { controls = left i; next = next_is i; stock = back }) in (
         leaves.0,
@@ -199,7 +201,7 @@ module _ {V : Type 0} {H : V → Type 0} (loan : Taken V H → Loan) {W : Type 0
           controls = state_is;
           laid = record {
             layers = layers.layers;
-            joined = subst (λ xs. AreLayersOf (controls_of c.window xs) layers.layers) (sym left) joined;
+            joined = subst (λ xs. AreLayersOf (items_of c.window xs) layers.layers) (sym left) joined;
             others = layers_named loan t slots whole s.window c.window w is.window.0 lies serial (λ ls. behind_controls layers.layers ≡ behind_controls ls)
                 (behind_left kept controls.joined w lies index index_is layers (layers_are w lies));
             set = sets;

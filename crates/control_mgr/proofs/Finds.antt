@@ -11,10 +11,11 @@ use Rattle.tb_geom.specs.Points.{PixelSet, minus, plus}
 use Rattle.tb_geom.specs.Pixels.{holds}
 use Rattle.tb_geom.specs.Rects.{in_plane}
 use Rattle.control_values.specs.declared.part.ControlPart.{ControlPart}
-use Rattle.control_list.specs.declared.control.Control.{Control}
-use Rattle.control_list.specs.Lists.{control_index}
-use Rattle.control_list.specs.Seen.{all_seen, seen}
-use Rattle.control_list.proofs.SeenLemmas.{control_index-seen}
+use Rattle.window_items.specs.declared.item.Item.{Item}
+use Rattle.control_mgr.specs.declared.control.Control.{Control}
+use Rattle.window_items.specs.Items.{item_index}
+use Rattle.control_mgr.specs.Seen.{all_seen, kept_seen, seen}
+use Rattle.window_items.proofs.SeenLemmas.{item_index-seen}
 use Rattle.def_iface.specs.declared.part.Part.{Part}
 use Rattle.def_iface.specs.declared.part.Part.TheVariants as part
 use Rattle.def_iface.specs.declared.taken.Taken.{Taken}
@@ -58,9 +59,9 @@ use Rattle.control_mgr.specs.Judged.{part_tested}
 use Rattle.control_mgr.specs.Settled.{AreSettled, IsSettledControl}
 use Rattle.control_mgr.specs.Spots.{IsSpotOf}
 use Rattle.control_mgr.specs.WholeControls.{LeavesControls, records_of}
-use Rattle.control_mgr.proofs.Edited.{All-there}
 use Rattle.control_mgr.proofs.Places.{record_read}
 use Rattle.control_mgr.proofs.Steps.{desk_seen, first_fails, one_fails, one_holds, other_reasons, refused, told, unchanged}
+use Rattle.window_items.proofs.EditLemmas.{All-there}
 
 -- there and back again
 way_back : (a b : ℤ) → (a +ℤ b) -ℤ a ≡ b
@@ -100,7 +101,7 @@ control_nowhere c cs none = ap (option_and_then (slice_get cs)) none
 
 module _ {W : Type 0} {K : W → Type 0} (control_loan : TakenControl W K → ControlLoan) where
   -- the control at a place is settled
-  pub settled_at : (xs : List (Control (TakenControl W K))) (at : ℕ) (x : Control (TakenControl W K)) → at < length xs → x ≡ get_or xs at x
+  pub settled_at : (xs : List (Item (Control (TakenControl W K)))) (at : ℕ) (x : Item (Control (TakenControl W K))) → at < length xs → x ≡ get_or xs at x
       → AreSettled (all_seen control_loan xs) → IsSettledControl (seen control_loan x)
   settled_at xs at x low read settled = All-there IsSettledControl at (all_seen control_loan xs) (seen control_loan x) (record_read control_loan xs at x low read) settled
 
@@ -156,22 +157,22 @@ module _ {W : Type 0} {K : W → Type 0} (control_loan : TakenControl W K → Co
         → found ≡ option_and_then (λ c. found_in c p) (control_of (record { window = w.serial; control = n }) cs)
     its_control a n read shown is = found_there a read shown ∙ ap (λ o. control_found_by w.serial cs (Content w.serial o) p) is ∙ found_own w.serial n cs p
 
-    index_seen : (n : ℕ) (o : Option ℕ) → o ≡ control_index w.serial n m.list.controls.items → index_of (record { window = w.serial; control = n }) cs ≡ o
-    index_seen n o is = control_index-seen control_loan w.serial n m.list.controls.items ∙ sym is
+    index_seen : (n : ℕ) (o : Option ℕ) → o ≡ item_index w.serial n m.list.items.items → index_of (record { window = w.serial; control = n }) cs ≡ o
+    index_seen n o is = item_index-seen (kept_seen control_loan) w.serial n m.list.items.items ∙ sym is
 
     pub missing_control : (a : Area) (n : ℕ) → a ≡ get_or t.areas.items at a → holds a.visible pixel ≡ true → part_at w.layers.layers p ≡ part.Control n
-        → None ≡ control_index w.serial n m.list.controls.items → None ≡ found
+        → None ≡ item_index w.serial n m.list.items.items → None ≡ found
     missing_control a n read shown is none =
         sym (its_control a n read shown is ∙ ap (option_and_then (λ c. found_in c p)) (control_nowhere (record { window = w.serial; control = n }) cs (index_seen n None none)))
 
-    pub control_found : (a : Area) (n i : ℕ) (x : Control (TakenControl W K)) → a ≡ get_or t.areas.items at a → holds a.visible pixel ≡ true → part_at w.layers.layers p ≡ part.Control n
-        → Some i ≡ control_index w.serial n m.list.controls.items → i < length m.list.controls.items → x ≡ get_or m.list.controls.items i x
+    pub control_found : (a : Area) (n i : ℕ) (x : Item (Control (TakenControl W K))) → a ≡ get_or t.areas.items at a → holds a.visible pixel ≡ true → part_at w.layers.layers p ≡ part.Control n
+        → Some i ≡ item_index w.serial n m.list.items.items → i < length m.list.items.items → x ≡ get_or m.list.items.items i x
         → (answer : Option FoundControl) → answer ≡ found_in (seen control_loan x) p → answer ≡ found
     control_found a n i x read shown is index within x_is answer answers =
         answers
         ∙ sym (its_control a n read shown is
         ∙ ap (option_and_then (λ c. found_in c p))
-        (control_here (record { window = w.serial; control = n }) cs i (seen control_loan x) (index_seen n (Some i) index) (record_read control_loan m.list.controls.items i x within x_is)))
+        (control_here (record { window = w.serial; control = n }) cs i (seen control_loan x) (index_seen n (Some i) index) (record_read control_loan m.list.items.items i x within x_is)))
 
 -- ---- steps
 
@@ -185,8 +186,8 @@ module _ {V : Type 0} {H : V → Type 0} (loan : Taken V H → Loan) {W : Type 0
       (λ others slots kept. other_reasons loan control_loan asked.control t m s is ((not (in_plane asked.point), OutOfRange) ∷ []) ∙ one_holds (not (in_plane asked.point)) OutOfRange (ap not out))
 
   -- the part of a control that the point lies in
-  pub test_told : (asked : PointAtControl) (s : Spot) (o : Opened) (x : Control (TakenControl W K)) (answer : Option ControlPart) → IsSpotOf loan control_loan asked.control t m s
-      → x ≡ get_or m.list.controls.items s.control x → in_plane asked.point ≡ true → answer ≡ part_tested (seen control_loan x) asked.point
+  pub test_told : (asked : PointAtControl) (s : Spot) (o : Opened) (x : Item (Control (TakenControl W K))) (answer : Option ControlPart) → IsSpotOf loan control_loan asked.control t m s
+      → x ≡ get_or m.list.items.items s.control x → in_plane asked.point ≡ true → answer ≡ part_tested (seen control_loan x) asked.point
       → LeavesControls control_loan loan (IsControlStep (asks.Test asked) (Ok (reply.Part answer))) t o m t o m
   test_told asked s o x answer is read within answers =
       told loan control_loan (asks.Test asked) (reply.Part answer) t o m
@@ -195,7 +196,7 @@ module _ {V : Type 0} {H : V → Type 0} (loan : Taken V H → Loan) {W : Type 0
     where
       here : tested asked.control (records_of control_loan m) asked.point ≡ part_tested (seen control_loan x) asked.point
       here = ap (option_and_then (λ d. part_tested d asked.point))
-          (control_here asked.control (records_of control_loan m) s.control (seen control_loan x) is.control (record_read control_loan m.list.controls.items s.control x is.low read))
+          (control_here asked.control (records_of control_loan m) s.control (seen control_loan x) is.control (record_read control_loan m.list.items.items s.control x is.low read))
 
   module _ (kept : IsKept loan t) (asked : PointInWindow) (at : ℕ) (stands : StandsAt t.windows.records.items asked.window at) where
     window : (w : Window V H) × IsWindowAt t.windows.records.items at w

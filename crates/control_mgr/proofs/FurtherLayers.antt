@@ -4,7 +4,7 @@ use Rattle.std.specs.List.{insert, remove}
 use Rattle.std.proofs.lemmas.Bool.{true≢false}
 use Rattle.std.proofs.lemmas.List.Elements.{All-append, All-drop, All-take}
 use Rattle.tb_geom.specs.Points.{PixelSet}
-use Rattle.control_list.specs.Lists.{controls_of}
+use Rattle.window_items.specs.Items.{items_of}
 use Rattle.def_iface.specs.declared.part.Part.{Part}
 use Rattle.def_iface.specs.declared.taken.Taken.{Taken}
 use Rattle.def_iface.specs.Meaning.{Loan}
@@ -44,7 +44,7 @@ joined_without (c ∷ cs) (l ∷ ls) (suc i) own low is other h = (h.0, joined_w
 -- ---- controls beside them
 
 -- what was whole is whole beside the windows of which one has other layers that begin with its controls'
-pub whole_relayered : (window : ℕ) (ls : List Layer) (ws : List WindowRecord) (state : ControlsState) → AreWholeControls ws state → AreLayersOf (controls_of window state.controls) ls
+pub whole_relayered : (window : ℕ) (ls : List Layer) (ws : List WindowRecord) (state : ControlsState) → AreWholeControls ws state → AreLayersOf (items_of window state.controls) ls
     → AreWholeControls (map (with_layers_of window ls) ws) state
 whole_relayered window ls ws state whole joined = record {
   settled = whole.settled;
@@ -59,6 +59,6 @@ whole_relayered window ls ws state whole joined = record {
 -- so where the window manager was given these layers
 pub whole_set : {V : Type 0} {H : V → Type 0} (loan : Taken V H → Loan) (window : ℕ) (ls : List Layer) (afresh : Option Part) (was shows : List ℕ → Part → PixelSet) (t u : WindowManager V H) (slots : List SlotView) (state : ControlsState)
     → AreLayersSet window ls afresh (state_showing was (state_of loan t slots)) (state_showing shows (state_of loan u slots)) → AreWholeControls (desk_of loan t []).windows state
-    → AreLayersOf (controls_of window state.controls) ls → AreWholeControls (desk_of loan u []).windows state
+    → AreLayersOf (items_of window state.controls) ls → AreWholeControls (desk_of loan u []).windows state
 whole_set loan window ls afresh was shows t u slots state set whole joined =
     subst (λ ws. AreWholeControls ws state) (sym (ap (λ (d : FullDesk). d.windows) set.desk)) (whole_relayered window ls (desk_of loan t []).windows state whole joined)

@@ -5,8 +5,8 @@ use Rattle.std.proofs.lemmas.Bool.Decides.{nat_tests}
 use Rattle.tb_geom.specs.declared.refusal.Refusal.{Refusal}
 use Rattle.tb_geom.specs.declared.refusal.Refusal.TheVariants.{NoDefinition, NoSuchWindow, OutOfRange, TooLong, TooMany}
 use Rattle.tb_geom.specs.Refusals.{first_refusal}
-use Rattle.control_list.specs.Lists.{count_of}
-use Rattle.control_list.proofs.SeenLemmas.{count_of-seen}
+use Rattle.window_items.specs.Items.{count_of}
+use Rattle.window_items.proofs.SeenLemmas.{count_of-seen}
 use Rattle.def_iface.specs.declared.taken.Taken.{Taken}
 use Rattle.def_iface.specs.declared.taken_control.TakenControl.{TakenControl}
 use Rattle.def_iface.specs.ControlMeaning.{ControlDefinition, ControlLoan}
@@ -29,6 +29,7 @@ use Rattle.control_mgr.specs.Making.{IsTicket, judged_by}
 use Rattle.control_mgr.specs.WholeControls.{records_of}
 use Rattle.control_mgr.proofs.Lays.{one_item}
 use Rattle.control_mgr.proofs.Steps.{first_behind, first_of}
+use Rattle.control_mgr.specs.Seen.{kept_seen}
 
 module _ {V : Type 0} {H : V → Type 0} {W : Type 0} {K : W → Type 0} (control_loan : TakenControl W K → ControlLoan) (n : NewControl) (d : Option ControlDefinition) (t : WindowManager V H) where
   -- whichever window stands there, the control may be placed in it
@@ -109,19 +110,19 @@ module _ {V : Type 0} {H : V → Type 0} (loan : Taken V H → Loan) {W : Type 0
               by_next true o e = refl
               by_next false o e = ap (λ o. first_refusal ((is_none o, TooMany) ∷ [])) e
 
-          pub many : 64 ≤ count_of n.window m.list.controls.items → judged_by loan control_loan n d t m ≡ Some TooMany
+          pub many : 64 ≤ count_of n.window m.list.items.items → judged_by loan control_loan n d t m ≡ Some TooMany
           many e =
-              by_title ∙ ap (λ k. first_refusal ((nat_le 64 k || is_none m.list.next, TooMany) ∷ [])) (count_of-seen control_loan n.window m.list.controls.items)
-              ∙ (λ i. first_refusal ((are_many (count_of n.window m.list.controls.items) e i || is_none m.list.next, TooMany) ∷ []))
+              by_title ∙ ap (λ k. first_refusal ((nat_le 64 k || is_none m.list.next, TooMany) ∷ [])) (count_of-seen (kept_seen control_loan) n.window m.list.items.items)
+              ∙ (λ i. first_refusal ((are_many (count_of n.window m.list.items.items) e i || is_none m.list.next, TooMany) ∷ []))
             where
               are_many : (k : ℕ) → 64 ≤ k → nat_le 64 k ≡ true
               are_many k e = grind (arith, nat_tests)
 
-          pub is_given : (serial : ℕ) → m.list.next ≡ Some serial → count_of n.window m.list.controls.items < 64
+          pub is_given : (serial : ℕ) → m.list.next ≡ Some serial → count_of n.window m.list.items.items < 64
               → judged_by loan control_loan n d t m ≡ None
           is_given serial next few =
-              by_title ∙ ap (λ c. first_refusal ((nat_le 64 c || is_none m.list.next, TooMany) ∷ [])) (count_of-seen control_loan n.window m.list.controls.items)
-              ∙ (λ i. first_refusal ((are_few (count_of n.window m.list.controls.items) few i || is_none (next i), TooMany) ∷ []))
+              by_title ∙ ap (λ c. first_refusal ((nat_le 64 c || is_none m.list.next, TooMany) ∷ [])) (count_of-seen (kept_seen control_loan) n.window m.list.items.items)
+              ∙ (λ i. first_refusal ((are_few (count_of n.window m.list.items.items) few i || is_none (next i), TooMany) ∷ []))
             where
               are_few : (k : ℕ) → k < 64 → nat_le 64 k ≡ false
               are_few k e = grind (arith, nat_tests)

@@ -7,11 +7,12 @@ use Rattle.tb_geom.specs.declared.point.Point.{Point}
 use Rattle.tb_geom.specs.Points.{PixelSet, minus}
 use Rattle.tb_geom.specs.Pixels.{holds}
 use Rattle.tb_geom.specs.Rects.{in_plane, is_in_range, moved_rect}
-use Rattle.control_list.specs.declared.control.Control.{Control}
-use Rattle.control_list.specs.Lists.{controls_of, edit_at, is_in_at, place_among, with_place, with_shown, with_size}
-use Rattle.control_list.specs.Seen.{all_seen, seen}
-use Rattle.control_list.proofs.SeenLemmas.{edit_at-seen, length-seen, place_among-seen}
-use Rattle.control_list.proofs.WindowLemmas.{controls_of-edit_at, slice_get-controls_of}
+use Rattle.window_items.specs.declared.item.Item.{Item}
+use Rattle.control_mgr.specs.declared.control.Control.{Control}
+use Rattle.window_items.specs.Items.{items_of, edit_at, is_in_at, place_among, with_kept}
+use Rattle.control_mgr.specs.Seen.{all_seen, kept_seen, seen}
+use Rattle.window_items.proofs.SeenLemmas.{edit_at-seen, length-seen, place_among-seen}
+use Rattle.window_items.proofs.WindowLemmas.{items_of-edit_at, slice_get-items_of}
 use Rattle.def_iface.specs.declared.part.Part.{Part}
 use Rattle.def_iface.specs.declared.part.Part.TheVariants as part
 use Rattle.def_iface.specs.declared.taken.Taken.{Taken}
@@ -49,11 +50,15 @@ use Rattle.control_mgr.specs.Laying.{IsShapeOf, MayLie, MayLieSo}
 use Rattle.control_mgr.specs.Settled.{AreSettled, IsSettledControl}
 use Rattle.control_mgr.specs.Spots.{IsSpot, IsSpotOf, IsTellable, with_lie}
 use Rattle.control_mgr.specs.WholeControls.{AreBeside, AreWholeControls, LeavesControls, controls_state, records_of}
-use Rattle.control_mgr.proofs.Edited.{All-there, AreNoControls, begin_reshape, behind_reshaped, edit_twice, there_edited}
+use Rattle.control_mgr.proofs.Edited.{AreNoControls, begin_reshape, behind_reshaped}
 use Rattle.control_mgr.proofs.Puts.{changed_then_told}
 use Rattle.control_mgr.proofs.Settled.{AreJoined, MayBeSo, changed_settled, laid_layer, retold, whole_laid}
 use Rattle.control_mgr.proofs.Places.{ItsLayer, at_window, in_its_window, layer_there, layers_named, names, read_is, record_read, record_there, there_is, within}
 use Rattle.control_mgr.proofs.Reshown.{alone, one_control, set_among}
+use Rattle.window_items.specs.declared.items.Items.{Items}
+use Rattle.window_items.specs.Lends.{with_value}
+use Rattle.window_items.proofs.LentLemmas.{lent_and_written}
+use Rattle.window_items.proofs.EditLemmas.{All-there, there_edited}
 
 -- ---- where a control may lie
 
@@ -103,13 +108,16 @@ same_part_at shape i ls new l afresh low read is part_is =
     same_read (x ∷ xs) (suc i) d l low e = same_read xs i d l (omega arith) e
 
 module _ {W : Type 0} {K : W → Type 0} (control_loan : TakenControl W K → ControlLoan) where
-  -- the three setters lay a control so
-  pub lie_set : (k : Lie) (at : ℕ) (ls bs cs ds : List (Control (TakenControl W K))) → bs ≡ edit_at (with_place k.place) at ls → cs ≡ edit_at (with_size k.size) at bs
-      → ds ≡ edit_at (with_shown k.shown) at cs → all_seen control_loan ds ≡ edit_at (with_lie k) at (all_seen control_loan ls)
-  lie_set k at ls bs cs ds e f g =
-      ap (all_seen control_loan) (g ∙ ap (edit_at (with_shown k.shown) at) (f ∙ ap (edit_at (with_size k.size) at) e))
-      ∙ ap (all_seen control_loan) (edit_twice (with_size k.size) (with_shown k.shown) at (edit_at (with_place k.place) at ls) ∙ edit_twice (with_place k.place) (λ c. with_shown k.shown (with_size k.size c)) at ls)
-      ∙ edit_at-seen control_loan (λ c. with_shown k.shown (with_size k.size (with_place k.place c))) (with_lie k) (λ c. refl) at ls
+  -- what is kept of a control that lies so
+  abbrev lying : Lie → Control (TakenControl W K) → Control (TakenControl W K)
+  lying l k = record k { place = l.place; size = l.size; shown = l.shown }
+
+  -- a control that was lent is laid so
+  pub lie_set : (l : Lie) (at : ℕ) (s : Items (Control (TakenControl W K))) (k : Control (TakenControl W K)) → IfSome (slice_get s.items.items at) (λ c. k ≡ c.kept)
+      → all_seen control_loan (with_value s at (lying l k)).items.items ≡ edit_at (with_lie l) at (all_seen control_loan s.items.items)
+  lie_set l at s k lent =
+      ap (all_seen control_loan) (lent_and_written (lying l) s at k lent)
+      ∙ edit_at-seen (kept_seen control_loan) (with_kept (lying l)) (with_lie l) (λ c. refl) at s.items.items
 
   -- its definition can be told of it
   pub lie_tellable : (k : Lie) (at : ℕ) (xs ds : List ControlRecord) → at < length xs → IfSome (slice_get xs at) (λ c. IsTellable (with_lie k c)) → ds ≡ edit_at (with_lie k) at xs → IfSome (slice_get ds at) IsTellable
@@ -118,16 +126,16 @@ module _ {W : Type 0} {K : W → Type 0} (control_loan : TakenControl W K → Co
       subst (λ o. IfSome o IsTellable) (sym (ap (λ cs. slice_get cs at) set ∙ there_edited (with_lie k) at xs was.item was.there))
       (subst (λ o. IfSome o (λ c. IsTellable (with_lie k c))) was.there may)
 
-  pub lie_changed : (k : Lie) (at : ℕ) (m n : Controls (TakenControl W K)) (ds : List (Control (TakenControl W K))) → at < length m.list.controls.items
+  pub lie_changed : (k : Lie) (at : ℕ) (m n : Controls (TakenControl W K)) (ds : List (Item (Control (TakenControl W K)))) → at < length m.list.items.items
       → all_seen control_loan ds ≡ edit_at (with_lie k) at (records_of control_loan m) → IsChangedAt (λ c. c) at (all_seen control_loan ds) (records_of control_loan n)
       → IsChangedAt (with_lie k) at (records_of control_loan m) (records_of control_loan n)
   lie_changed k at m n ds low set told =
       changed_then_told (with_lie k) (λ c. refl) at (records_of control_loan m) (all_seen control_loan ds) (records_of control_loan n)
-      (there_is (records_of control_loan m) at (subst (λ k. at < k) (sym (length-seen control_loan m.list.controls.items)) low)) set told
+      (there_is (records_of control_loan m) at (subst (λ k. at < k) (sym (length-seen (kept_seen control_loan) m.list.items.items)) low)) set told
 
 module _ {V : Type 0} {H : V → Type 0} (loan : Taken V H → Loan) {W : Type 0} {K : W → Type 0} (control_loan : TakenControl W K → ControlLoan) where
   module _ (c : ControlOf) (t : WindowManager V H) (m : Controls (TakenControl W K)) (s : Spot) (is : IsSpotOf loan control_loan c t m s)
-      (l : Lie) (may : MayLie control_loan t m s l) (w : Window V H) (lies : IsWindowAt t.windows.records.items s.window w) (index : ℕ) (index_is : index ≡ place_among s.control m.list.controls.items) where
+      (l : Lie) (may : MayLie control_loan t m s l) (w : Window V H) (lies : IsWindowAt t.windows.records.items s.window w) (index : ℕ) (index_is : index ≡ place_among s.control m.list.items.items) where
     abbrev low : s.window < length t.windows.records.items
     low = is.window.0
 
@@ -136,10 +144,10 @@ module _ {V : Type 0} {H : V → Type 0} (loan : Taken V H → Loan) {W : Type 0
 
     -- the place of its layer
     index_seen : index ≡ place_among s.control (records_of control_loan m)
-    index_seen = index_is ∙ sym (place_among-seen control_loan s.control m.list.controls.items)
+    index_seen = index_is ∙ sym (place_among-seen (kept_seen control_loan) s.control m.list.items.items)
 
-    pub may_at : MayLieAt control.definition.definition l w.place
-    may_at = lie_parts control.definition.definition l w.place (may control w (record_there loan control_loan c t m s is).there lies)
+    pub may_at : MayLieAt control.kept.definition.definition l w.place
+    may_at = lie_parts control.kept.definition.definition l w.place (may control w (record_there loan control_loan c t m s is).there lies)
 
     module _ (slots : List SlotView) (whole : IsWholeManager loan t slots) (joined : AreJoined (records_of control_loan m) (desk_of loan t []).windows) where
       abbrev its : ItsLayer loan control_loan c t m s is w
@@ -163,7 +171,7 @@ module _ {V : Type 0} {H : V → Type 0} (loan : Taken V H → Loan) {W : Type 0
       pub fit : list_all (fits_at w.place) w.layers.layers ≡ true
       fit = (at_window loan IsSettled t.windows.records.items s.window w low lies whole.sound.settled).layers
 
-      module _ (shape : Shape) (shaped : IsShapeOf control.definition.definition l shape) where
+      module _ (shape : Shape) (shaped : IsShapeOf control.kept.definition.definition l shape) where
         screen_fits : is_in_range (moved_rect shape.bounds w.place.h w.place.v) ≡ true
         screen_fits = ap (λ b. is_in_range (moved_rect b w.place.h w.place.v)) shaped.bounds ∙ may_at.on_screen
 
@@ -209,15 +217,15 @@ module _ {V : Type 0} {H : V → Type 0} (loan : Taken V H → Loan) {W : Type 0
               ap behind_controls new_is
               ∙ behind_reshaped shape index w.layers.layers its.layer (ap (slice_get w.layers.layers) index_seen ∙ its.there) (ap (is_of kinds.Controls) its.is_layer.part)
 
-          pub joined_new : (ds : List ControlRecord) → IsChangedAt (with_lie l) s.control (records_of control_loan m) ds → AreLayersOf (controls_of c.window ds) new
+          pub joined_new : (ds : List ControlRecord) → IsChangedAt (with_lie l) s.control (records_of control_loan m) ds → AreLayersOf (items_of c.window ds) new
           joined_new ds changed =
-              subst (λ xs. AreLayersOf xs new) (sym (ap (controls_of c.window) changed.controls ∙ controls_of-edit_at (retold (with_lie l) changed.definition) (λ x. refl) c.window s.control (records_of control_loan m) here))
-              (subst (AreLayersOf (edit_at (retold (with_lie l) changed.definition) place (controls_of c.window (records_of control_loan m)))) (sym (new_is ∙ ap (λ n. reshaped shape n w.layers.layers) index_seen))
-              (begin_reshape IsLayerOf AreNoControls (retold (with_lie l) changed.definition) shape place (controls_of c.window (records_of control_loan m)) w.layers.layers
-              (within (controls_of c.window (records_of control_loan m)) place control (slice_get-controls_of c.window s.control (records_of control_loan m) here ∙ (record_there loan control_loan c t m s is).there))
-              (subst (λ n. AreLayersOf (controls_of n (records_of control_loan m)) w.layers.layers) (is.window.1 w lies)
-              (at_window loan (λ r. AreLayersOf (controls_of r.serial (records_of control_loan m)) r.layers) t.windows.records.items s.window w low lies joined))
-              (λ x k e was. new_layer x k (sym (slice_get-controls_of c.window s.control (records_of control_loan m) here) ∙ e) was)))
+              subst (λ xs. AreLayersOf xs new) (sym (ap (items_of c.window) changed.controls ∙ items_of-edit_at (retold (with_lie l) changed.definition) (λ x. refl) c.window s.control (records_of control_loan m) here))
+              (subst (AreLayersOf (edit_at (retold (with_lie l) changed.definition) place (items_of c.window (records_of control_loan m)))) (sym (new_is ∙ ap (λ n. reshaped shape n w.layers.layers) index_seen))
+              (begin_reshape IsLayerOf AreNoControls (retold (with_lie l) changed.definition) shape place (items_of c.window (records_of control_loan m)) w.layers.layers
+              (within (items_of c.window (records_of control_loan m)) place control (slice_get-items_of c.window s.control (records_of control_loan m) here ∙ (record_there loan control_loan c t m s is).there))
+              (subst (λ n. AreLayersOf (items_of n (records_of control_loan m)) w.layers.layers) (is.window.1 w lies)
+              (at_window loan (λ r. AreLayersOf (items_of r.serial (records_of control_loan m)) r.layers) t.windows.records.items s.window w low lies joined))
+              (λ x k e was. new_layer x k (sym (slice_get-items_of c.window s.control (records_of control_loan m) here) ∙ e) was)))
             where
               place : ℕ
               place = place_among s.control (records_of control_loan m)
@@ -231,8 +239,8 @@ module _ {V : Type 0} {H : V → Type 0} (loan : Taken V H → Loan) {W : Type 0
               new_layer : (x : ControlRecord) (k : Layer) → slice_get (records_of control_loan m) s.control ≡ Some x → IsLayerOf x k → IsLayerOf (retold (with_lie l) changed.definition x) (with_shape shape k)
               new_layer x k e was =
                   laid_layer l x changed.definition
-                  (subst (λ (y : ControlRecord). SameControlRegions y.definition.definition changed.definition) (one changed.control x changed.there e) changed.told.regions)
-                  shape (subst (λ (y : ControlRecord). IsShapeOf y.definition.definition l shape) (one control x (record_there loan control_loan c t m s is).there e) shaped) k was
+                  (subst (λ (y : ControlRecord). SameControlRegions y.kept.definition.definition changed.definition) (one changed.control x changed.there e) changed.told.regions)
+                  shape (subst (λ (y : ControlRecord). IsShapeOf y.kept.definition.definition l shape) (one control x (record_there loan control_loan c t m s is).there e) shaped) k was
 
   -- what commit_layers leaves of the window manager
   abbrev pub AreSetFor : ℕ → List Layer → ℕ → (List ℕ → Part → PixelSet) → WindowManager V H → WindowManager V H → Type 0
@@ -241,8 +249,8 @@ module _ {V : Type 0} {H : V → Type 0} (loan : Taken V H → Loan) {W : Type 0
       → IsWholeManager loan u slots × AreLayersSet w.serial ls afresh (state_showing was (state_of loan t slots)) (state_showing shows (state_of loan u slots))
 
   pub laid : (c : ControlOf) (t u : WindowManager V H) (m n : Controls (TakenControl W K)) (s : Spot) → (is : IsSpotOf loan control_loan c t m s) → (l : Lie) → MayLie control_loan t m s l
-      → (shape : Shape) → IsShapeOf (record_there loan control_loan c t m s is).item.definition.definition l shape
-      → (index : ℕ) → index ≡ place_among s.control m.list.controls.items
+      → (shape : Shape) → IsShapeOf (record_there loan control_loan c t m s is).item.kept.definition.definition l shape
+      → (index : ℕ) → index ≡ place_among s.control m.list.items.items
       → (relaid : Relaid) → ((w : Window V H) → IsWindowAt t.windows.records.items s.window w → relaid.layers ≡ record w.layers { layers = reshaped shape index w.layers.layers })
       → IsChangedAt (with_lie l) s.control (records_of control_loan m) (records_of control_loan n) → n.list.next ≡ m.list.next
       → AreSetFor s.window relaid.layers.layers index (alone (records_of control_loan n)) t u
@@ -258,7 +266,7 @@ module _ {V : Type 0} {H : V → Type 0} (loan : Taken V H → Loan) {W : Type 0
       let was = state_showing (controls_show others (records_of control_loan m)) (state_of loan t slots) in
       let sets = set_among others (records_of control_loan n) (state_of loan u slots) leaves.0.sound.distinct c.window was relaid.layers.layers q (one_control c.control)
       (subst (λ k. AreLayersSet k relaid.layers.layers q was (state_showing (alone (records_of control_loan n)) (state_of loan u slots))) serial leaves.1) in
-      let joined : AreLayersOf (controls_of c.window (records_of control_loan n)) relaid.layers.layers = joined_new c t m s is l may w lies index index_is slots whole controls.joined shape shaped relaid at (records_of control_loan n) changed in
+      let joined : AreLayersOf (items_of c.window (records_of control_loan n)) relaid.layers.layers = joined_new c t m s is l may w lies index index_is slots whole controls.joined shape shaped relaid at (records_of control_loan n) changed in
       let windows_are : (desk_of loan u []).windows ≡ map (with_layers_of c.window relaid.layers.layers) (desk_of loan t []).windows = ap (λ (d : FullDesk). d.windows) sets.desk in (
         leaves.0,
         subst (λ ws. AreWholeControls ws (controls_state control_loan n kept)) (sym windows_are)
@@ -291,9 +299,9 @@ module _ {V : Type 0} {H : V → Type 0} (loan : Taken V H → Loan) {W : Type 0
       one_record x y e f = cc
 
       may_be : (x : ControlRecord) → slice_get (records_of control_loan m) s.control ≡ Some x → IsSettledControl (record_there loan control_loan c t m s is).item
-          → MayLieSo (record_there loan control_loan c t m s is).item.definition.definition l → MayBeSo x.definition.definition (with_lie l x)
+          → MayLieSo (record_there loan control_loan c t m s is).item.kept.definition.definition l → MayBeSo x.kept.definition.definition (with_lie l x)
       may_be x e its so =
-          subst (λ (y : ControlRecord). MayBeSo y.definition.definition (with_lie l y)) (one_record (record_there loan control_loan c t m s is).item x (record_there loan control_loan c t m s is).there e)
+          subst (λ (y : ControlRecord). MayBeSo y.kept.definition.definition (with_lie l y)) (one_record (record_there loan control_loan c t m s is).item x (record_there loan control_loan c t m s is).there e)
           (record { placed = so.placed; fits = so.fits; inside = so.inside; setting = its.setting; highlight = its.highlight })
 
   -- ---- as the code comes to it
@@ -311,10 +319,10 @@ module _ {V : Type 0} {H : V → Type 0} (loan : Taken V H → Loan) {W : Type 0
     pub gained : (afresh : Option Part) → IsPartAt relaid.layers.layers (Some index) afresh → IsGainedAt s.window afresh t relaid
 
   module _ (t : WindowManager V H) (m : Controls (TakenControl W K)) (s : Spot) (spot : IsSpot loan control_loan t m s) (l : Lie) (may : MayLie control_loan t m s l)
-      (x : Control (TakenControl W K)) (read : x ≡ get_or m.list.controls.items s.control x) where
+      (x : Item (Control (TakenControl W K))) (read : x ≡ get_or m.list.items.items s.control x) where
     -- the control that was read is the one that stands there
     same_control : slice_get (records_of control_loan m) s.control ≡ Some (seen control_loan x)
-    same_control = record_read control_loan m.list.controls.items s.control x spot.is.low read
+    same_control = record_read control_loan m.list.items.items s.control x spot.is.low read
 
     it_is : (record_there loan control_loan spot.of t m s spot.is).item ≡ seen control_loan x
     it_is = one (record_there loan control_loan spot.of t m s spot.is).item (seen control_loan x) (record_there loan control_loan spot.of t m s spot.is).there same_control
@@ -322,10 +330,10 @@ module _ {V : Type 0} {H : V → Type 0} (loan : Taken V H → Loan) {W : Type 0
         one : (y z : ControlRecord) → slice_get (records_of control_loan m) s.control ≡ Some y → slice_get (records_of control_loan m) s.control ≡ Some z → y ≡ z
         one y z e f = cc
 
-    pub may_so : MayLieSo (control_loan x.definition).definition l
+    pub may_so : MayLieSo (control_loan x.kept.definition).definition l
     may_so =
         let windows = there_is t.windows.records.items s.window spot.is.window.0 in
-        (lie_parts (control_loan x.definition).definition l windows.item.place (may (seen control_loan x) windows.item same_control (read_is t.windows.records.items s.window windows.item windows.there))).so
+        (lie_parts (control_loan x.kept.definition).definition l windows.item.place (may (seen control_loan x) windows.item same_control (read_is t.windows.records.items s.window windows.item windows.there))).so
 
     -- so its definition may be told of it
     pub may_tell : AreSettled (records_of control_loan m) → IfSome (slice_get (records_of control_loan m) s.control) (λ c. IsTellable (with_lie l c))
@@ -337,16 +345,16 @@ module _ {V : Type 0} {H : V → Type 0} (loan : Taken V H → Loan) {W : Type 0
     settled_laid n settled changed =
         let was : IsSettledControl (seen control_loan x) = All-there IsSettledControl s.control (records_of control_loan m) (seen control_loan x) same_control settled in
         changed_settled (with_lie l) s.control (records_of control_loan m) (records_of control_loan n) settled
-        (λ c e. subst (λ (y : ControlRecord). MayBeSo y.definition.definition (with_lie l y)) (one (seen control_loan x) c same_control e) (record { placed = may_so.placed; fits = may_so.fits; inside = may_so.inside; setting = was.setting; highlight = was.highlight })) changed
+        (λ c e. subst (λ (y : ControlRecord). MayBeSo y.kept.definition.definition (with_lie l y)) (one (seen control_loan x) c same_control e) (record { placed = may_so.placed; fits = may_so.fits; inside = may_so.inside; setting = was.setting; highlight = was.highlight })) changed
       where
         one : (y z : ControlRecord) → slice_get (records_of control_loan m) s.control ≡ Some y → slice_get (records_of control_loan m) s.control ≡ Some z → y ≡ z
         one y z e f = cc
 
-    module _ (shape : Shape) (shaped : IsShapeOf (control_loan x.definition).definition l shape) where
-      pub its_shape : IsShapeOf (record_there loan control_loan spot.of t m s spot.is).item.definition.definition l shape
-      its_shape = subst (λ (y : ControlRecord). IsShapeOf y.definition.definition l shape) (sym it_is) shaped
+    module _ (shape : Shape) (shaped : IsShapeOf (control_loan x.kept.definition).definition l shape) where
+      pub its_shape : IsShapeOf (record_there loan control_loan spot.of t m s spot.is).item.kept.definition.definition l shape
+      its_shape = subst (λ (y : ControlRecord). IsShapeOf y.kept.definition.definition l shape) (sym it_is) shaped
 
-      module _ (kept : IsKept loan t) (beside : AreBeside control_loan loan t m) (w : Window V H) (lies : IsWindowAt t.windows.records.items s.window w) (index : ℕ) (index_is : index ≡ place_among s.control m.list.controls.items) where
+      module _ (kept : IsKept loan t) (beside : AreBeside control_loan loan t m) (w : Window V H) (lies : IsWindowAt t.windows.records.items s.window w) (index : ℕ) (index_is : index ≡ place_among s.control m.list.items.items) where
         pub before_laying : BeforeLaying w index shape
         before_laying = record {
           low = index_low spot.of t m s spot.is l may w lies index index_is kept.slots kept.whole beside.whole.joined;

@@ -9,12 +9,13 @@ use Rattle.std.proofs.lemmas.List.Edits.{get_or-insert_at}
 use Rattle.tb_geom.specs.declared.rect.Rect.{Rect}
 use Rattle.tb_geom.specs.Points.{PixelSet, minus}
 use Rattle.tb_geom.specs.Rects.{moved_rect}
-use Rattle.control_list.specs.declared.control.Control.{Control}
-use Rattle.control_list.specs.Lists.{are_before, controls_of, count_of, has_serial, serial_after}
-use Rattle.control_list.specs.Seen.{all_seen, seen}
-use Rattle.control_list.proofs.LawLemmas.{still_before}
-use Rattle.control_list.proofs.SeenLemmas.{append-seen}
-use Rattle.control_list.proofs.WindowLemmas.{controls_of-push, controls_of-push_other, count_of-length, count_of-push, count_of-push_other}
+use Rattle.window_items.specs.declared.item.Item.{Item}
+use Rattle.control_mgr.specs.declared.control.Control.{Control}
+use Rattle.window_items.specs.Items.{are_before, items_of, count_of, has_serial, serial_after}
+use Rattle.control_mgr.specs.Seen.{all_seen, kept_seen, seen}
+use Rattle.window_items.proofs.LawLemmas.{still_before}
+use Rattle.window_items.proofs.SeenLemmas.{append-seen}
+use Rattle.window_items.proofs.WindowLemmas.{items_of-push, items_of-push_other, count_of-length, count_of-push, count_of-push_other}
 use Rattle.control_values.specs.Settings.{Setting, settled}
 use Rattle.def_iface.specs.declared.part.Part.{Part}
 use Rattle.def_iface.specs.declared.part.Part.TheVariants as part
@@ -77,9 +78,9 @@ apart_more c (x ∷ xs) e h =
     let both = or_parts (x.serial == c.serial) (list_any (has_serial c.serial) xs) e in
     (list_any-append (has_serial x.serial) xs (c ∷ []) ∙ (λ i. h.0 i || (other_way x.serial c.serial both.0 i || false)), apart_more c xs both.1 h.1)
 
-slots_more : (c : ControlRecord) (cs : List ControlRecord) → slots_of (cs ++ c ∷ []) ≡ slots_of cs ++ c.definition.slot ∷ []
+slots_more : (c : ControlRecord) (cs : List ControlRecord) → slots_of (cs ++ c ∷ []) ≡ slots_of cs ++ c.kept.definition.slot ∷ []
 slots_more c [] = refl
-slots_more c (x ∷ xs) = ap (λ ns. x.definition.slot ∷ ns) (slots_more c xs)
+slots_more c (x ∷ xs) = ap (λ ns. x.kept.definition.slot ∷ ns) (slots_more c xs)
 
 All-more : (P : ControlRecord → Type 0) (cs : List ControlRecord) (c : ControlRecord) → All P cs → P c → All P (cs ++ c ∷ [])
 All-more P cs c h new = All-append P cs (c ∷ []) h (All-cons P c [] new (All-nil P))
@@ -99,8 +100,8 @@ few_more c cs room few t = by_test (c.window == t) refl
 pub whole_made : (c : ControlRecord) (old : ControlDefinition) (kind : List ℕ) (ls : List Layer) (ws : List WindowRecord) (state : ControlsState) (left : List ControlSlot)
     → AreWholeControls ws state → state.next ≡ Some c.serial → list_any (has_serial c.serial) state.controls ≡ false → IsSettledControl c → is_missing c.window ws ≡ false
     → count_of c.window state.controls < most_controls
-    → IsTaken (λ (d : ControlDefinition). d.stage) kind (record { definition = old; slot = c.definition.slot }) state.stock left
-    → AreLayersOf (controls_of c.window state.controls ++ c ∷ []) ls
+    → IsTaken (λ (d : ControlDefinition). d.stage) kind (record { definition = old; slot = c.kept.definition.slot }) state.stock left
+    → AreLayersOf (items_of c.window state.controls ++ c ∷ []) ls
     → AreWholeControls (map (with_layers_of c.window ls) ws) (record { controls = state.controls ++ c ∷ []; next = serial_after c.serial; stock = left })
 whole_made c old kind ls ws state left whole next unused settled there room took joined = record {
   settled = All-more IsSettledControl state.controls c whole.settled settled;
@@ -109,11 +110,11 @@ whole_made c old kind ls ws state left whole next unused settled there room took
   somewhere = All-more (λ (x : ControlRecord). is_missing x.window (map (with_layers_of c.window ls) ws) ≡ false) state.controls c (somewhere_laid c.window ls ws state.controls whole.somewhere) (missing-layers c.window c.window ls ws ∙ there);
   few = few_more c state.controls room whole.few;
   joined = joined_laid c.window ls state.controls (state.controls ++ c ∷ []) ws
-      (subst (λ xs. AreLayersOf xs ls) (sym (controls_of-push c.window state.controls c (same_number c.window c.window refl))) joined)
-      (λ t away. controls_of-push_other t state.controls c (other_number c.window t away))
+      (subst (λ xs. AreLayersOf xs ls) (sym (items_of-push c.window state.controls c (same_number c.window c.window refl))) joined)
+      (λ t away. items_of-push_other t state.controls c (other_number c.window t away))
       whole.joined;
   stocked = subst (λ ns. AreStocked (λ (d : ControlDefinition). d.stage) ns left) (sym (slots_more c state.controls))
-      (stocked_with (λ (d : ControlDefinition). d.stage) (slots_of state.controls) kind (record { definition = old; slot = c.definition.slot }) state.stock left took whole.stocked);
+      (stocked_with (λ (d : ControlDefinition). d.stage) (slots_of state.controls) kind (record { definition = old; slot = c.kept.definition.slot }) state.stock left took whole.stocked);
 }
 
 -- ---- the code's new control
@@ -121,24 +122,26 @@ whole_made c old kind ls ws state left whole next unused settled there room took
 module _ {W : Type 0} {K : W → Type 0} (control_loan : TakenControl W K → ControlLoan) where
   pub new_seen : (n : NewControl) (k : Ticket) (h : ℕ) (taken : TakenControl W K) (slot : ℕ) → k.values ≡ settled n.minimum n.maximum n.value → k.title ≡ n.title → h ≡ 0
       → (control_loan taken).slot ≡ slot
-      → seen control_loan (record { serial = k.serial; window = n.window; place = n.place; size = n.size; shown = n.shown; values = k.values; highlight = h; title = k.title; definition = taken })
+      → seen control_loan (record { serial = k.serial; window = n.window; kept = record { place = n.place; size = n.size; shown = n.shown; values = k.values; highlight = h; title = k.title; definition = taken } })
       ≡ new_control n k.serial slot (control_loan taken).definition
   new_seen n k h taken slot values title none same = λ i. record {
     serial = k.serial;
     window = n.window;
-    place = n.place;
-    size = n.size;
-    shown = n.shown;
-    values = values i;
-    highlight = none i;
-    title = title i;
-    definition = record { definition = (control_loan taken).definition; slot = same i };
+    kept = record {
+      place = n.place;
+      size = n.size;
+      shown = n.shown;
+      values = values i;
+      highlight = none i;
+      title = title i;
+      definition = record { definition = (control_loan taken).definition; slot = same i };
+    };
   }
 
   -- what is left of the list where it was put behind the others
-  pub pushed : (m : Controls (TakenControl W K)) (xs : List (Control (TakenControl W K))) (x : Control (TakenControl W K)) (c : ControlRecord) → xs ≡ m.list.controls.items ++ x ∷ []
+  pub pushed : (m : Controls (TakenControl W K)) (xs : List (Item (Control (TakenControl W K)))) (x : Item (Control (TakenControl W K))) (c : ControlRecord) → xs ≡ m.list.items.items ++ x ∷ []
       → seen control_loan x ≡ c → all_seen control_loan xs ≡ records_of control_loan m ++ c ∷ []
-  pushed m xs x c is same = ap (all_seen control_loan) is ∙ append-seen control_loan m.list.controls.items (x ∷ []) ∙ ap (λ y. records_of control_loan m ++ y ∷ []) same
+  pushed m xs x c is same = ap (all_seen control_loan) is ∙ append-seen (kept_seen control_loan) m.list.items.items (x ∷ []) ∙ ap (λ y. records_of control_loan m ++ y ∷ []) same
 
 begun_with : (n : NewControl) (values : Setting) (old new : ControlDefinition) → values ≡ settled n.minimum n.maximum n.value → IsControlBegun (new_control_news n.size n.title values) old new
     → IsControlBegun (new_control_news n.size n.title (settled n.minimum n.maximum n.value)) old new
@@ -210,7 +213,7 @@ module _ {V : Type 0} {H : V → Type 0} (loan : Taken V H → Loan) {W : Type 0
           let was = state_showing (controls_show others (records_of control_loan m)) (state_of loan t slots) in
           let sets = set_among others (records_of control_loan m') (state_of loan u slots) leaves.0.sound.distinct n.window was a.layers.layers q (one_control a.ticket.serial)
           (subst (λ k. AreLayersSet k a.layers.layers q was (state_showing (alone (records_of control_loan m')) (state_of loan u slots))) serial leaves.1) in
-          let joined : AreLayersOf (controls_of n.window (records_of control_loan m) ++ made ∷ []) a.layers.layers = joined_new w lies in
+          let joined : AreLayersOf (items_of n.window (records_of control_loan m) ++ made ∷ []) a.layers.layers = joined_new w lies in
           let windows_are : (desk_of loan u []).windows ≡ map (with_layers_of n.window a.layers.layers) (desk_of loan t []).windows = ap (λ (d : FullDesk). d.windows) sets.desk in
           let there : is_missing n.window (desk_of loan t []).windows ≡ false = ap is_none (window_is loan control_loan n (Some d) t m kept a.ticket.window addition.ticket.window w lies) in (
             leaves.0,
@@ -231,7 +234,7 @@ module _ {V : Type 0} {H : V → Type 0} (loan : Taken V H → Loan) {W : Type 0
               laid = record {
                 layers = a.layers.layers;
                 joined = subst (λ xs. AreLayersOf xs a.layers.layers)
-                    (sym (ap (controls_of n.window) controls_are ∙ controls_of-push n.window (records_of control_loan m) made (same_number n.window n.window refl))) joined;
+                    (sym (ap (items_of n.window) controls_are ∙ items_of-push n.window (records_of control_loan m) made (same_number n.window n.window refl))) joined;
                 others = layers_named loan t slots whole a.ticket.window n.window w addition.ticket.window.0 lies serial (λ ls. behind_controls a.layers.layers ≡ behind_controls ls) (behind_new w lies);
                 set = sets;
                 elsewhere = refl;
@@ -241,11 +244,11 @@ module _ {V : Type 0} {H : V → Type 0} (loan : Taken V H → Loan) {W : Type 0
             },
           )
         where
-          joined_new : (w : Window V H) → IsWindowAt t.windows.records.items a.ticket.window w → AreLayersOf (controls_of n.window (records_of control_loan m) ++ made ∷ []) a.layers.layers
+          joined_new : (w : Window V H) → IsWindowAt t.windows.records.items a.ticket.window w → AreLayersOf (items_of n.window (records_of control_loan m) ++ made ∷ []) a.layers.layers
           joined_new w lies =
-              subst (AreLayersOf (controls_of n.window (records_of control_loan m) ++ made ∷ []))
+              subst (AreLayersOf (items_of n.window (records_of control_loan m) ++ made ∷ []))
               (sym (addition.layers w lies ∙ ap (λ i. insert w.layers.layers i addition.layer) (addition.ticket.layer ∙ count_of-length n.window (records_of control_loan m))))
-              (begin_behind IsLayerOf AreNoControls (controls_of n.window (records_of control_loan m)) w.layers.layers made addition.layer
+              (begin_behind IsLayerOf AreNoControls (items_of n.window (records_of control_loan m)) w.layers.layers made addition.layer
               (its loan control_loan n d t m a.ticket kept beside addition.ticket w lies) layer_is)
 
           -- the layers behind the controls are as they were

@@ -8,7 +8,7 @@ use Rattle.tb_geom.specs.declared.refusal.Refusal.{Refusal}
 use Rattle.tb_geom.specs.Points.{PixelSet}
 use Rattle.tb_geom.specs.Rects.{is_in_range, moved_rect}
 use Rattle.tb_geom.specs.Refusals.{first_refusal}
-use Rattle.control_list.specs.Lists.{with_place, with_shown, with_size}
+use Rattle.control_mgr.specs.Fields.{with_place, with_shown, with_size}
 use Rattle.def_iface.specs.declared.part.Part.{Part}
 use Rattle.def_iface.specs.declared.size.Size.{Size}
 use Rattle.def_iface.specs.declared.taken.Taken.{Taken}
@@ -44,15 +44,15 @@ use Rattle.control_mgr.specs.Laying.{IsLaidOrShort, MayLie, shown_call}
 use Rattle.control_mgr.specs.Settled.{IsSettledControl}
 use Rattle.control_mgr.specs.Spots.{IsSpotOf, with_lie}
 use Rattle.control_mgr.specs.WholeControls.{AreBeside, LeavesControls, control_desk, controls_state, records_of}
-use Rattle.control_mgr.proofs.Edited.{All-there}
 use Rattle.control_mgr.proofs.Places.{at_window, layer_there, record_there}
 use Rattle.control_mgr.proofs.Sets.{named_here}
 use Rattle.control_mgr.proofs.Settled.{changed_alike}
 use Rattle.control_mgr.proofs.Steps.{desk_seen, nothing_missing}
+use Rattle.window_items.proofs.EditLemmas.{All-there}
 
 -- how a control lies
 abbrev pub lie_of : ControlRecord → Lie
-lie_of c = record { place = c.place; size = c.size; shown = c.shown }
+lie_of c = record { place = c.kept.place; size = c.kept.size; shown = c.kept.shown }
 
 -- what is asked of each layer holds of the one at a place
 all_at : (f : Layer → Bool) (ls : List Layer) (i : ℕ) (l : Layer) → slice_get ls i ≡ Some l → list_all f ls ≡ true → f l ≡ true
@@ -89,32 +89,32 @@ module _ {V : Type 0} {H : V → Type 0} (loan : Taken V H → Loan) {W : Type 0
 
       -- whether it may go there is judged by its window
       pub go_judged : (place : Point) (b : Bool) (k : Lie) → IfSome (slice_get (records_of control_loan m) s.control) (λ x. k ≡ lie_of x)
-          → IfSome (slice_get (records_of control_loan m) s.control) (λ x. (w : Window V H) → IsWindowAt t.windows.records.items s.window w → b ≡ may_be_placed (Some x.definition.definition) place k.size w.place)
+          → IfSome (slice_get (records_of control_loan m) s.control) (λ x. (w : Window V H) → IsWindowAt t.windows.records.items s.window w → b ≡ may_be_placed (Some x.kept.definition.definition) place k.size w.place)
           → (w : Window V H) → IsWindowAt t.windows.records.items s.window w
           → may_go_to place (control_of c (records_of control_loan m)) (record_with c.window (desk_of loan t []).windows) ≡ b
       go_judged place b k read judged w lies =
           (λ i. may_go_to place (named_here loan control_loan c t m s is i) (window_named w lies i))
-          ∙ sym (ap (λ (l : Lie). may_be_placed (Some item.definition.definition) place l.size w.place) (lie_read k read item there))
-          ∙ sym (subst (λ o. IfSome o (λ x. (w : Window V H) → IsWindowAt t.windows.records.items s.window w → b ≡ may_be_placed (Some x.definition.definition) place k.size w.place)) there judged w lies)
+          ∙ sym (ap (λ (l : Lie). may_be_placed (Some item.kept.definition.definition) place l.size w.place) (lie_read k read item there))
+          ∙ sym (subst (λ o. IfSome o (λ x. (w : Window V H) → IsWindowAt t.windows.records.items s.window w → b ≡ may_be_placed (Some x.kept.definition.definition) place k.size w.place)) there judged w lies)
 
       pub size_judged : (size : Size) (b : Bool) (k : Lie) → IfSome (slice_get (records_of control_loan m) s.control) (λ x. k ≡ lie_of x)
-          → IfSome (slice_get (records_of control_loan m) s.control) (λ x. (w : Window V H) → IsWindowAt t.windows.records.items s.window w → b ≡ may_be_placed (Some x.definition.definition) k.place size w.place)
+          → IfSome (slice_get (records_of control_loan m) s.control) (λ x. (w : Window V H) → IsWindowAt t.windows.records.items s.window w → b ≡ may_be_placed (Some x.kept.definition.definition) k.place size w.place)
           → (w : Window V H) → IsWindowAt t.windows.records.items s.window w
           → may_get_size size (control_of c (records_of control_loan m)) (record_with c.window (desk_of loan t []).windows) ≡ b
       size_judged size b k read judged w lies =
           (λ i. may_get_size size (named_here loan control_loan c t m s is i) (window_named w lies i))
-          ∙ sym (ap (λ (l : Lie). may_be_placed (Some item.definition.definition) l.place size w.place) (lie_read k read item there))
-          ∙ sym (subst (λ o. IfSome o (λ x. (w : Window V H) → IsWindowAt t.windows.records.items s.window w → b ≡ may_be_placed (Some x.definition.definition) k.place size w.place)) there judged w lies)
+          ∙ sym (ap (λ (l : Lie). may_be_placed (Some item.kept.definition.definition) l.place size w.place) (lie_read k read item there))
+          ∙ sym (subst (λ o. IfSome o (λ x. (w : Window V H) → IsWindowAt t.windows.records.items s.window w → b ≡ may_be_placed (Some x.kept.definition.definition) k.place size w.place)) there judged w lies)
 
       -- it may stay where it lies
       pub may_stay : AreBeside control_loan loan t m → (k : Lie) → IfSome (slice_get (records_of control_loan m) s.control) (λ x. k ≡ lie_of x) → (shown : Bool) → MayLie control_loan t m s (record k { shown = shown })
       may_stay beside k read shown x w e lies =
           let settled : IsSettledControl x = All-there IsSettledControl s.control (records_of control_loan m) x e beside.whole.settled in
-          let fits = and_parts (is_control_size x.size) (is_in_range (x.definition.definition.bounds x.size)) settled.fits in
+          let fits = and_parts (is_control_size x.kept.size) (is_in_range (x.kept.definition.definition.bounds x.kept.size)) settled.fits in
           let its = layer_there loan control_loan c t m s is w lies beside.whole.joined in
           let screen : is_in_range (moved_rect its.layer.bounds w.place.h w.place.v) ≡ true = all_at (fits_at w.place) w.layers.layers _ its.layer its.there (at_window loan IsSettled t.windows.records.items s.window w is.window.0 lies kept.whole.sound.settled).layers in
-          ap (λ (l : Lie). may_be_placed (Some x.definition.definition) l.place l.size w.place) (lie_read k read x e)
-          ∙ (λ i. settled.placed i && (fits.0 i && (fits.1 i && (settled.inside i && (ap (λ b. is_in_range (moved_rect b w.place.h w.place.v)) (sym (its.is_layer.bounds ∙ ap (λ (y : ControlRecord). moved_rect (y.definition.definition.bounds y.size) y.place.h y.place.v) (one item x there e))) ∙ screen) i))))
+          ap (λ (l : Lie). may_be_placed (Some x.kept.definition.definition) l.place l.size w.place) (lie_read k read x e)
+          ∙ (λ i. settled.placed i && (fits.0 i && (fits.1 i && (settled.inside i && (ap (λ b. is_in_range (moved_rect b w.place.h w.place.v)) (sym (its.is_layer.bounds ∙ ap (λ (y : ControlRecord). moved_rect (y.kept.definition.definition.bounds y.kept.size) y.kept.place.h y.kept.place.v) (one item x there e))) ∙ screen) i))))
         where
           one : (y z : ControlRecord) → slice_get (records_of control_loan m) s.control ≡ Some y → slice_get (records_of control_loan m) s.control ≡ Some z → y ≡ z
           one y z e f = cc

@@ -25,7 +25,7 @@ use Rattle.window_mgr.specs.Records.{desk_of, state_of, state_showing}
 use Rattle.window_mgr.proofs.SlotLemmas.{get-set_same}
 use Rattle.control_mgr.specs.declared.controls.Controls.{Controls}
 use Rattle.control_mgr.specs.ControlDesks.{ControlSlot, ControlsState, IsControlDeskUnchanged, controls_show}
-use Rattle.control_list.specs.Seen.{all_seen}
+use Rattle.control_mgr.specs.Seen.{all_seen}
 use Rattle.control_mgr.specs.ControlRefusals.{judged_refusals, new_refusals, offered_control}
 use Rattle.control_mgr.specs.ControlSteps.{IsControlMade, IsControlStep}
 use Rattle.control_mgr.specs.Making.{IsNotAdded, IsRoomier, judged_by}

@@ -4,11 +4,12 @@ use Rattle.std.specs.Prelude.{All, IfSome, map, slice_get}
 use Rattle.std.specs.Option.{option_map, option_map_or}
 use Rattle.std.proofs.lemmas.Bool.{and_parts}
 use Rattle.std.proofs.lemmas.List.Elements.{All-head, All-tail}
-use Rattle.control_list.specs.Lists.{control_index, controls_of, is_control, is_in_at, place_among}
-use Rattle.control_list.specs.declared.control.Control.{Control}
-use Rattle.control_list.specs.Seen.{all_seen, seen}
-use Rattle.control_list.proofs.SeenLemmas.{length-seen, slice_get-seen}
-use Rattle.control_list.proofs.WindowLemmas.{found_in, position_there, slice_get-controls_of}
+use Rattle.window_items.specs.Items.{item_index, items_of, is_item, is_in_at, place_among}
+use Rattle.window_items.specs.declared.item.Item.{Item}
+use Rattle.control_mgr.specs.declared.control.Control.{Control}
+use Rattle.control_mgr.specs.Seen.{all_seen, kept_seen, seen}
+use Rattle.window_items.proofs.SeenLemmas.{length-seen, slice_get-seen}
+use Rattle.window_items.proofs.WindowLemmas.{found_in, position_there, slice_get-items_of}
 use Rattle.def_iface.specs.declared.taken.Taken.{Taken}
 use Rattle.def_iface.specs.declared.taken_control.TakenControl.{TakenControl}
 use Rattle.def_iface.specs.ControlMeaning.{ControlLoan}
@@ -79,21 +80,21 @@ module _ {V : Type 0} {H : V → Type 0} (loan : Taken V H → Loan) where
 
 -- ---- a control that was found
 
-named : (window serial : ℕ) (o : Option ControlRecord) (c : ControlRecord) → o ≡ Some c → option_map_or (is_control window serial) o false ≡ true → (c.window ≡ window) × (c.serial ≡ serial)
+named : (window serial : ℕ) (o : Option ControlRecord) (c : ControlRecord) → o ≡ Some c → option_map_or (is_item window serial) o false ≡ true → (c.window ≡ window) × (c.serial ≡ serial)
 named window serial o c e h =
-    let both = and_parts (c.window == window) (c.serial == serial) (sym (ap (λ x. option_map_or (is_control window serial) x false) e) ∙ h) in
+    let both = and_parts (c.window == window) (c.serial == serial) (sym (ap (λ x. option_map_or (is_item window serial) x false) e) ∙ h) in
     (eqb-true c.window window both.0, eqb-true c.serial serial both.1)
 
-pub found_names : (window serial at : ℕ) (cs : List ControlRecord) (c : ControlRecord) → control_index window serial cs ≡ Some at → slice_get cs at ≡ Some c → (c.window ≡ window) × (c.serial ≡ serial)
+pub found_names : (window serial at : ℕ) (cs : List ControlRecord) (c : ControlRecord) → item_index window serial cs ≡ Some at → slice_get cs at ≡ Some c → (c.window ≡ window) × (c.serial ≡ serial)
 found_names window serial at cs c found there =
     named window serial (slice_get cs at) c there
-    (subst (λ o. IfSome o (λ i. option_map_or (is_control window serial) (slice_get cs i) false ≡ true)) found (position_there (is_control window serial) cs))
+    (subst (λ o. IfSome o (λ i. option_map_or (is_item window serial) (slice_get cs i) false ≡ true)) found (position_there (is_item window serial) cs))
 
 -- ---- a control as the code reads it
 
 module _ {W : Type 0} {K : W → Type 0} (control_loan : TakenControl W K → ControlLoan) where
-  pub record_read : (xs : List (Control (TakenControl W K))) (at : ℕ) (x : Control (TakenControl W K)) → at < length xs → x ≡ get_or xs at x → slice_get (all_seen control_loan xs) at ≡ Some (seen control_loan x)
-  record_read xs at x low e = slice_get-seen control_loan xs at ∙ ap (λ o. option_map (seen control_loan) o) (get_is xs at x low e)
+  pub record_read : (xs : List (Item (Control (TakenControl W K)))) (at : ℕ) (x : Item (Control (TakenControl W K))) → at < length xs → x ≡ get_or xs at x → slice_get (all_seen control_loan xs) at ≡ Some (seen control_loan x)
+  record_read xs at x low e = slice_get-seen (kept_seen control_loan) xs at ∙ ap (λ o. option_map (seen control_loan) o) (get_is xs at x low e)
 
 -- what is known of a control that stands here
 module _ {V : Type 0} {H : V → Type 0} (loan : Taken V H → Loan) {W : Type 0} {K : W → Type 0} (control_loan : TakenControl W K → ControlLoan)
@@ -102,7 +103,7 @@ module _ {V : Type 0} {H : V → Type 0} (loan : Taken V H → Loan) {W : Type 0
   cs = records_of control_loan m
 
   pub record_there : IsThere cs s.control
-  record_there = there_is cs s.control (subst (λ n. s.control < n) (sym (length-seen control_loan m.list.controls.items)) is.low)
+  record_there = there_is cs s.control (subst (λ n. s.control < n) (sym (length-seen (kept_seen control_loan) m.list.items.items)) is.low)
 
   pub in_its_window : is_in_at c.window s.control cs ≡ true
   in_its_window = found_in c.window c.control s.control cs is.control
@@ -118,7 +119,7 @@ module _ {V : Type 0} {H : V → Type 0} (loan : Taken V H → Loan) {W : Type 0
 
   pub layer_there : (w : Window V H) → IsWindowAt t.windows.records.items s.window w → AreJoined cs (desk_of loan t []).windows → ItsLayer w
   layer_there w lies joined =
-      let its : AreLayersOf (controls_of w.serial cs) w.layers.layers = at_window loan (λ r. AreLayersOf (controls_of r.serial cs) r.layers) t.windows.records.items s.window w is.window.0 lies joined in
+      let its : AreLayersOf (items_of w.serial cs) w.layers.layers = at_window loan (λ r. AreLayersOf (items_of r.serial cs) r.layers) t.windows.records.items s.window w is.window.0 lies joined in
       let here : is_in_at w.serial s.control cs ≡ true = ap (λ n. is_in_at n s.control cs) (is.window.1 w lies) ∙ in_its_window in
-      let found = begin_there IsLayerOf AreNoControls (place_among s.control cs) (controls_of w.serial cs) w.layers.layers record_there.item its (slice_get-controls_of w.serial s.control cs here ∙ record_there.there) in
+      let found = begin_there IsLayerOf AreNoControls (place_among s.control cs) (items_of w.serial cs) w.layers.layers record_there.item its (slice_get-items_of w.serial s.control cs here ∙ record_there.there) in
       record { layer = found.0; there = found.1; is_layer = found.2 }

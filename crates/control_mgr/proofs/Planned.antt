@@ -1,8 +1,8 @@
 -- Controls that are planned: for the windows and controls as they are, and for those that earlier changes leave.
 use Rattle.std.proofs.Common.{◌≡◌, ◌+◌, ◌≤◌, List, [], length, get_or, Option, Some, sym, ap, ◌∙◌, arith}
 use Rattle.std.specs.Prelude.{vec_capacity}
-use Rattle.control_list.specs.Seen.{all_seen}
-use Rattle.control_list.specs.Lists.{count_of}
+use Rattle.control_mgr.specs.Seen.{all_seen}
+use Rattle.window_items.specs.Items.{count_of}
 use Rattle.def_iface.specs.declared.taken.Taken.{Taken}
 use Rattle.def_iface.specs.declared.taken_control.TakenControl.{TakenControl}
 use Rattle.def_iface.specs.ControlMeaning.{ControlDefinition, ControlLoan}
@@ -42,7 +42,7 @@ module _ {V : Type 0} {H : V → Type 0} (loan : Taken V H → Loan) {W : Type 0
   -- a control can be added to windows and controls as they are
   pub ready_now : (n : NewControl) (d : ControlDefinition) (t : WindowManager V H) (m m' : Controls (TakenControl W K)) (k : Ticket) → IsKept loan t → AreBeside control_loan loan t m → IsRoomier m m'
       → IsTicket control_loan n (Some d) t m k → (w : Window V H) → IsWindowAt t.windows.records.items k.window w → (a : Area) → a ≡ get_or t.areas.items k.window a
-      → length m'.list.controls.items + 1 ≤ vec_capacity m'.list.controls → IsReadyToAdd loan control_loan n d k w.layers a.update t t m'
+      → length m'.list.items.items + 1 ≤ vec_capacity m'.list.items → IsReadyToAdd loan control_loan n d k w.layers a.update t t m'
   ready_now n d t m m' k kept beside same ticket w lies a read room = record {
     laid = laid_now loan t kept k.window ticket.window.0 a read w lies;
     beside = beside_planned loan control_loan t m m' beside.slots same beside.whole;

@@ -7,9 +7,9 @@ use Rattle.std.proofs.lemmas.List.{length_push}
 use Rattle.std.proofs.lemmas.List.Edits.{length-insert}
 use Rattle.tb_geom.specs.Points.{PixelSet}
 use Rattle.tb_geom.specs.Pixels.{Pixels}
-use Rattle.control_list.specs.Lists.{are_before, controls_of, count_of, has_serial, serial_after}
-use Rattle.control_list.proofs.SeenLemmas.{length-seen}
-use Rattle.control_list.proofs.WindowLemmas.{count_of-push}
+use Rattle.window_items.specs.Items.{are_before, items_of, count_of, has_serial, serial_after}
+use Rattle.window_items.proofs.SeenLemmas.{length-seen}
+use Rattle.window_items.proofs.WindowLemmas.{count_of-push}
 use Rattle.def_iface.specs.declared.part.Part.{Part}
 use Rattle.def_iface.specs.declared.part.Part.TheVariants as part
 use Rattle.def_iface.specs.declared.taken.Taken.{Taken}
@@ -44,6 +44,7 @@ use Rattle.control_mgr.specs.WholeControls.{AreBeside, AreWholeControls, LeavesO
 use Rattle.control_mgr.proofs.Added.{its, may_grow, none_in_window, others_named}
 use Rattle.control_mgr.proofs.LaidSo.{laid_put, stands_put}
 use Rattle.control_mgr.proofs.LayerIn.{all_with}
+use Rattle.control_mgr.specs.Seen.{kept_seen}
 
 -- ---- serials
 
@@ -100,7 +101,7 @@ module _ {V : Type 0} {H : V → Type 0} (loan : Taken V H → Loan) {W : Type 0
         apart = grown.apart;
         unused = subst (λ (x : PlacedLayers). All (λ (y : Layer). same_part y.part (part.Control l.serial) ≡ false) x.layers) (sym grown.layers)
             (all_with (λ (y : Layer). same_part y.part (part.Control l.serial) ≡ false) k.layer w.layers.layers grown.layer
-            (others_named l.serial (controls_of n.window (records_of control_loan m)) w.layers.layers (its loan control_loan n d t m k kept beside ticket w lies)
+            (others_named l.serial (items_of n.window (records_of control_loan m)) w.layers.layers (its loan control_loan n d t m k kept beside ticket w lies)
             (none_in_window l.serial n.window (records_of control_loan m)
             (none_later k.serial l.serial (records_of control_loan m) (subst (λ o. are_before o (records_of control_loan m) ≡ true) ticket.serial beside.whole.given) (omega (arith, serial)))))
             (ap (λ q. same_part q (part.Control l.serial)) (grown.is 0).part ∙ ne_eqb k.serial l.serial (λ same. omega (arith, serial, same))));
@@ -128,15 +129,15 @@ module _ {V : Type 0} {H : V → Type 0} (loan : Taken V H → Loan) {W : Type 0
     stands_after = stands_put k.window a.layers a.relaying.update u v (subst (λ (x : Ticket). AreLayersPut x.window a.layers a.relaying.update u v) grown.ticket put) ready.laid.has.low n.window ready.ticket.window
 
     -- there is one control more
-    pub many_after : length m'.list.controls.items ≡ length m.list.controls.items + 1
+    pub many_after : length m'.list.items.items ≡ length m.list.items.items + 1
     many_after =
-        sym (length-seen control_loan m'.list.controls.items)
+        sym (length-seen (kept_seen control_loan) m'.list.items.items)
         ∙ ap length step.controls
         ∙ length_push (records_of control_loan m) (new_control n a.ticket.serial step.loan.slot step.begun)
-        ∙ ap (λ x. x + 1) (length-seen control_loan m.list.controls.items)
+        ∙ ap (λ x. x + 1) (length-seen (kept_seen control_loan) m.list.items.items)
 
     -- and the next one can be added as it was planned
-    pub ready_after : (next : NewControl) (e : ControlDefinition) (l : Ticket) → next.window ≡ n.window → IsTicketAfter k ls.place next (Some e) l → length m'.list.controls.items < vec_capacity m'.list.controls
+    pub ready_after : (next : NewControl) (e : ControlDefinition) (l : Ticket) → next.window ≡ n.window → IsTicketAfter k ls.place next (Some e) l → length m'.list.items.items < vec_capacity m'.list.items
         → IsReadyToAdd loan control_loan next e l a.layers a.relaying.update t v m'
     ready_after next e l same after room = record {
       laid = subst (λ x. IsLaidSo loan x a.layers a.relaying.update t v) (sym after.window) laid_after;

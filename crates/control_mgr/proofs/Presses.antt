@@ -11,8 +11,9 @@ use Rattle.tb_geom.specs.Rects.{in_plane}
 use Rattle.tb_geom.specs.Refusals.{first_refusal}
 use Rattle.control_values.specs.declared.part.ControlPart.{ControlPart}
 use Rattle.control_values.specs.Parts.{number_of}
-use Rattle.control_list.specs.Lists.{is_control, with_highlight}
-use Rattle.control_list.proofs.WindowLemmas.{control_index-edit_at, position_there}
+use Rattle.window_items.specs.Items.{is_item, with_kept}
+use Rattle.control_mgr.specs.Fields.{with_highlight}
+use Rattle.window_items.proofs.WindowLemmas.{item_index-edit_at, position_there}
 use Rattle.def_iface.specs.declared.taken.Taken.{Taken}
 use Rattle.def_iface.specs.declared.taken_control.TakenControl.{TakenControl}
 use Rattle.def_iface.specs.ControlMeaning.{ControlLoan}
@@ -40,11 +41,11 @@ use Rattle.control_mgr.specs.Damages.{IsPut, IsWhereRight}
 use Rattle.control_mgr.specs.Judged.{part_tested}
 use Rattle.control_mgr.specs.Spots.{IsSpotOf, opened, with_state}
 use Rattle.control_mgr.specs.WholeControls.{AreBeside, IsTrackable, LeavesControls, control_desk, records_of}
-use Rattle.control_mgr.proofs.Edited.{All-there}
 use Rattle.control_mgr.proofs.Places.{found_names}
 use Rattle.control_mgr.proofs.Sets.{highlight_agrees, state_of_control, state_read}
 use Rattle.control_mgr.proofs.Settled.{retold}
 use Rattle.control_mgr.proofs.Steps.{none_missing, one_fails, other_reasons, put_alike, unchanged}
+use Rattle.window_items.proofs.EditLemmas.{All-there}
 
 -- nothing is open
 abbrev pub idle_now : Opened
@@ -56,7 +57,7 @@ near p e = one_fails (not (in_plane p)) OutOfRange (ap not e)
 
 -- the state of a control that was let go
 pub released_agrees : (k : TrackedControl) (p : Point) (part : Option ControlPart) (was is : State) (x : ControlRecord) → was ≡ state_of_control x → is.values ≡ released_setting k p part x → is.highlight ≡ highlight_after k.part was.highlight → is.title ≡ was.title → with_state is x ≡ released k p part x
-released_agrees k p part was is x e v h t = λ i. record x { values = v i; highlight = (h ∙ ap (λ (y : State). highlight_after k.part y.highlight) e) i; title = (t ∙ ap (λ (y : State). y.title) e) i }
+released_agrees tracked p part was is x e v h t = λ i. with_kept (λ k. record k { values = v i; highlight = (h ∙ ap (λ (y : State). highlight_after tracked.part y.highlight) e) i; title = (t ∙ ap (λ (y : State). y.title) e) i }) x
 
 module _ {V : Type 0} {H : V → Type 0} (loan : Taken V H → Loan) {W : Type 0} {K : W → Type 0} (control_loan : TakenControl W K → ControlLoan) where
   -- ---- controls shown anew
@@ -91,7 +92,7 @@ module _ {V : Type 0} {H : V → Type 0} (loan : Taken V H → Loan) {W : Type 0
   index_kept c k f windows serials before after put =
       ap (λ (st : _). index_of k st.controls) put.changed.state
       ∙ ap (index_of k) put.changed.changed.controls
-      ∙ control_index-edit_at (retold f put.changed.changed.definition) windows serials k.window k.control put.changed.at before.controls.controls
+      ∙ item_index-edit_at (retold f put.changed.changed.definition) windows serials k.window k.control put.changed.at before.controls.controls
 
   -- so over a step of windows and controls that are whole
   pub index_left : (c k : ControlOf) (h : ℕ) (t u : WindowManager V H) (m n : Controls (TakenControl W K)) (o r : Opened) → IsKept loan t → AreBeside control_loan loan t m
@@ -154,10 +155,10 @@ module _ {V : Type 0} {H : V → Type 0} (loan : Taken V H → Loan) {W : Type 0
       by_item (Some x) read =
           ap (λ w. is_missing w (desk_of loan t []).windows) (sym (found_names c.window c.control at (records_of control_loan m) x e read).0)
           ∙ All-there (λ (y : ControlRecord). is_missing y.window (desk_of loan t []).windows ≡ false) at (records_of control_loan m) x read beside.whole.somewhere
-      by_item None read = absurd (none_there (position_there (is_control c.window c.control) (records_of control_loan m)) read)
+      by_item None read = absurd (none_there (position_there (is_item c.window c.control) (records_of control_loan m)) read)
         where
-          none_there : IfSome (index_of c (records_of control_loan m)) (λ i. option_map_or (is_control c.window c.control) (slice_get (records_of control_loan m) i) false ≡ true) → slice_get (records_of control_loan m) at ≡ None → ⊥
-          none_there h r = false≢true (sym (ap (λ q. option_map_or (is_control c.window c.control) q false) r) ∙ subst (λ q. IfSome q (λ i. option_map_or (is_control c.window c.control) (slice_get (records_of control_loan m) i) false ≡ true)) e h)
+          none_there : IfSome (index_of c (records_of control_loan m)) (λ i. option_map_or (is_item c.window c.control) (slice_get (records_of control_loan m) i) false ≡ true) → slice_get (records_of control_loan m) at ≡ None → ⊥
+          none_there h r = false≢true (sym (ap (λ q. option_map_or (is_item c.window c.control) q false) r) ∙ subst (λ q. IfSome q (λ i. option_map_or (is_item c.window c.control) (slice_get (records_of control_loan m) i) false ≡ true)) e h)
 
   -- so one that is tracked is not missing
   pub not_missing : (k : TrackedControl) (t : WindowManager V H) (m : Controls (TakenControl W K)) (e : Refusal) → IsTrackable (TrackingControl k) (records_of control_loan m) → AreBeside control_loan loan t m

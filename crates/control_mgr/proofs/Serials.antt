@@ -4,8 +4,8 @@ use Rattle.std.specs.Prelude.{slice_get}
 use Rattle.std.specs.List.{list_any, position}
 use Rattle.std.specs.Option.{option_and_then, option_map}
 use Rattle.std.proofs.lemmas.Bool.{false≢true}
-use Rattle.control_list.specs.Lists.{has_serial}
-use Rattle.control_list.proofs.WindowLemmas.{position-cons}
+use Rattle.window_items.specs.Items.{has_serial}
+use Rattle.window_items.proofs.WindowLemmas.{position-cons}
 use Rattle.control_mgr.specs.ControlDesks.{ControlRecord, with_serial}
 use Rattle.control_mgr.specs.WholeControls.{AreControlsApart}
 

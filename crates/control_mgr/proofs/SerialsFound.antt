@@ -1,10 +1,10 @@
 -- Which control a serial names, where one of the controls is changed, put in or taken out, or where those of a window are.
-use Rattle.std.proofs.Common.{◌≡◌, ℕ, zero, suc, Bool, true, false, ◌&&◌, ◌||◌, ◌==◌, cond, List, [], ◌∷◌, ◌++◌, Option, Some, refl, sym, ap, ◌∙◌, subst, arith, eqb-true}
+use Rattle.std.proofs.Common.{◌≡◌, ℕ, zero, suc, Bool, true, false, ◌&&◌, ◌||◌, ◌==◌, cond, List, [], ◌∷◌, ◌++◌, Some, refl, sym, ap, ◌∙◌, subst, arith, eqb-true}
 use Rattle.std.specs.Prelude.{slice_get}
 use Rattle.std.specs.List.{list_any, remove}
 use Rattle.std.proofs.lemmas.Bool.{false≢true}
 use Rattle.std.proofs.lemmas.Bool.Decides.{nat_tests}
-use Rattle.control_list.specs.Lists.{controls_of, edit_at, has_serial, is_in}
+use Rattle.window_items.specs.Items.{items_of, edit_at, has_serial, is_in}
 use Rattle.def_iface.specs.declared.part.Part.TheVariants as part
 use Rattle.def_iface.specs.Owner.{Owner, same_owner}
 use Rattle.def_iface.specs.Owner.Owner.{Content}
@@ -34,7 +34,7 @@ any_behind n c cs h other = sym (ap (λ b. b || list_any (has_serial n) cs) othe
 -- ---- one control of each serial
 
 -- a control of a window is one of all
-pub any_of : (n window : ℕ) (cs : List ControlRecord) → list_any (has_serial n) (controls_of window cs) ≡ true → list_any (has_serial n) cs ≡ true
+pub any_of : (n window : ℕ) (cs : List ControlRecord) → list_any (has_serial n) (items_of window cs) ≡ true → list_any (has_serial n) cs ≡ true
 any_of n window cs h = by_test (list_any (has_serial n) cs) refl
   where
     by_test : (b : Bool) → list_any (has_serial n) cs ≡ b → b ≡ true
@@ -43,30 +43,30 @@ any_of n window cs h = by_test (list_any (has_serial n) cs) refl
 
 -- a control of a serial that one of a window has is in that window
 pub one_window : (n window i : ℕ) (cs : List ControlRecord) (c : ControlRecord) → AreControlsApart cs → slice_get cs i ≡ Some c → has_serial n c ≡ true
-    → list_any (has_serial n) (controls_of window cs) ≡ true → is_in window c ≡ true
+    → list_any (has_serial n) (items_of window cs) ≡ true → is_in window c ≡ true
 one_window n window i [] c apart there named h = absurd (cc)
 one_window n window zero (x ∷ xs) c apart there named h =
     let same : x ≡ c = cc in
     subst (λ y. is_in window y ≡ true) same (by_test (is_in window x) refl (ap (has_serial n) same ∙ named) h)
   where
-    by_test : (b : Bool) → is_in window x ≡ b → has_serial n x ≡ true → list_any (has_serial n) (cond b (x ∷ controls_of window xs) (controls_of window xs)) ≡ true → is_in window x ≡ true
+    by_test : (b : Bool) → is_in window x ≡ b → has_serial n x ≡ true → list_any (has_serial n) (cond b (x ∷ items_of window xs) (items_of window xs)) ≡ true → is_in window x ≡ true
     by_test true e its h = e
     by_test false e its h = absurd (false≢true (sym (only_one n x xs apart (any_of n window xs h)) ∙ its))
 one_window n window (suc i) (x ∷ xs) c apart there named h = one_window n window i xs c apart.1 there named (by_test (is_in window x) h)
   where
-    by_test : (b : Bool) → list_any (has_serial n) (cond b (x ∷ controls_of window xs) (controls_of window xs)) ≡ true → list_any (has_serial n) (controls_of window xs) ≡ true
-    by_test true h = any_behind n x (controls_of window xs) h (only_one n x xs apart (any_there n i xs c there named))
+    by_test : (b : Bool) → list_any (has_serial n) (cond b (x ∷ items_of window xs) (items_of window xs)) ≡ true → list_any (has_serial n) (items_of window xs) ≡ true
+    by_test true h = any_behind n x (items_of window xs) h (only_one n x xs apart (any_there n i xs c there named))
     by_test false h = h
 
 -- it names the same control among those of its window
-pub with_among : (n window : ℕ) (cs : List ControlRecord) → AreControlsApart cs → list_any (has_serial n) (controls_of window cs) ≡ true → with_serial n (controls_of window cs) ≡ with_serial n cs
+pub with_among : (n window : ℕ) (cs : List ControlRecord) → AreControlsApart cs → list_any (has_serial n) (items_of window cs) ≡ true → with_serial n (items_of window cs) ≡ with_serial n cs
 with_among n window [] apart h = refl
 with_among n window (x ∷ xs) apart h = by_test (with_among n window xs apart.1) (is_in window x) h
   where
-    by_test : (list_any (has_serial n) (controls_of window xs) ≡ true → with_serial n (controls_of window xs) ≡ with_serial n xs) → (b : Bool)
-        → list_any (has_serial n) (cond b (x ∷ controls_of window xs) (controls_of window xs)) ≡ true
-        → with_serial n (cond b (x ∷ controls_of window xs) (controls_of window xs)) ≡ with_serial n (x ∷ xs)
-    by_test rest true h = with_alike n x xs (controls_of window xs) (λ other. rest (any_behind n x (controls_of window xs) h other))
+    by_test : (list_any (has_serial n) (items_of window xs) ≡ true → with_serial n (items_of window xs) ≡ with_serial n xs) → (b : Bool)
+        → list_any (has_serial n) (cond b (x ∷ items_of window xs) (items_of window xs)) ≡ true
+        → with_serial n (cond b (x ∷ items_of window xs) (items_of window xs)) ≡ with_serial n (x ∷ xs)
+    by_test rest true h = with_alike n x xs (items_of window xs) (λ other. rest (any_behind n x (items_of window xs) h other))
     by_test rest false h = rest h ∙ sym (with_behind n x xs (only_one n x xs apart (any_of n window xs h)))
 
 -- ---- lists that are changed
@@ -94,7 +94,7 @@ with_removed n (suc at) (x ∷ xs) apart h = with_alike n x xs (remove xs at) (�
 
 -- a control that is in a window before and after is the same one, unless it is an owner of this sort
 abbrev pub StayControls : (Owner → Bool) → List ControlRecord → List ControlRecord → Type 0
-StayControls own cs ds = (window n : ℕ) → list_any (has_serial n) (controls_of window cs) ≡ true → list_any (has_serial n) (controls_of window ds) ≡ true
+StayControls own cs ds = (window n : ℕ) → list_any (has_serial n) (items_of window cs) ≡ true → list_any (has_serial n) (items_of window ds) ≡ true
     → own (Content window (part.Control n)) ≡ false → with_serial n ds ≡ with_serial n cs
 
 pub stay_edited : (c : ControlOf) (f : ControlRecord → ControlRecord) → ((x : ControlRecord) → (f x).serial ≡ x.serial) → (before after : ControlDesk) → AreControlsApart before.controls.controls → IsChangedTo c f before after

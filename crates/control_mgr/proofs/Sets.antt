@@ -6,7 +6,7 @@ use Rattle.tb_geom.specs.declared.refusal.Refusal.TheVariants.{OutOfRange, TooLo
 use Rattle.tb_geom.specs.Points.{PixelSet}
 use Rattle.tb_geom.specs.Refusals.{first_refusal}
 use Rattle.control_values.specs.Settings.{Setting, is_in_range}
-use Rattle.control_list.specs.Lists.{with_highlight, with_title}
+use Rattle.control_mgr.specs.Fields.{with_highlight, with_title, with_values}
 use Rattle.def_iface.specs.declared.part.Part.{Part}
 use Rattle.def_iface.specs.declared.taken.Taken.{Taken}
 use Rattle.def_iface.specs.declared.taken_control.TakenControl.{TakenControl}
@@ -30,34 +30,35 @@ use Rattle.control_mgr.specs.Spots.{IsSpotOf, with_state}
 use Rattle.control_mgr.specs.WholeControls.{LeavesControls, control_desk, controls_state, records_of}
 use Rattle.control_mgr.proofs.Places.{record_there}
 use Rattle.control_mgr.proofs.Steps.{desk_seen, one_fails, one_holds, other_reasons, put_alike}
+use Rattle.window_items.specs.Items.{with_kept}
 
 -- the state of a control
 abbrev pub state_of_control : ControlRecord → State
-state_of_control c = record { values = c.values; highlight = c.highlight; title = c.title }
+state_of_control c = record { values = c.kept.values; highlight = c.kept.highlight; title = c.kept.title }
 
 -- another setting
-pub values_agree : (f : Setting → Setting) (was is : State) (c : ControlRecord) → was ≡ state_of_control c → is.values ≡ f was.values → is.highlight ≡ was.highlight → is.title ≡ was.title → with_state is c ≡ record c { values = f c.values }
-values_agree f was is c e v h t = λ i. record c {
+pub values_agree : (f : Setting → Setting) (was is : State) (c : ControlRecord) → was ≡ state_of_control c → is.values ≡ f was.values → is.highlight ≡ was.highlight → is.title ≡ was.title → with_state is c ≡ with_values (f c.kept.values) c
+values_agree f was is c e v h t = λ i. with_kept (λ k. record k {
   values = (v ∙ ap (λ (s : State). f s.values) e) i;
   highlight = (h ∙ ap (λ (s : State). s.highlight) e) i;
   title = (t ∙ ap (λ (s : State). s.title) e) i;
-}
+}) c
 
 -- another highlighting
 pub highlight_agrees : (n : ℕ) (was is : State) (c : ControlRecord) → was ≡ state_of_control c → is.values ≡ was.values → is.highlight ≡ n → is.title ≡ was.title → with_state is c ≡ with_highlight n c
-highlight_agrees n was is c e v h t = λ i. record c {
+highlight_agrees n was is c e v h t = λ i. with_kept (λ k. record k {
   values = (v ∙ ap (λ (s : State). s.values) e) i;
   highlight = h i;
   title = (t ∙ ap (λ (s : State). s.title) e) i;
-}
+}) c
 
 -- another title
 pub title_agrees : (n : List ℕ) (was is : State) (c : ControlRecord) → was ≡ state_of_control c → is.values ≡ was.values → is.highlight ≡ was.highlight → is.title ≡ n → with_state is c ≡ with_title n c
-title_agrees n was is c e v h t = λ i. record c {
+title_agrees n was is c e v h t = λ i. with_kept (λ k. record k {
   values = (v ∙ ap (λ (s : State). s.values) e) i;
   highlight = (h ∙ ap (λ (s : State). s.highlight) e) i;
   title = t i;
-}
+}) c
 
 -- what is judged holds
 pub chosen : {X : Type 0} (b : Bool) (x y z : X) → z ≡ cond b x y → b ≡ true → z ≡ x

@@ -3,7 +3,7 @@ use Rattle.std.proofs.Common.{◌≡◌, ℕ, [], Option, Some, None, refl, sym,
 use Rattle.std.specs.Prelude.{IfSome, is_none, slice_get}
 use Rattle.tb_geom.specs.declared.refusal.Refusal.{Refusal}
 use Rattle.tb_geom.specs.Refusals.{first_refusal}
-use Rattle.control_list.specs.Lists.{with_values}
+use Rattle.control_mgr.specs.Fields.{with_values}
 use Rattle.control_values.specs.Settings.{Setting}
 use Rattle.def_iface.specs.declared.taken.Taken.{Taken}
 use Rattle.def_iface.specs.declared.taken_control.TakenControl.{TakenControl}

@@ -9,8 +9,8 @@ use Rattle.tb_geom.specs.declared.rect.Rect.{Rect}
 use Rattle.tb_geom.specs.Points.{PixelSet, minus}
 use Rattle.tb_geom.specs.Rects.{in_plane, is_in_range, moved_rect}
 use Rattle.control_values.specs.Highlights.{is_highlight}
-use Rattle.control_list.specs.Lists.{are_before, controls_of, count_of, edit_at, has_serial, is_before, is_in_at}
-use Rattle.control_list.proofs.WindowLemmas.{controls_of-edit_at, controls_of-edit_at_other, is_in_at-other, slice_get-controls_of}
+use Rattle.window_items.specs.Items.{are_before, items_of, count_of, edit_at, has_serial, is_in_at, with_kept}
+use Rattle.window_items.proofs.WindowLemmas.{items_of-edit_at, items_of-edit_at_other, is_in_at-other, slice_get-items_of}
 use Rattle.def_iface.specs.ControlMeaning.{ControlDefinition, ControlGoesBy, ControlHears, IsControlBegun, SameControlRegions, is_control_size, is_fitting_control}
 use Rattle.def_iface.specs.ControlNews.{AllControlNews, told_all_of_control}
 use Rattle.def_iface.specs.declared.size.Size.{Size}
@@ -31,8 +31,9 @@ use Rattle.control_mgr.specs.Laying.{IsShapeOf}
 use Rattle.control_mgr.specs.Spots.{with_lie, with_state}
 use Rattle.control_mgr.specs.Settled.{AreSettled, IsSettledControl, MayHaveSetting}
 use Rattle.control_mgr.specs.WholeControls.{AreControlsApart, AreWholeControls, slots_of}
-use Rattle.control_mgr.proofs.Edited.{All-edit, All-there, AreNoControls, any-edit, begin_edit, edit_alike, map-edit}
+use Rattle.control_mgr.proofs.Edited.{AreNoControls, begin_edit}
 use Rattle.control_mgr.proofs.Sound.{MayHave}
+use Rattle.window_items.proofs.EditLemmas.{All-edit, All-there, any-edit, edit_alike, map-edit, before-edit, count-edit}
 
 -- ---- one control
 
@@ -46,21 +47,21 @@ goes_by_told all old new heard = record {
 
 -- the control may be as it is noted, with a definition of these regions
 pub record MayBeSo (d : ControlDefinition) (c : ControlRecord) : Type 0 where
-  pub placed : in_plane c.place ≡ true
-  pub fits : is_fitting_control d c.size ≡ true
-  pub inside : is_in_range (moved_rect (d.bounds c.size) c.place.h c.place.v) ≡ true
-  pub setting : MayHaveSetting c.values
-  pub highlight : is_highlight (pos c.highlight) ≡ true
+  pub placed : in_plane c.kept.place ≡ true
+  pub fits : is_fitting_control d c.kept.size ≡ true
+  pub inside : is_in_range (moved_rect (d.bounds c.kept.size) c.kept.place.h c.kept.place.v) ≡ true
+  pub setting : MayHaveSetting c.kept.values
+  pub highlight : is_highlight (pos c.kept.highlight) ≡ true
 
 -- a control with a definition that was told all of it is settled
 pub settled_told : (c : ControlRecord) (old new : ControlDefinition) (slot : ℕ) → MayBeSo old c → IsControlBegun (news_of_control c) old new
-    → IsSettledControl (record c { definition = record { definition = new; slot = slot } })
+    → IsSettledControl (with_kept (λ k. record k { definition = record { definition = new; slot = slot } }) c)
 settled_told c old new slot may told = record {
   placed = may.placed;
   live = told.live;
   told = told.told;
-  fits = subst (λ bounds. (is_control_size c.size && is_in_range (bounds c.size)) ≡ true) (sym told.regions.bounds) may.fits;
-  inside = subst (λ bounds. is_in_range (moved_rect (bounds c.size) c.place.h c.place.v) ≡ true) (sym told.regions.bounds) may.inside;
+  fits = subst (λ bounds. (is_control_size c.kept.size && is_in_range (bounds c.kept.size)) ≡ true) (sym told.regions.bounds) may.fits;
+  inside = subst (λ bounds. is_in_range (moved_rect (bounds c.kept.size) c.kept.place.h c.kept.place.v) ≡ true) (sym told.regions.bounds) may.inside;
   goes_by = goes_by_told (news_of_control c) old new told.heard;
   setting = may.setting;
   highlight = may.highlight;
@@ -70,11 +71,11 @@ settled_told c old new slot may told = record {
 
 -- the control with another definition, of this slot
 abbrev redefined : ControlDefinition → ℕ → ControlRecord → ControlRecord
-redefined d slot c = record c { definition = record { definition = d; slot = slot } }
+redefined d slot c = with_kept (λ k. record k { definition = record { definition = d; slot = slot } }) c
 
 -- the control at a place, with another definition
 abbrev pub retold : (ControlRecord → ControlRecord) → ControlDefinition → ControlRecord → ControlRecord
-retold f d c = record (f c) { definition = record { definition = d; slot = c.definition.slot } }
+retold f d c = with_kept (λ k. record k { definition = record { definition = d; slot = c.kept.definition.slot } }) (f c)
 
 -- a change that another agrees with where it is made
 pub changed_alike : (f g : ControlRecord → ControlRecord) (at : ℕ) (before after : List ControlRecord) → ((c : ControlRecord) → slice_get before at ≡ Some c → f c ≡ g c) → IsChangedAt f at before after → IsChangedAt g at before after
@@ -82,35 +83,25 @@ changed_alike f g at before after same changed = record {
   control = changed.control;
   there = changed.there;
   definition = changed.definition;
-  told = subst (λ c. IsControlBegun (news_of_control c) changed.control.definition.definition changed.definition) (same changed.control changed.there) changed.told;
-  controls = changed.controls ∙ edit_alike (retold f changed.definition) (retold g changed.definition) at before (λ c e. ap (λ (x : ControlRecord). redefined changed.definition c.definition.slot x) (same c e));
+  told = subst (λ c. IsControlBegun (news_of_control c) changed.control.kept.definition.definition changed.definition) (same changed.control changed.there) changed.told;
+  controls = changed.controls ∙ edit_alike (retold f changed.definition) (retold g changed.definition) at before (λ c e. ap (λ (x : ControlRecord). redefined changed.definition c.kept.definition.slot x) (same c e));
 }
 
 same_there : (cs : List ControlRecord) (at : ℕ) (c d : ControlRecord) → slice_get cs at ≡ Some c → slice_get cs at ≡ Some d → d ≡ c
 same_there cs at c d e f = cc
 
 pub changed_settled : (f : ControlRecord → ControlRecord) (at : ℕ) (before after : List ControlRecord) → AreSettled before
-    → ((c : ControlRecord) → slice_get before at ≡ Some c → MayBeSo c.definition.definition (f c)) → IsChangedAt f at before after → AreSettled after
+    → ((c : ControlRecord) → slice_get before at ≡ Some c → MayBeSo c.kept.definition.definition (f c)) → IsChangedAt f at before after → AreSettled after
 changed_settled f at before after settled may changed =
     subst AreSettled (sym changed.controls)
     (All-edit IsSettledControl (retold f changed.definition) at before settled
     (λ c e. subst (λ x. IsSettledControl (retold f changed.definition x)) (sym (same_there before at changed.control c changed.there e))
-    (settled_told (f changed.control) changed.control.definition.definition changed.definition changed.control.definition.slot (may changed.control changed.there) changed.told)))
-
-before-edit : (next : Option ℕ) (f : ControlRecord → ControlRecord) → ((c : ControlRecord) → (f c).serial ≡ c.serial) → (i : ℕ) (cs : List ControlRecord) → are_before next (edit_at f i cs) ≡ are_before next cs
-before-edit next f same i [] = refl
-before-edit next f same zero (c ∷ cs) = ap (λ s. is_before next s && are_before next cs) (same c)
-before-edit next f same (suc i) (c ∷ cs) = ap (λ b. is_before next c.serial && b) (before-edit next f same i cs)
+    (settled_told (f changed.control) changed.control.kept.definition.definition changed.definition changed.control.kept.definition.slot (may changed.control changed.there) changed.told)))
 
 apart-edit : (f : ControlRecord → ControlRecord) → ((c : ControlRecord) → (f c).serial ≡ c.serial) → (i : ℕ) (cs : List ControlRecord) → AreControlsApart cs → AreControlsApart (edit_at f i cs)
 apart-edit f same i [] h = tt
 apart-edit f same zero (c ∷ cs) h = (ap (λ s. list_any (has_serial s) cs) (same c) ∙ h.0, h.1)
 apart-edit f same (suc i) (c ∷ cs) h = (any-edit c.serial f same i cs ∙ h.0, apart-edit f same i cs h.1)
-
-count-edit : (f : ControlRecord → ControlRecord) → ((c : ControlRecord) → (f c).window ≡ c.window) → (t i : ℕ) (cs : List ControlRecord) → count_of t (edit_at f i cs) ≡ count_of t cs
-count-edit f same t i [] = refl
-count-edit f same t zero (c ∷ cs) = ap (λ w. cond (w == t) (suc (count_of t cs)) (count_of t cs)) (same c)
-count-edit f same t (suc i) (c ∷ cs) = ap (λ n. cond (c.window == t) (suc n) n) (count-edit f same t i cs)
 
 -- ---- windows
 
@@ -132,19 +123,19 @@ missing-layers s t ls ws = record_with-layers s t ls ws
 
 -- the layers of each window begin with its controls', and no other is a control's
 abbrev pub AreJoined : List ControlRecord → List WindowRecord → Type 0
-AreJoined cs ws = All (λ w. AreLayersOf (controls_of w.serial cs) w.layers) ws
+AreJoined cs ws = All (λ w. AreLayersOf (items_of w.serial cs) w.layers) ws
 
 -- where a window's layers come to begin with those of its controls as they are now, and those of other windows stay
-pub joined_laid : (s : ℕ) (ls : List Layer) (cs ds : List ControlRecord) (ws : List WindowRecord) → AreLayersOf (controls_of s ds) ls
-    → ((t : ℕ) → (t ≡ s → ⊥) → controls_of t ds ≡ controls_of t cs) → AreJoined cs ws → AreJoined ds (map (with_layers_of s ls) ws)
+pub joined_laid : (s : ℕ) (ls : List Layer) (cs ds : List ControlRecord) (ws : List WindowRecord) → AreLayersOf (items_of s ds) ls
+    → ((t : ℕ) → (t ≡ s → ⊥) → items_of t ds ≡ items_of t cs) → AreJoined cs ws → AreJoined ds (map (with_layers_of s ls) ws)
 joined_laid s ls cs ds ws new others joined =
-    All-map (λ w. AreLayersOf (controls_of w.serial ds) w.layers) (with_layers_of s ls) ws
-    (All-weaker (λ w. AreLayersOf (controls_of w.serial cs) w.layers) (λ w. AreLayersOf (controls_of (with_layers_of s ls w).serial ds) (with_layers_of s ls w).layers)
+    All-map (λ w. AreLayersOf (items_of w.serial ds) w.layers) (with_layers_of s ls) ws
+    (All-weaker (λ w. AreLayersOf (items_of w.serial cs) w.layers) (λ w. AreLayersOf (items_of (with_layers_of s ls w).serial ds) (with_layers_of s ls w).layers)
     (λ w h. by_test w h (w.serial == s) refl) ws joined)
   where
-    by_test : (w : WindowRecord) → AreLayersOf (controls_of w.serial cs) w.layers → (b : Bool) → (w.serial == s) ≡ b
-        → AreLayersOf (controls_of (cond b (record w { layers = ls }) w).serial ds) (cond b (record w { layers = ls }) w).layers
-    by_test w h true e = subst (λ t. AreLayersOf (controls_of t ds) ls) (sym (eqb-true w.serial s e)) new
+    by_test : (w : WindowRecord) → AreLayersOf (items_of w.serial cs) w.layers → (b : Bool) → (w.serial == s) ≡ b
+        → AreLayersOf (items_of (cond b (record w { layers = ls }) w).serial ds) (cond b (record w { layers = ls }) w).layers
+    by_test w h true e = subst (λ t. AreLayersOf (items_of t ds) ls) (sym (eqb-true w.serial s e)) new
     by_test w h false e = subst (λ xs. AreLayersOf xs w.layers) (sym (others w.serial (λ same. false≢true (sym e ∙ self w.serial s same)))) h
       where
         self : (a b : ℕ) → a ≡ b → (a == b) ≡ true
@@ -155,14 +146,14 @@ pub joined_edit : (g : ControlRecord → ControlRecord) → ((c : ControlRecord)
     → ((c : ControlRecord) (l : Layer) → slice_get cs at ≡ Some c → IsLayerOf c l → IsLayerOf (g c) l)
     → (ws : List WindowRecord) → AreJoined cs ws → AreJoined (edit_at g at cs) ws
 joined_edit g window at cs same ws joined =
-    All-weaker (λ w. AreLayersOf (controls_of w.serial cs) w.layers) (λ w. AreLayersOf (controls_of w.serial (edit_at g at cs)) w.layers)
+    All-weaker (λ w. AreLayersOf (items_of w.serial cs) w.layers) (λ w. AreLayersOf (items_of w.serial (edit_at g at cs)) w.layers)
     (λ w h. by_test w h (is_in_at w.serial at cs) refl) ws joined
   where
-    by_test : (w : WindowRecord) → AreLayersOf (controls_of w.serial cs) w.layers → (b : Bool) → is_in_at w.serial at cs ≡ b → AreLayersOf (controls_of w.serial (edit_at g at cs)) w.layers
+    by_test : (w : WindowRecord) → AreLayersOf (items_of w.serial cs) w.layers → (b : Bool) → is_in_at w.serial at cs ≡ b → AreLayersOf (items_of w.serial (edit_at g at cs)) w.layers
     by_test w h true e =
-        subst (λ xs. AreLayersOf xs w.layers) (sym (controls_of-edit_at g window w.serial at cs e))
-        (begin_edit IsLayerOf AreNoControls g _ (controls_of w.serial cs) w.layers h (λ c l r. same c l (sym (slice_get-controls_of w.serial at cs e) ∙ r)))
-    by_test w h false e = subst (λ xs. AreLayersOf xs w.layers) (sym (controls_of-edit_at_other g window w.serial at cs e)) h
+        subst (λ xs. AreLayersOf xs w.layers) (sym (items_of-edit_at g window w.serial at cs e))
+        (begin_edit IsLayerOf AreNoControls g _ (items_of w.serial cs) w.layers h (λ c l r. same c l (sym (slice_get-items_of w.serial at cs e) ∙ r)))
+    by_test w h false e = subst (λ xs. AreLayersOf xs w.layers) (sym (items_of-edit_at_other g window w.serial at cs e)) h
 
 -- ---- the whole
 
@@ -172,16 +163,16 @@ pub record Keeps (f : ControlRecord → ControlRecord) : Type 0 where
   pub window : (c : ControlRecord) → (f c).window ≡ c.window
 
 -- a control that lies as it lay has the same layer, with another definition of the same regions
-pub same_layer : (s : State) (c : ControlRecord) (d : ControlDefinition) → SameControlRegions c.definition.definition d → (l : Layer) → IsLayerOf c l → IsLayerOf (retold (with_state s) d c) l
+pub same_layer : (s : State) (c : ControlRecord) (d : ControlDefinition) → SameControlRegions c.kept.definition.definition d → (l : Layer) → IsLayerOf c l → IsLayerOf (retold (with_state s) d c) l
 same_layer s c d same l is = record {
   part = is.part;
   shown = is.shown;
-  region = λ p. is.region p ∙ ap (λ (r : Size → PixelSet). r c.size (minus p c.place)) (sym same.region);
-  bounds = is.bounds ∙ ap (λ (b : Size → Rect). moved_rect (b c.size) c.place.h c.place.v) (sym same.bounds);
+  region = λ p. is.region p ∙ ap (λ (r : Size → PixelSet). r c.kept.size (minus p c.kept.place)) (sym same.region);
+  bounds = is.bounds ∙ ap (λ (b : Size → Rect). moved_rect (b c.kept.size) c.kept.place.h c.kept.place.v) (sym same.bounds);
 }
 
 -- the layer of a control that lies so, by the shape of its region there
-pub laid_layer : (k : Lie) (c : ControlRecord) (d : ControlDefinition) → SameControlRegions c.definition.definition d → (shape : Shape) → IsShapeOf c.definition.definition k shape
+pub laid_layer : (k : Lie) (c : ControlRecord) (d : ControlDefinition) → SameControlRegions c.kept.definition.definition d → (shape : Shape) → IsShapeOf c.kept.definition.definition k shape
     → (l : Layer) → IsLayerOf c l → IsLayerOf (retold (with_lie k) d c) (with_shape shape l)
 laid_layer k c d same shape is l was = record {
   part = was.part;
@@ -206,7 +197,7 @@ edited_same f keeps d at cs ds is next slots windows = record {
   somewhere = λ h. subst (λ xs. All (λ (c : ControlRecord). is_missing c.window windows ≡ false) xs) (sym is)
       (All-edit (λ (c : ControlRecord). is_missing c.window windows ≡ false) (retold f d) at cs h (λ c e. ap (λ w. is_missing w windows) (keeps.window c) ∙ All-there (λ (c : ControlRecord). is_missing c.window windows ≡ false) at cs c e h));
   few = λ h t. subst (λ n. n ≤ most_controls) (sym (ap (count_of t) is ∙ count-edit (retold f d) keeps.window t at cs)) (h t);
-  stocked = λ h. subst (λ ns. AreStocked (λ (d : ControlDefinition). d.stage) ns slots) (sym (ap slots_of is ∙ map-edit (λ (c : ControlRecord). c.definition.slot) (retold f d) (λ c. refl) at cs)) h;
+  stocked = λ h. subst (λ ns. AreStocked (λ (d : ControlDefinition). d.stage) ns slots) (sym (ap slots_of is ∙ map-edit (λ (c : ControlRecord). c.kept.definition.slot) (retold f d) (λ c. refl) at cs)) h;
 }
 
 -- controls of which one was given another state are whole
@@ -223,12 +214,12 @@ whole_put s may at ws state cs whole changed =
       few = same.few whole.few;
       joined = subst (λ xs. AreJoined xs ws) (sym changed.controls)
           (joined_edit (retold f changed.definition) (λ c. refl) at state.controls
-          (λ c l e is. same_layer s c changed.definition (subst (λ (x : ControlRecord). SameControlRegions x.definition.definition changed.definition) (same_there state.controls at c changed.control e changed.there) changed.told.regions) l is)
+          (λ c l e is. same_layer s c changed.definition (subst (λ (x : ControlRecord). SameControlRegions x.kept.definition.definition changed.definition) (same_there state.controls at c changed.control e changed.there) changed.told.regions) l is)
           ws whole.joined);
       stocked = same.stocked whole.stocked;
     }
   where
-    stays : (c : ControlRecord) → IsSettledControl c → MayBeSo c.definition.definition (with_state s c)
+    stays : (c : ControlRecord) → IsSettledControl c → MayBeSo c.kept.definition.definition (with_state s c)
     stays c h = record { placed = h.placed; fits = h.fits; inside = h.inside; setting = may.setting; highlight = may.highlight }
 
 -- windows of which one has other layers have each control in a window that is there as well
@@ -240,8 +231,8 @@ somewhere_laid s ls ws cs h =
 
 -- controls of which one lies so are whole beside the windows with its layer so
 pub whole_laid : (k : Lie) (at : ℕ) (window : ℕ) (ls : List Layer) (ws : List WindowRecord) (state : ControlsState) (cs : List ControlRecord) → AreWholeControls ws state
-    → is_in_at window at state.controls ≡ true → ((c : ControlRecord) → slice_get state.controls at ≡ Some c → MayBeSo c.definition.definition (with_lie k c))
-    → IsChangedAt (with_lie k) at state.controls cs → AreLayersOf (controls_of window cs) ls
+    → is_in_at window at state.controls ≡ true → ((c : ControlRecord) → slice_get state.controls at ≡ Some c → MayBeSo c.kept.definition.definition (with_lie k c))
+    → IsChangedAt (with_lie k) at state.controls cs → AreLayersOf (items_of window cs) ls
     → AreWholeControls (map (with_layers_of window ls) ws) (record state { controls = cs })
 whole_laid k at window ls ws state cs whole here may changed joined =
     let f : ControlRecord → ControlRecord = with_lie k in
@@ -253,7 +244,7 @@ whole_laid k at window ls ws state cs whole here may changed joined =
       somewhere = somewhere_laid window ls ws cs (same.somewhere whole.somewhere);
       few = same.few whole.few;
       joined = joined_laid window ls state.controls cs ws joined
-          (λ t away. ap (controls_of t) changed.controls ∙ controls_of-edit_at_other (retold f changed.definition) (λ c. refl) t at state.controls (is_in_at-other window t at state.controls (λ e. away (sym e)) here))
+          (λ t away. ap (items_of t) changed.controls ∙ items_of-edit_at_other (retold f changed.definition) (λ c. refl) t at state.controls (is_in_at-other window t at state.controls (λ e. away (sym e)) here))
           whole.joined;
       stocked = same.stocked whole.stocked;
     }

@@ -58,11 +58,11 @@ pub maximum_given : (s : Setting) (z : ℤ) → MayHaveSetting s → (is_in_rang
 maximum_given s z may e = let parts = and_parts (is_in_range z) (int_le s.minimum z) e in between s.minimum z s.value may.lowest parts.0 (le_is s.minimum z parts.1)
 
 -- what the end of a tracked thumb sets
-pub released_given : (k : TrackedControl) (p : Point) (answer : Option ControlPart) (c : ControlRecord) → MayHaveSetting c.values → MayHaveSetting (released_setting k p answer c)
+pub released_given : (k : TrackedControl) (p : Point) (answer : Option ControlPart) (c : ControlRecord) → MayHaveSetting c.kept.values → MayHaveSetting (released_setting k p answer c)
 released_given k p answer c may = by_test (is_thumb k.part && is_some answer)
   where
-    by_test : (b : Bool) → MayHaveSetting (cond b (dragged k p c) c.values)
-    by_test true = value_given c.values _ may
+    by_test : (b : Bool) → MayHaveSetting (cond b (dragged k p c) c.kept.values)
+    by_test true = value_given c.kept.values _ may
     by_test false = may
 
 -- ---- highlightings

@@ -9,9 +9,9 @@ use Rattle.std.proofs.lemmas.List.Elements.{All-head, All-tail}
 use Rattle.tb_geom.specs.declared.point.Point.{Point}
 use Rattle.tb_geom.specs.Points.{minus}
 use Rattle.tb_geom.specs.Pixels.{Pixels, holds}
-use Rattle.control_list.specs.Lists.{control_index, controls_of, has_serial, is_control, place_among}
-use Rattle.control_list.proofs.SeenLemmas.{control_index-seen, length-seen, place_among-seen}
-use Rattle.control_list.proofs.WindowLemmas.{position-controls_of, position_there}
+use Rattle.window_items.specs.Items.{item_index, items_of, has_serial, is_item, place_among}
+use Rattle.window_items.proofs.SeenLemmas.{item_index-seen, length-seen, place_among-seen}
+use Rattle.window_items.proofs.WindowLemmas.{position-items_of, position_there}
 use Rattle.def_iface.specs.declared.part.Part.{Part}
 use Rattle.def_iface.specs.declared.part.Part.TheVariants as part
 use Rattle.def_iface.specs.declared.taken.Taken.{Taken}
@@ -44,6 +44,7 @@ use Rattle.control_mgr.specs.WholeControls.{records_of}
 use Rattle.control_mgr.proofs.Edited.{AreNoControls, no_control}
 use Rattle.control_mgr.proofs.LayerOut.{apart_out, may_out, planned_out}
 use Rattle.control_mgr.proofs.Places.{at_window, read_is, there_is, within}
+use Rattle.control_mgr.specs.Seen.{kept_seen}
 
 -- ---- where it stands
 
@@ -101,13 +102,13 @@ module _ {V : Type 0} {H : V → Type 0} (loan : Taken V H → Loan) {W : Type 0
   lies : IsWindowAt u.windows.records.items at w
   lies = read_is u.windows.records.items at w (there_is u.windows.records.items at low).there
 
-  joined : AreLayersOf (controls_of c.window cs) ls.layers
+  joined : AreLayersOf (items_of c.window cs) ls.layers
   joined =
-      subst (λ (x : ℕ × PlacedLayers). AreLayersOf (controls_of x.0 cs) x.1.layers) (λ i. (ready.stands.1 w lies i, ready.laid.layers w lies i))
-      (at_window loan (λ r. AreLayersOf (controls_of r.serial cs) r.layers) u.windows.records.items at w low lies ready.beside.whole.joined)
+      subst (λ (x : ℕ × PlacedLayers). AreLayersOf (items_of x.0 cs) x.1.layers) (λ i. (ready.stands.1 w lies i, ready.laid.layers w lies i))
+      (at_window loan (λ r. AreLayersOf (items_of r.serial cs) r.layers) u.windows.records.items at w low lies ready.beside.whole.joined)
 
   index_is : layer_index c.control ls.layers ≡ option_map (λ k. place_among k cs) (index_of c cs)
-  index_is = index_among c.control (controls_of c.window cs) ls.layers joined ∙ sym (position-controls_of c.window c.control cs)
+  index_is = index_among c.control (items_of c.window cs) ls.layers joined ∙ sym (position-items_of c.window c.control cs)
 
   -- where there is no layer, there is no control
   pub not_there : layer_index c.control ls.layers ≡ None → index_of c cs ≡ None
@@ -125,14 +126,14 @@ module _ {V : Type 0} {H : V → Type 0} (loan : Taken V H → Loan) {W : Type 0
       window = ready.stands;
       there = ap is_none (found loan u u kept.slots kept.whole at c.window w low lies (ready.stands.1 w lies));
       control = its.1;
-      low = subst (λ n. its.0 < n) (length-seen control_loan m.list.controls.items) (found_low (is_control c.window c.control) cs its.0 its.1);
+      low = subst (λ n. its.0 < n) (length-seen (kept_seen control_loan) m.list.items.items) (found_low (is_item c.window c.control) cs its.0 its.1);
     }
 
-    place_is : i ≡ place_among its.0 m.list.controls.items
-    place_is = sym its.2 ∙ place_among-seen control_loan its.0 m.list.controls.items
+    place_is : i ≡ place_among its.0 m.list.items.items
+    place_is = sym its.2 ∙ place_among-seen (kept_seen control_loan) its.0 m.list.items.items
 
     module _ (relaid : Relaid) (layers_are : relaid.layers ≡ record ls { layers = remove ls.layers i }) where
-      layers_of : (v : Window V H) → IsWindowAt u.windows.records.items at v → relaid.layers ≡ record v.layers { layers = remove v.layers.layers (place_among its.0 m.list.controls.items) }
+      layers_of : (v : Window V H) → IsWindowAt u.windows.records.items at v → relaid.layers ≡ record v.layers { layers = remove v.layers.layers (place_among its.0 m.list.items.items) }
       layers_of v v_is = layers_are ∙ (λ j. record (sym (ready.laid.layers v v_is) j) { layers = remove (sym (ready.laid.layers v v_is) j).layers (place_is j) })
 
       pub ending_is : i < length ls.layers → ArePartsApart ls.layers → ((p : Point) → holds relaid.gained p ≡ is_gained None ls.layers relaid.layers.layers (minus p ls.place)) → (r : Relaying)
@@ -157,8 +158,8 @@ taken_out at n i ls layers r is low apart layers_are = record { window = refl; i
 module _ {V : Type 0} {H : V → Type 0} (loan : Taken V H → Loan) {W : Type 0} {K : W → Type 0} (control_loan : TakenControl W K → ControlLoan)
     (c : ControlOf) (t : WindowManager V H) (m : Controls (TakenControl W K)) (e : Ending) (ending : IsEnding loan control_loan c t m e) where
   -- it is in the list
-  pub found_again : (o : Option ℕ) → o ≡ control_index c.window c.control m.list.controls.items → o ≡ Some ending.at
-  found_again o is = is ∙ sym (control_index-seen control_loan c.window c.control m.list.controls.items) ∙ ending.spot.control
+  pub found_again : (o : Option ℕ) → o ≡ item_index c.window c.control m.list.items.items → o ≡ Some ending.at
+  found_again o is = is ∙ sym (item_index-seen (kept_seen control_loan) c.window c.control m.list.items.items) ∙ ending.spot.control
 
   module _ (at : ℕ) (is : Some ending.at ≡ Some at) where
     same : ending.at ≡ at
@@ -167,8 +168,8 @@ module _ {V : Type 0} {H : V → Type 0} (loan : Taken V H → Loan) {W : Type 0
     pub spot_at : IsSpotOf loan control_loan c t m (record { window = e.window; control = at })
     spot_at = subst (λ k. IsSpotOf loan control_loan c t m (record { window = e.window; control = k })) same ending.spot
 
-    pub layers_at : (w : Window V H) → IsWindowAt t.windows.records.items e.window w → e.layers ≡ record w.layers { layers = remove w.layers.layers (place_among at m.list.controls.items) }
-    layers_at w lies = subst (λ k. e.layers ≡ record w.layers { layers = remove w.layers.layers (place_among k m.list.controls.items) }) same (ending.layers w lies)
+    pub layers_at : (w : Window V H) → IsWindowAt t.windows.records.items e.window w → e.layers ≡ record w.layers { layers = remove w.layers.layers (place_among at m.list.items.items) }
+    layers_at w lies = subst (λ k. e.layers ≡ record w.layers { layers = remove w.layers.layers (place_among k m.list.items.items) }) same (ending.layers w lies)
 
     pub planned_at : (part : Option Part) → IsPartAt e.layers.layers None part → IsPlanOfLayers loan e.window e.layers.layers part t e.relaying
     planned_at part is = subst (λ o. IsPlanOfLayers loan e.window e.layers.layers o t e.relaying) (sym is) ending.planned

@@ -9,10 +9,11 @@ use Rattle.tb_geom.specs.Points.{PixelSet, minus}
 use Rattle.tb_geom.specs.Rects.{IsBoxOf, in_plane, is_in_range, moved_rect, rect_holds}
 use Rattle.tb_geom.proofs.RectLemmas.{holds-moved}
 use Rattle.control_values.specs.Settings.{Setting}
-use Rattle.control_list.specs.declared.control.Control.{Control}
-use Rattle.control_list.specs.Seen.{all_seen, seen}
-use Rattle.control_list.proofs.ListLemmas.{set_is_edit}
-use Rattle.control_list.proofs.SeenLemmas.{edit_at-seen}
+use Rattle.window_items.specs.declared.item.Item.{Item}
+use Rattle.control_mgr.specs.declared.control.Control.{Control}
+use Rattle.control_mgr.specs.Seen.{all_seen, kept_seen, seen}
+use Rattle.window_items.proofs.ListLemmas.{set_is_edit}
+use Rattle.window_items.proofs.SeenLemmas.{edit_at-seen}
 use Rattle.def_iface.specs.declared.size.Size.{Size}
 use Rattle.def_iface.specs.declared.taken_control.TakenControl.{TakenControl}
 use Rattle.def_iface.specs.ControlMeaning.{ControlDefinition, ControlHears, ControlLoan, IsControlBegun, IsControlDamage}
@@ -21,9 +22,10 @@ use Rattle.control_mgr.specs.ControlDesks.{ControlRecord, news_of_control}
 use Rattle.control_mgr.specs.ControlSteps.{IsChangedAt}
 use Rattle.control_mgr.specs.Damages.{IsDamageAt, IsDamageOf}
 use Rattle.window_paint.proofs.FrameLemmas.{inside_is_point, shared_is}
-use Rattle.control_mgr.proofs.Edited.{edit_alike}
 use Rattle.control_mgr.proofs.Places.{record_read}
 use Rattle.control_mgr.proofs.Settled.{retold}
+use Rattle.window_items.specs.Items.{with_kept}
+use Rattle.window_items.proofs.EditLemmas.{edit_alike}
 
 -- a title that is told is the control's
 pub heard_title : (size : Size) (title told : List ℕ) (setting : Setting) (h : ℕ) (old new : ControlDefinition) → told ≡ title
@@ -62,27 +64,27 @@ all_damaged a b c d e r s t u left right whole one two three four first last all
     four font p on latter.1 ∙ three font p on latter.0 ∙ two font p on former.1 ∙ one font p on former.0
 
 -- what of it lies in the box of the control, in the control's window
-placed_damage : (c : ControlRecord) (new : ControlLoan) (damage box shared plane placed : Rect) → IsControlDamage damage c.definition.definition new.definition
-    → box ≡ c.definition.definition.bounds c.size → is_in_range box ≡ true → ((p : Point) → c.definition.definition.region c.size p ≡ true → rect_holds box p ≡ true)
+placed_damage : (c : ControlRecord) (new : ControlLoan) (damage box shared plane placed : Rect) → IsControlDamage damage c.kept.definition.definition new.definition
+    → box ≡ c.kept.definition.definition.bounds c.kept.size → is_in_range box ≡ true → ((p : Point) → c.kept.definition.definition.region c.kept.size p ≡ true → rect_holds box p ≡ true)
     → ((p : Point) → rect_holds shared p ≡ (rect_holds damage p && rect_holds box p)) → ((p : Point) → rect_holds plane p ≡ in_plane p)
-    → ((p : Point) → rect_holds placed p ≡ (rect_holds plane p && rect_holds shared (minus p c.place)))
-    → IsDamageOf placed c (record c { definition = new })
+    → ((p : Point) → rect_holds placed p ≡ (rect_holds plane p && rect_holds shared (minus p c.kept.place)))
+    → IsDamageOf placed c (with_kept (λ k. record k { definition = new }) c)
 placed_damage c new damage box shared plane placed damaged box_is ranged boxed both plane_is placed_is inside font p has out =
-    let there = minus p c.place in
+    let there = minus p c.kept.place in
     let in_box = boxed there has in
-    let on : in_plane p ≡ true = inside_is_point (moved_rect box c.place.h c.place.v) p (ap (λ r. is_in_range (moved_rect r c.place.h c.place.v)) box_is ∙ inside) (holds-moved box c.place.h c.place.v p ∙ in_box) in
+    let on : in_plane p ≡ true = inside_is_point (moved_rect box c.kept.place.h c.kept.place.v) p (ap (λ r. is_in_range (moved_rect r c.kept.place.h c.kept.place.v)) box_is ∙ inside) (holds-moved box c.kept.place.h c.kept.place.v p ∙ in_box) in
     let outside_of : rect_holds shared there ≡ false = sym (ap (λ b. b && rect_holds shared there) (plane_is p ∙ on)) ∙ sym (placed_is p) ∙ out in
     damaged font there (inside_is_point box there ranged in_box)
     (sym (shared_is (rect_holds damage there) (rect_holds box there) in_box) ∙ sym (both there) ∙ outside_of)
 
 module _ {W : Type 0} {K : W → Type 0} (control_loan : TakenControl W K → ControlLoan) where
   -- the control at a place, with another definition
-  abbrev with_definition : TakenControl W K → Control (TakenControl W K) → Control (TakenControl W K)
-  with_definition t x = record x { definition = t }
+  abbrev with_definition : TakenControl W K → Item (Control (TakenControl W K)) → Item (Control (TakenControl W K))
+  with_definition t x = with_kept (λ k. record k { definition = t }) x
 
-  pub told_at : (xs : List (Control (TakenControl W K))) (at : ℕ) (x : Control (TakenControl W K)) (t : TakenControl W K) → at < length xs → x ≡ get_or xs at x
-      → IsControlBegun (news_of_control (seen control_loan x)) (control_loan x.definition).definition (control_loan t).definition
-      → (control_loan t).slot ≡ (control_loan x.definition).slot
+  pub told_at : (xs : List (Item (Control (TakenControl W K)))) (at : ℕ) (x : Item (Control (TakenControl W K))) (t : TakenControl W K) → at < length xs → x ≡ get_or xs at x
+      → IsControlBegun (news_of_control (seen control_loan x)) (control_loan x.kept.definition).definition (control_loan t).definition
+      → (control_loan t).slot ≡ (control_loan x.kept.definition).slot
       → IsChangedAt (λ c. c) at (all_seen control_loan xs) (all_seen control_loan (set xs at (with_definition t x)))
   told_at xs at x t low read told slot =
       let there : slice_get (all_seen control_loan xs) at ≡ Some (seen control_loan x) = record_read control_loan xs at x low read in
@@ -92,20 +94,20 @@ module _ {W : Type 0} {K : W → Type 0} (control_loan : TakenControl W K → Co
         definition = (control_loan t).definition;
         told = told;
         controls = ap (all_seen control_loan) (set_is_edit (with_definition t) xs at x read)
-            ∙ edit_at-seen control_loan (with_definition t) (λ c. record c { definition = control_loan t }) (λ c. refl) at xs
-            ∙ edit_alike (λ c. record c { definition = control_loan t }) (retold (λ c. c) (control_loan t).definition) at (all_seen control_loan xs)
-            (λ c e. ap (λ (n : ℕ). record c { definition = record { definition = (control_loan t).definition; slot = n } })
-            (slot ∙ ap (λ (d : ControlRecord). d.definition.slot) (one (all_seen control_loan xs) at (seen control_loan x) c there e)));
+            ∙ edit_at-seen (kept_seen control_loan) (with_definition t) (with_kept (λ k. record k { definition = control_loan t })) (λ c. refl) at xs
+            ∙ edit_alike (with_kept (λ k. record k { definition = control_loan t })) (retold (λ c. c) (control_loan t).definition) at (all_seen control_loan xs)
+            (λ c e. ap (λ (n : ℕ). with_kept (λ k. record k { definition = record { definition = (control_loan t).definition; slot = n } }) c)
+            (slot ∙ ap (λ (d : ControlRecord). d.kept.definition.slot) (one (all_seen control_loan xs) at (seen control_loan x) c there e)));
       }
     where
       one : (cs : List ControlRecord) (at : ℕ) (c d : ControlRecord) → slice_get cs at ≡ Some c → slice_get cs at ≡ Some d → c ≡ d
       one cs at c d e f = cc
 
-  pub damaged_at : (xs : List (Control (TakenControl W K))) (at : ℕ) (x : Control (TakenControl W K)) (t : TakenControl W K) (damage box shared plane placed : Rect) → at < length xs → x ≡ get_or xs at x
-      → IsPictureDamage damage (λ font p. (control_loan x.definition).definition.picture no_control_news font p) (λ font p. (control_loan t).definition.picture no_control_news font p)
-      → box ≡ (control_loan x.definition).definition.bounds x.size → is_in_range box ≡ true → ((p : Point) → (control_loan x.definition).definition.region x.size p ≡ true → rect_holds box p ≡ true)
+  pub damaged_at : (xs : List (Item (Control (TakenControl W K)))) (at : ℕ) (x : Item (Control (TakenControl W K))) (t : TakenControl W K) (damage box shared plane placed : Rect) → at < length xs → x ≡ get_or xs at x
+      → IsPictureDamage damage (λ font p. (control_loan x.kept.definition).definition.picture no_control_news font p) (λ font p. (control_loan t).definition.picture no_control_news font p)
+      → box ≡ (control_loan x.kept.definition).definition.bounds x.kept.size → is_in_range box ≡ true → ((p : Point) → (control_loan x.kept.definition).definition.region x.kept.size p ≡ true → rect_holds box p ≡ true)
       → ((p : Point) → rect_holds shared p ≡ (rect_holds damage p && rect_holds box p)) → ((p : Point) → rect_holds plane p ≡ in_plane p)
-      → ((p : Point) → rect_holds placed p ≡ (rect_holds plane p && rect_holds shared (minus p x.place)))
+      → ((p : Point) → rect_holds placed p ≡ (rect_holds plane p && rect_holds shared (minus p x.kept.place)))
       → IsDamageAt placed at (all_seen control_loan xs) (all_seen control_loan (set xs at (with_definition t x)))
   damaged_at xs at x t damage box shared plane placed low read damaged box_is ranged boxed both plane_is placed_is =
       let new = with_definition t x in

@@ -3,8 +3,9 @@ use Rattle.std.proofs.Common.{◌≡◌, ℕ, ◌<◌, Bool, true, false, if◌t
 use Rattle.std.specs.Prelude.{IfSome, slice_get}
 use Rattle.tb_geom.specs.declared.point.Point.{Point}
 use Rattle.control_values.specs.Settings.{Setting, settled}
-use Rattle.control_list.specs.declared.control.Control.{Control}
-use Rattle.control_list.specs.Seen.{seen}
+use Rattle.window_items.specs.declared.item.Item.{Item}
+use Rattle.control_mgr.specs.declared.control.Control.{Control}
+use Rattle.control_mgr.specs.Seen.{seen}
 use Rattle.def_iface.specs.declared.taken_control.TakenControl.{TakenControl}
 use Rattle.def_iface.specs.ControlMeaning.{ControlLoan, is_fitting_control}
 use Rattle.desk_call.specs.declared.activity.TrackedControl.{TrackedControl}
@@ -14,24 +15,24 @@ use Rattle.control_mgr.specs.ControlSteps.{dragged, is_in_part, is_part, is_thum
 use Rattle.control_mgr.specs.Judged.{is_within, part_tested}
 use Rattle.control_mgr.specs.Settled.{AreSettled, IsSettledControl}
 use Rattle.control_mgr.specs.WholeControls.{records_of}
-use Rattle.control_mgr.proofs.Edited.{All-there}
 use Rattle.control_mgr.proofs.Places.{record_read}
+use Rattle.window_items.proofs.EditLemmas.{All-there}
 
 -- ---- a control as the code reads it
 
-module _ {W : Type 0} {K : W → Type 0} (control_loan : TakenControl W K → ControlLoan) (m : Controls (TakenControl W K)) (at : ℕ) (x : Control (TakenControl W K)) (low : at < length m.list.controls.items) (read : x ≡ get_or m.list.controls.items at x) where
+module _ {W : Type 0} {K : W → Type 0} (control_loan : TakenControl W K → ControlLoan) (m : Controls (TakenControl W K)) (at : ℕ) (x : Item (Control (TakenControl W K))) (low : at < length m.list.items.items) (read : x ≡ get_or m.list.items.items at x) where
   abbrev c : ControlRecord
   c = seen control_loan x
 
   pub there : slice_get (records_of control_loan m) at ≡ Some c
-  there = record_read control_loan m.list.controls.items at x low read
+  there = record_read control_loan m.list.items.items at x low read
 
   pub settled_there : AreSettled (records_of control_loan m) → IsSettledControl c
   settled_there settled = All-there IsSettledControl at (records_of control_loan m) c there settled
 
   -- its definition was told its size, which fits it
-  pub told_fits : AreSettled (records_of control_loan m) → is_fitting_control (control_loan x.definition).definition (control_loan x.definition).definition.size ≡ true
-  told_fits settled = ap (is_fitting_control (control_loan x.definition).definition) (settled_there settled).told ∙ (settled_there settled).fits
+  pub told_fits : AreSettled (records_of control_loan m) → is_fitting_control (control_loan x.kept.definition).definition (control_loan x.kept.definition).definition.size ≡ true
+  told_fits settled = ap (is_fitting_control (control_loan x.kept.definition).definition) (settled_there settled).told ∙ (settled_there settled).fits
 
   tracked_there : (k : TrackedControl) (p : Point) (b : Bool) → b ≡ is_in_part k c p → (if b then Some k.part else None) ≡ tracked_part k (slice_get (records_of control_loan m) at) p
   tracked_there k p b e = ap (λ t. if t then Some k.part else None) e ∙ ap (λ o. tracked_part k o p) (sym there)

@@ -3,7 +3,7 @@ use Rattle.std.specs.Prelude.{◌≡◌, ℕ, List, [], map, All, Contains, Some
 use Rattle.def_iface.specs.declared.window_def.Stage.TheVariants.{Closed}
 use Rattle.def_iface.specs.ControlMeaning.{ControlDefinition, SameControlLook}
 use Rattle.def_iface.specs.Slots.{IsFull}
-use Rattle.control_list.specs.Lists.{controls_of}
+use Rattle.window_items.specs.Items.{items_of}
 use Rattle.control_mgr.specs.ControlDesks.{ControlRecord, ControlSlot, ControlsState}
 use Rattle.control_mgr.specs.InUse.{AreStocked}
 use Rattle.control_mgr.specs.WholeControls.{AreControlsApart, slots_of}
@@ -15,8 +15,8 @@ IsControlFull s = IsFull (λ (d : ControlDefinition). d.stage) s
 -- the control's slot is there, with its definition, which is closed
 abbrev pub IsControlClosedAt : List ControlSlot → ControlRecord → Type 0
 IsControlClosedAt slots c =
-    (s : ControlSlot) × (slice_get slots c.definition.slot ≡ Some s)
-    × ((d : ControlDefinition) × (s.held ≡ Some d) × (d.stage ≡ Closed) × SameControlLook c.definition.definition d)
+    (s : ControlSlot) × (slice_get slots c.kept.definition.slot ≡ Some s)
+    × ((d : ControlDefinition) × (s.held ≡ Some d) × (d.stage ≡ Closed) × SameControlLook c.kept.definition.definition d)
 
 -- the definitions of these controls were closed and put into their slots, and every other slot is as it was
 pub record AreControlsClosed (cs : List ControlRecord) (old new : List ControlSlot) : Type 0 where
@@ -34,11 +34,11 @@ pub record AreAllControlsClosed (cs : List ControlRecord) (old new : List Contro
 
 -- the controls of a window were disposed of, and those of other windows stay
 pub record IsWindowLeft (window : ℕ) (before after : ControlsState) : Type 0 where
-  pub gone : controls_of window after.controls ≡ []
-  pub others : (other : ℕ) → (window ≡ other → ⊥) → controls_of other after.controls ≡ controls_of other before.controls
+  pub gone : items_of window after.controls ≡ []
+  pub others : (other : ℕ) → (window ≡ other → ⊥) → items_of other after.controls ≡ items_of other before.controls
   -- each that stays was there
   pub within : All (Contains before.controls) after.controls
   pub apart : AreControlsApart before.controls → AreControlsApart after.controls
   pub next : after.next ≡ before.next
-  pub closed : AreControlsClosed (controls_of window before.controls) before.stock after.stock
+  pub closed : AreControlsClosed (items_of window before.controls) before.stock after.stock
   pub stocked : AreStocked (λ (d : ControlDefinition). d.stage) (slots_of after.controls) after.stock

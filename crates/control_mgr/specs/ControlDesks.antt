@@ -8,8 +8,9 @@ use Rattle.def_iface.specs.declared.part.Part.TheVariants as part
 use Rattle.def_iface.specs.ControlMeaning.{ControlDefinition, ControlLoan}
 use Rattle.def_iface.specs.ControlNews.{AllControlNews, no_control_news}
 use Rattle.def_iface.specs.Slots.{SlotOf}
-use Rattle.control_list.specs.declared.control.Control.{Control}
-use Rattle.control_list.specs.Lists.{has_serial, control_index}
+use Rattle.window_items.specs.declared.item.Item.{Item}
+use Rattle.control_mgr.specs.declared.control.Control.{Control}
+use Rattle.window_items.specs.Items.{has_serial, item_index}
 use Rattle.desk_call.specs.declared.control.ControlOf.{ControlOf}
 use Rattle.window_mgr.specs.DeskStates.{DeskState, IsDeskUnchanged}
 
@@ -17,7 +18,7 @@ use Rattle.window_mgr.specs.DeskStates.{DeskState, IsDeskUnchanged}
 
 -- a control, and its definition with the number of its slot
 abbrev pub ControlRecord : Type 0
-ControlRecord = Control ControlLoan
+ControlRecord = Item (Control ControlLoan)
 
 -- the slots of the controls' definitions, as the stock holds them
 abbrev pub ControlSlot : Type 0
@@ -32,11 +33,11 @@ pub record ControlsState : Type 0 where
 
 -- all that a control's definition is told of it
 abbrev pub news_of_control : ControlRecord → AllControlNews
-news_of_control c = record { size = c.size; title = c.title; setting = c.values; highlight = c.highlight }
+news_of_control c = record { size = c.kept.size; title = c.kept.title; setting = c.kept.values; highlight = c.kept.highlight }
 
 -- where the window's control of this serial stands, and the control
 abbrev pub index_of : ControlOf → List ControlRecord → Option ℕ
-index_of c cs = control_index c.window c.control cs
+index_of c cs = item_index c.window c.control cs
 
 abbrev pub control_of : ControlOf → List ControlRecord → Option ControlRecord
 control_of c cs = option_and_then (slice_get cs) (index_of c cs)
@@ -50,7 +51,7 @@ with_serial n cs = option_and_then (slice_get cs) (position (has_serial n) cs)
 -- the picture of a control in a font, in its window's coordinates; where there is none it is white
 abbrev pub control_bit : List ℕ → Option ControlRecord → PixelSet
 control_bit font None p = false
-control_bit font (Some c) p = c.definition.definition.picture no_control_news font (minus p c.place)
+control_bit font (Some c) p = c.kept.definition.definition.picture no_control_news font (minus p c.kept.place)
 
 -- what these controls show in a font, and other layers this
 abbrev pub controls_show : (List ℕ → Part → PixelSet) → List ControlRecord → List ℕ → Part → PixelSet

@@ -6,7 +6,7 @@ use Rattle.tb_geom.specs.declared.refusal.Refusal.TheVariants.{NoDefinition, NoS
 use Rattle.tb_geom.specs.Rects.{in_plane}
 use Rattle.control_values.specs.Highlights.{is_highlight}
 use Rattle.control_values.specs.Settings.{is_in_range}
-use Rattle.control_list.specs.Lists.{count_of}
+use Rattle.window_items.specs.Items.{count_of}
 use Rattle.def_iface.specs.ControlMeaning.{ControlDefinition}
 use Rattle.def_iface.specs.Slots.{has_kind, offered}
 use Rattle.desk_call.specs.declared.control.ControlCall.{ControlCall}
@@ -77,11 +77,11 @@ new_refusals n desk s =
 -- the minimum may be so, or the maximum, where the control is there
 abbrev pub may_be_minimum : ℤ → Option ControlRecord → Bool
 may_be_minimum n None = true
-may_be_minimum n (Some c) = is_in_range n && int_le n c.values.maximum
+may_be_minimum n (Some c) = is_in_range n && int_le n c.kept.values.maximum
 
 abbrev pub may_be_maximum : ℤ → Option ControlRecord → Bool
 may_be_maximum n None = true
-may_be_maximum n (Some c) = is_in_range n && int_le c.values.minimum n
+may_be_maximum n (Some c) = is_in_range n && int_le c.kept.values.minimum n
 
 -- ---- calls
 

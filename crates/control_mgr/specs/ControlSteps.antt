@@ -12,7 +12,8 @@ use Rattle.control_values.specs.declared.part.ControlPart.{ControlPart}
 use Rattle.control_values.specs.declared.part.ControlPart.TheVariants.{Thumb}
 use Rattle.control_values.specs.Parts.{number_of}
 use Rattle.control_values.specs.Settings.{Setting, settled}
-use Rattle.control_list.specs.Lists.{controls_of, edit_at, serial_after, with_highlight, with_place, with_shown, with_size, with_title, with_values}
+use Rattle.window_items.specs.Items.{items_of, edit_at, serial_after, with_kept}
+use Rattle.control_mgr.specs.Fields.{with_highlight, with_place, with_shown, with_size, with_title, with_values}
 use Rattle.def_iface.specs.declared.part.Part.{Part}
 use Rattle.def_iface.specs.declared.part.Part.TheVariants as part
 use Rattle.def_iface.specs.declared.window_def.Stage.TheVariants.{Closed}
@@ -51,9 +52,9 @@ use Rattle.control_mgr.specs.Judged.{is_inactive, is_within, part_tested, part_u
 -- the layer is this control's: it is shown where the control is, and has the control's region at its place
 pub record IsLayerOf (c : ControlRecord) (l : Layer) : Type 0 where
   pub part : l.part ≡ part.Control c.serial
-  pub shown : l.shown ≡ c.shown
-  pub region : (p : Point) → holds l.region p ≡ c.definition.definition.region c.size (minus p c.place)
-  pub bounds : l.bounds ≡ moved_rect (c.definition.definition.bounds c.size) c.place.h c.place.v
+  pub shown : l.shown ≡ c.kept.shown
+  pub region : (p : Point) → holds l.region p ≡ c.kept.definition.definition.region c.kept.size (minus p c.kept.place)
+  pub bounds : l.bounds ≡ moved_rect (c.kept.definition.definition.bounds c.kept.size) c.kept.place.h c.kept.place.v
 
 -- the layers begin with these controls', from front to back the oldest first, and no other is a control's
 abbrev pub AreLayersOf : List ControlRecord → List Layer → Type 0
@@ -72,8 +73,8 @@ pub record IsChangedAt (f : ControlRecord → ControlRecord) (at : ℕ) (before 
   pub control : ControlRecord
   pub there : slice_get before at ≡ Some control
   pub definition : ControlDefinition
-  pub told : IsControlBegun (news_of_control (f control)) control.definition.definition definition
-  pub controls : after ≡ edit_at (λ c. record (f c) { definition = record { definition = definition; slot = c.definition.slot } }) at before
+  pub told : IsControlBegun (news_of_control (f control)) control.kept.definition.definition definition
+  pub controls : after ≡ edit_at (λ c. with_kept (λ k. record k { definition = record { definition = definition; slot = c.kept.definition.slot } }) (f c)) at before
 
 -- a control was changed so, and its definition told of it
 pub record IsChangedTo (c : ControlOf) (f : ControlRecord → ControlRecord) (before after : ControlDesk) : Type 0 where
@@ -86,7 +87,7 @@ pub record IsChangedTo (c : ControlOf) (f : ControlRecord → ControlRecord) (be
 -- the window's layers begin with its controls', as these are now, and one of them was drawn afresh, if one is named
 pub record AreControlsLaid (window : ℕ) (afresh : Option Part) (before after : ControlDesk) : Type 0 where
   pub layers : List Layer
-  pub joined : AreLayersOf (controls_of window after.controls.controls) layers
+  pub joined : AreLayersOf (items_of window after.controls.controls) layers
   -- and those behind them are as they were
   pub others : (w : WindowRecord) → record_with window before.desk.windows.desk.windows ≡ Some w
       → behind_controls layers ≡ behind_controls w.layers
@@ -135,13 +136,15 @@ abbrev pub new_control : NewControl → ℕ → ℕ → ControlDefinition → Co
 new_control n serial slot d = record {
   serial = serial;
   window = n.window;
-  place = n.place;
-  size = n.size;
-  shown = n.shown;
-  values = settled n.minimum n.maximum n.value;
-  highlight = 0;
-  title = n.title;
-  definition = record { definition = d; slot = slot };
+  kept = record {
+    place = n.place;
+    size = n.size;
+    shown = n.shown;
+    values = settled n.minimum n.maximum n.value;
+    highlight = 0;
+    title = n.title;
+    definition = record { definition = d; slot = slot };
+  };
 }
 
 -- a control of this serial was made, with a definition that was taken out of the stock and begun, and drawn
@@ -170,7 +173,7 @@ pub record IsControlDisposed (c : ControlOf) (before after : ControlDesk) : Type
   pub found : index_of c before.controls.controls ≡ Some at
   pub control : ControlRecord
   pub there : slice_get before.controls.controls at ≡ Some control
-  pub shut : IsControlShut control.definition before.controls.stock after.controls.stock
+  pub shut : IsControlShut control.kept.definition before.controls.stock after.controls.stock
   pub controls : after.controls ≡ record before.controls { controls = remove before.controls.controls at; stock = after.controls.stock }
   pub laid : AreControlsLaid c.window None before after
   pub activity : SameActivity before.desk after.desk
@@ -189,7 +192,7 @@ IsEndedIfThere c before after = IsEndedAt (index_of c before.controls.controls) 
 -- what is told of a control
 abbrev pub info_of : Option ControlRecord → ControlReply
 info_of None = reply.Done
-info_of (Some c) = reply.Info (record { values = c.values; highlight = c.highlight; shown = c.shown })
+info_of (Some c) = reply.Info (record { values = c.kept.values; highlight = c.kept.highlight; shown = c.kept.shown })
 
 -- the control and the part of it that the point of its window lies in; an inactive one is not found
 abbrev pub found_in : ControlRecord → Point → Option FoundControl
@@ -243,12 +246,12 @@ highlight_of part = option_map_or number_of part 0
 
 -- the setting of a control whose thumb was released here
 abbrev pub dragged : TrackedControl → Point → ControlRecord → Setting
-dragged k p c = settled c.values.minimum c.values.maximum
-    (c.definition.definition.thumb_value no_control_news (minus k.from c.place) (minus p c.place))
+dragged k p c = settled c.kept.values.minimum c.kept.values.maximum
+    (c.kept.definition.definition.thumb_value no_control_news (minus k.from c.kept.place) (minus p c.kept.place))
 
 -- the setting of a control once the mouse button was released: where its thumb was dragged, by that
 abbrev pub released_setting : TrackedControl → Point → Option ControlPart → ControlRecord → Setting
-released_setting k p answer c = if is_thumb k.part && is_some answer then dragged k p c else c.values
+released_setting k p answer c = if is_thumb k.part && is_some answer then dragged k p c else c.kept.values
 
 -- how a control is highlighted once the tracking of this part ended, where it was highlighted so: not any more, but that a thumb
 -- that is tracked is never highlighted, so that its end leaves this alone too
@@ -257,7 +260,7 @@ highlight_after part highlight = if is_thumb part then highlight else 0
 
 -- the control then
 abbrev pub released : TrackedControl → Point → Option ControlPart → ControlRecord → ControlRecord
-released k p answer c = record c { highlight = highlight_after k.part c.highlight; values = released_setting k p answer c }
+released k p answer c = with_kept (λ x. record x { highlight = highlight_after k.part c.kept.highlight; values = released_setting k p answer c }) c
 
 -- the control is highlighted so, where its part that is tracked is no thumb
 abbrev pub IsHighlighted : Bool → ControlOf → ℕ → ControlDesk → ControlDesk → Type 0
@@ -289,13 +292,13 @@ IsControlReleased _ p answer before after = ⊥
 
 -- the control with another value, minimum or maximum, by which its value is moved between them
 abbrev pub with_value : ℤ → ControlRecord → ControlRecord
-with_value n c = record c { values = settled c.values.minimum c.values.maximum n }
+with_value n c = with_values (settled c.kept.values.minimum c.kept.values.maximum n) c
 
 abbrev pub with_minimum : ℤ → ControlRecord → ControlRecord
-with_minimum n c = record c { values = settled n c.values.maximum c.values.value }
+with_minimum n c = with_values (settled n c.kept.values.maximum c.kept.values.value) c
 
 abbrev pub with_maximum : ℤ → ControlRecord → ControlRecord
-with_maximum n c = record c { values = settled c.values.minimum n c.values.value }
+with_maximum n c = with_values (settled c.kept.values.minimum n c.kept.values.value) c
 
 -- what a change by the number of a call answers and leaves
 abbrev pub IsSet : ControlOf → (ControlRecord → ControlRecord) → ControlReply → ControlDesk → ControlDesk → Type 0

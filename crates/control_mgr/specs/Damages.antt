@@ -13,9 +13,9 @@ use Rattle.control_mgr.specs.ControlSteps.{IsChangedTo, IsSettingPut, IsShownAne
 -- of its own pixels, those outside of this rectangle of its window show what the control showed, where its region lies in the range
 -- of coordinates
 abbrev pub IsDamageOf : Rect → ControlRecord → ControlRecord → Type 0
-IsDamageOf damage before after = is_in_range (moved_rect (before.definition.definition.bounds before.size) before.place.h before.place.v) ≡ true
+IsDamageOf damage before after = is_in_range (moved_rect (before.kept.definition.definition.bounds before.kept.size) before.kept.place.h before.kept.place.v) ≡ true
     → (font : List ℕ) (p : Point)
-    → before.definition.definition.region before.size (minus p before.place) ≡ true → rect_holds damage p ≡ false
+    → before.kept.definition.definition.region before.kept.size (minus p before.kept.place) ≡ true → rect_holds damage p ≡ false
     → control_bit font (Some after) p ≡ control_bit font (Some before) p
 
 -- so of the control at this place

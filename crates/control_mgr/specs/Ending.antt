@@ -2,7 +2,7 @@
 use Rattle.std.specs.Prelude.{◌≡◌, ℕ, List, MatchOption, Option, None, Some}
 use Rattle.std.specs.List.{position, remove}
 use Rattle.tb_geom.specs.Pixels.{Pixels}
-use Rattle.control_list.specs.Lists.{place_among}
+use Rattle.window_items.specs.Items.{place_among}
 use Rattle.def_iface.specs.declared.part.Part.TheVariants as part
 use Rattle.def_iface.specs.declared.taken.Taken.{Taken}
 use Rattle.def_iface.specs.declared.taken_control.TakenControl.{TakenControl}
@@ -57,7 +57,7 @@ module _ {V : Type 0} {H : V → Type 0} (loan : Taken V H → Loan) {W : Type 0
     pub at : ℕ
     pub spot : IsSpotOf loan control_loan c t m (record { window = e.window; control = at })
     pub layers : (w : Window V H) → IsWindowAt t.windows.records.items e.window w
-        → e.layers ≡ record w.layers { layers = remove w.layers.layers (place_among at m.list.controls.items) }
+        → e.layers ≡ record w.layers { layers = remove w.layers.layers (place_among at m.list.items.items) }
     pub may : MayHaveLayers e.window t e.layers
     pub planned : IsPlanOfLayers loan e.window e.layers.layers None t e.relaying
 

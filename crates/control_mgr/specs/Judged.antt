@@ -39,17 +39,17 @@ may_be_in d place size (Some w) = may_be_placed d place size w.place
 -- so may this control, if it is there
 abbrev pub may_go_to : Point → Option ControlRecord → Option WindowRecord → Bool
 may_go_to place None w = true
-may_go_to place (Some c) w = may_be_in (Some c.definition.definition) place c.size w
+may_go_to place (Some c) w = may_be_in (Some c.kept.definition.definition) place c.kept.size w
 
 abbrev pub may_get_size : Size → Option ControlRecord → Option WindowRecord → Bool
 may_get_size size None w = true
-may_get_size size (Some c) w = may_be_in (Some c.definition.definition) c.place size w
+may_get_size size (Some c) w = may_be_in (Some c.kept.definition.definition) c.kept.place size w
 
 -- ---- which point lies in it
 
 -- the control is inactive
 abbrev pub is_inactive : ControlRecord → Bool
-is_inactive c = nat_eq c.highlight 255
+is_inactive c = nat_eq c.kept.highlight 255
 
 -- the rectangle of this size at 0 0, wider by so much on each side
 abbrev pub widened : ℕ → Size → Rect
@@ -62,12 +62,12 @@ widened margin size = record {
 
 -- the point of its window lies in the control's rectangle, widened by so much
 abbrev pub is_within : ℕ → ControlRecord → Point → Bool
-is_within margin c p = rect_holds (widened margin c.size) (minus p c.place)
+is_within margin c p = rect_holds (widened margin c.kept.size) (minus p c.kept.place)
 
 -- the part of the control that the point of its window lies in, by its definition
 abbrev pub part_under : ControlRecord → Point → Option ControlPart
-part_under c p = c.definition.definition.hit no_control_news (minus p c.place)
+part_under c p = c.kept.definition.definition.hit no_control_news (minus p c.kept.place)
 
 -- the same for a control that can be used: it is shown, and the point lies in its rectangle; an inactive one has none
 abbrev pub part_tested : ControlRecord → Point → Option ControlPart
-part_tested c p = if (c.shown && not (is_inactive c)) && is_within 0 c p then part_under c p else None
+part_tested c p = if (c.kept.shown && not (is_inactive c)) && is_within 0 c p then part_under c p else None

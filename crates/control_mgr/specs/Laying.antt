@@ -60,4 +60,4 @@ module _ {W : Type 0} {K : W → Type 0} (control_loan : TakenControl W K → Co
   abbrev pub MayLie : {V : Type 0} {H : V → Type 0} → WindowManager V H → Controls (TakenControl W K) → Spot → Lie → Type 0
   MayLie t m s l = (c : ControlRecord) (w : Window _ _) → slice_get (records_of control_loan m) s.control ≡ Some c
       → IsWindowAt t.windows.records.items s.window w
-      → may_be_placed (Some c.definition.definition) l.place l.size w.place ≡ true
+      → may_be_placed (Some c.kept.definition.definition) l.place l.size w.place ≡ true

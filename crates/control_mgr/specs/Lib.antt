@@ -1,6 +1,8 @@
 -- What the contracts speak of: the controls of a desk beside its windows and what they show, where a control may lie, why a call is
 -- refused, what a step does, what is drawn of a control that is told something, what holds between calls, which slots are in use, and what the end of a desk leaves.
 pub mod InUse
+pub mod Fields
+pub mod Seen
 pub mod ControlDesks
 pub mod Judged
 pub mod ControlRefusals

@@ -7,7 +7,7 @@ use Rattle.tb_geom.specs.declared.refusal.Refusal.TheVariants.{NoMemory}
 use Rattle.tb_geom.specs.Pixels.{Pixels}
 use Rattle.tb_geom.specs.Refusals.{first_refusal}
 use Rattle.control_values.specs.Settings.{settled}
-use Rattle.control_list.specs.Lists.{count_of, serial_after}
+use Rattle.window_items.specs.Items.{count_of, serial_after}
 use Rattle.def_iface.specs.declared.part.Part.TheVariants as part
 use Rattle.def_iface.specs.declared.taken.Taken.{Taken}
 use Rattle.def_iface.specs.declared.taken_control.TakenControl.{TakenControl}
@@ -42,10 +42,10 @@ module _ {V : Type 0} {H : V → Type 0} (loan : Taken V H → Loan) {W : Type 0
 
 -- nothing but the room for controls is another, and there is no less of it
 pub record IsRoomier {D : Type 0} (old new : Controls D) : Type 0 where
-  pub controls : new.list.controls.items ≡ old.list.controls.items
+  pub controls : new.list.items.items ≡ old.list.items.items
   pub next : new.list.next ≡ old.list.next
   pub alloc : new.alloc ≡ old.alloc
-  pub room : vec_capacity old.list.controls ≤ vec_capacity new.list.controls
+  pub room : vec_capacity old.list.items ≤ vec_capacity new.list.items
 
 -- ---- plans
 
@@ -83,7 +83,7 @@ module _ {V : Type 0} {H : V → Type 0} (loan : Taken V H → Loan) {W : Type 0
     pub laid : IsLaidSo loan k.window ls update t u
     pub beside : AreBeside control_loan loan u m
     pub ticket : IsTicket control_loan n (Some d) u m k
-    pub room : length m.list.controls.items < vec_capacity m.list.controls
+    pub room : length m.list.items.items < vec_capacity m.list.items
 
   -- the layers of the window with the new control behind the other controls, and what changes by them on the screen
   pub record IsAddition (n : NewControl) (d : ControlDefinition) (t : WindowManager V H) (m : Controls (TakenControl W K)) (a : Addition) : Type 0 where
@@ -94,7 +94,7 @@ module _ {V : Type 0} {H : V → Type 0} (loan : Taken V H → Loan) {W : Type 0
     pub low : a.ticket.layer < length a.layers.layers
     pub may : MayHaveLayers a.ticket.window t a.layers
     pub planned : IsPlanOfLayers loan a.ticket.window a.layers.layers (Some (part.Control a.ticket.serial)) t a.relaying
-    pub room : length m.list.controls.items < vec_capacity m.list.controls
+    pub room : length m.list.items.items < vec_capacity m.list.items
 
 -- a ticket of the control that is added to the same window next after one with the ticket `k`, where the window's layers have this
 -- place and room for both: it has the serial after that, and the layer behind

@@ -17,14 +17,14 @@ pub record MayHaveSetting (s : settings.Setting) : Type 0 where
 -- the range of coordinates there; the definition goes by what the record says that it was told; and the setting
 -- and the highlighting are such that a control may have
 pub record IsSettledControl (c : ControlRecord) : Type 0 where
-  pub placed : in_plane c.place ≡ true
-  pub live : c.definition.definition.stage ≡ Live
-  pub told : c.definition.definition.size ≡ c.size
-  pub fits : is_fitting_control c.definition.definition c.size ≡ true
-  pub inside : is_in_range (moved_rect (c.definition.definition.bounds c.size) c.place.h c.place.v) ≡ true
-  pub goes_by : ControlGoesBy (news_of_control c) c.definition.definition
-  pub setting : MayHaveSetting c.values
-  pub highlight : is_highlight (pos c.highlight) ≡ true
+  pub placed : in_plane c.kept.place ≡ true
+  pub live : c.kept.definition.definition.stage ≡ Live
+  pub told : c.kept.definition.definition.size ≡ c.kept.size
+  pub fits : is_fitting_control c.kept.definition.definition c.kept.size ≡ true
+  pub inside : is_in_range (moved_rect (c.kept.definition.definition.bounds c.kept.size) c.kept.place.h c.kept.place.v) ≡ true
+  pub goes_by : ControlGoesBy (news_of_control c) c.kept.definition.definition
+  pub setting : MayHaveSetting c.kept.values
+  pub highlight : is_highlight (pos c.kept.highlight) ≡ true
 
 abbrev pub AreSettled : List ControlRecord → Type 0
 AreSettled cs = All IsSettledControl cs

@@ -6,6 +6,7 @@ use Rattle.def_iface.specs.declared.taken_control.TakenControl.{TakenControl}
 use Rattle.def_iface.specs.ControlMeaning.{ControlLoan, is_fitting_control}
 use Rattle.def_iface.specs.Meaning.{Loan}
 use Rattle.def_iface.specs.declared.window_def.Stage.TheVariants.{Live}
+use Rattle.window_items.specs.Items.{with_kept}
 use Rattle.desk_call.specs.declared.activity.Activity.{Activity}
 use Rattle.desk_call.specs.declared.control.ControlOf.{ControlOf}
 use Rattle.window_mgr.specs.declared.manager.WindowManager.{WindowManager}
@@ -26,16 +27,16 @@ opened activity begun = record { activity = activity; begun = begun }
 
 -- the control with this setting, highlighting and title
 abbrev pub with_state : State → ControlRecord → ControlRecord
-with_state s c = record c { values = s.values; highlight = s.highlight; title = s.title }
+with_state s c = with_kept (λ k. record k { values = s.values; highlight = s.highlight; title = s.title }) c
 
 -- the control, lying so
 abbrev pub with_lie : Lie → ControlRecord → ControlRecord
-with_lie l c = record c { place = l.place; size = l.size; shown = l.shown }
+with_lie l c = with_kept (λ k. record k { place = l.place; size = l.size; shown = l.shown }) c
 
 -- the definition of the control is live, and may be told the control's size
 pub record IsTellable (c : ControlRecord) : Type 0 where
-  pub live : c.definition.definition.stage ≡ Live
-  pub fits : is_fitting_control c.definition.definition c.size ≡ true
+  pub live : c.kept.definition.definition.stage ≡ Live
+  pub fits : is_fitting_control c.kept.definition.definition c.kept.size ≡ true
 
 module _ {V : Type 0} {H : V → Type 0} (loan : Taken V H → Loan) {W : Type 0} {K : W → Type 0} (control_loan : TakenControl W K → ControlLoan) where
   -- the control stands here, and its window
@@ -43,7 +44,7 @@ module _ {V : Type 0} {H : V → Type 0} (loan : Taken V H → Loan) {W : Type 0
     pub window : StandsAt t.windows.records.items c.window s.window
     pub there : is_missing c.window (desk_of loan t []).windows ≡ false
     pub control : index_of c (records_of control_loan m) ≡ Some s.control
-    pub low : s.control < length m.list.controls.items
+    pub low : s.control < length m.list.items.items
 
   -- some control stands here, and its window
   pub record IsSpot (t : WindowManager V H) (m : Controls (TakenControl W K)) (s : Spot) : Type 0 where

@@ -3,8 +3,8 @@ use Rattle.std.specs.Prelude.{◌≡◌, ◌≤◌, ℕ, true, false, List, [], 
 use Rattle.std.specs.List.{list_any}
 use Rattle.tb_geom.specs.Points.{PixelSet}
 use Rattle.tb_geom.specs.Rects.{in_plane}
-use Rattle.control_list.specs.Lists.{are_before, controls_of, count_of, has_serial}
-use Rattle.control_list.specs.Seen.{all_seen}
+use Rattle.window_items.specs.Items.{are_before, items_of, count_of, has_serial}
+use Rattle.control_mgr.specs.Seen.{all_seen}
 use Rattle.def_iface.specs.declared.part.Part.{Part}
 use Rattle.def_iface.specs.declared.taken.Taken.{Taken}
 use Rattle.def_iface.specs.declared.taken_control.TakenControl.{TakenControl}
@@ -33,11 +33,11 @@ AreControlsApart [] = Unit {0}
 AreControlsApart (c ∷ cs) = (list_any (has_serial c.serial) cs ≡ false) × AreControlsApart cs
 
 abbrev pub AreLiveControls : List ControlRecord → Type 0
-AreLiveControls cs = All (λ c. c.definition.definition.stage ≡ Live) cs
+AreLiveControls cs = All (λ c. c.kept.definition.definition.stage ≡ Live) cs
 
 -- the slots of the controls' definitions
 abbrev pub slots_of : List ControlRecord → List ℕ
-slots_of cs = map (λ c. c.definition.slot) cs
+slots_of cs = map (λ c. c.kept.definition.slot) cs
 
 -- the controls of these windows, between calls: settled, each of another serial that was given before, in a window that is
 -- there, and no window has more than it may have; the layers of each window begin with its controls', and no other is a
@@ -48,7 +48,7 @@ pub record AreWholeControls (windows : List WindowRecord) (s : ControlsState) : 
   pub given : are_before s.next s.controls ≡ true
   pub somewhere : All (λ c. is_missing c.window windows ≡ false) s.controls
   pub few : (window : ℕ) → count_of window s.controls ≤ most_controls
-  pub joined : All (λ w. AreLayersOf (controls_of w.serial s.controls) w.layers) windows
+  pub joined : All (λ w. AreLayersOf (items_of w.serial s.controls) w.layers) windows
   pub stocked : AreStocked (λ (d : ControlDefinition). d.stage) (slots_of s.controls) s.stock
 
 -- the control that is tracked, if one is, is there, and the mouse button was pressed at a point
@@ -60,7 +60,7 @@ IsTrackable _ cs = Unit {0}
 module _ {W : Type 0} {K : W → Type 0} (control_loan : TakenControl W K → ControlLoan) where
   -- the controls as plain data
   abbrev pub records_of : Controls (TakenControl W K) → List ControlRecord
-  records_of m = all_seen control_loan m.list.controls.items
+  records_of m = all_seen control_loan m.list.items.items
 
   abbrev pub controls_state : Controls (TakenControl W K) → List ControlSlot → ControlsState
   controls_state m slots = record { controls = records_of m; next = m.list.next; stock = slots }

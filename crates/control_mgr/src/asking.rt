@@ -1,8 +1,8 @@
 //! What is asked about controls.
 ghost use Rattle.std.specs.Prelude.{◌≡◌, ◌<◌, [], length, true, slice_get, is_some, IfSome, MatchResult};
 ghost use Rattle.tb_geom.specs.Rects.{in_plane};
-ghost use Rattle.control_list.specs.Lists.{count_of};
-ghost use Rattle.control_list.specs.Seen.{seen};
+ghost use Rattle.window_items.specs.Items.{count_of};
+ghost use Rattle.control_mgr.specs.Seen.{seen};
 ghost use Rattle.desk_call.specs.declared.control.ControlCall.TheVariants as asks;
 ghost use Rattle.window_mgr.specs.DeskStates.{Opened};
 ghost use Rattle.window_mgr.specs.Edits.{IsWindowAt};
@@ -14,8 +14,7 @@ ghost use Rattle.control_mgr.specs.Judged.{is_within, part_tested, part_under};
 ghost use Rattle.control_mgr.specs.Settled.{AreSettled, IsSettledControl};
 ghost use Rattle.control_mgr.specs.WholeControls.{AreBeside, LeavesControls, records_of};
 
-use crate::Controls;
-use control_list::Control;
+use crate::{Control, Controls};
 use control_values::ControlPart;
 use def_iface::{Defined, DefinedControl, Part, Taken, TakenControl};
 use desk_call::{
@@ -23,11 +22,12 @@ use desk_call::{
 };
 use layer_list::local;
 use tb_geom::{Point, Rect, Refusal};
+use window_items::Item;
 use window_list::picture_place;
 use window_mgr::WindowManager;
 
 /// Whether a point of its window lies in a control's rectangle, widened by so much on each side.
-pub(crate) fn is_within(control: &Control<TakenControl>, margin: u8, point: Point) -> bool
+pub(crate) fn is_within(control: &Item<Control<TakenControl>>, margin: u8, point: Point) -> bool
     requires settled { IsSettledControl (seen ⟦<TakenControl as DefinedControl>⟧.control_loan control.now) }
     requires point { in_plane point ≡ true }
     ensures { result ≡ is_within margin (seen ⟦<TakenControl as DefinedControl>⟧.control_loan control.now) point }
@@ -36,28 +36,34 @@ pub(crate) fn is_within(control: &Control<TakenControl>, margin: u8, point: Poin
     let widened = Rect {
         left: -margin,
         top: -margin,
-        right: control.size.width + margin,
-        bottom: control.size.height + margin,
+        right: control.kept.size.width + margin,
+        bottom: control.kept.size.height + margin,
     };
-    widened.contains(local(point, control.place))
+    widened.contains(local(point, control.kept.place))
 }
 
 /// The part of a control that a point of its window lies in, by its definition.
-fn part_under(control: &Control<TakenControl>, point: Point) -> Option<ControlPart>
+fn part_under(control: &Item<Control<TakenControl>>, point: Point) -> Option<ControlPart>
     requires settled { IsSettledControl (seen ⟦<TakenControl as DefinedControl>⟧.control_loan control.now) }
     requires point { in_plane point ≡ true }
     ensures { result ≡ part_under (seen ⟦<TakenControl as DefinedControl>⟧.control_loan control.now) point }
 {
-    control.definition.hit(local(point, control.place))
+    control
+        .kept
+        .definition
+        .hit(local(point, control.kept.place))
 }
 
 /// The part of a control, of itself, that a point of its window lies in: none of one that is hidden or inactive.
-pub(crate) fn part_tested(control: &Control<TakenControl>, point: Point) -> Option<ControlPart>
+pub(crate) fn part_tested(
+    control: &Item<Control<TakenControl>>,
+    point: Point,
+) -> Option<ControlPart>
     requires settled { IsSettledControl (seen ⟦<TakenControl as DefinedControl>⟧.control_loan control.now) }
     requires point { in_plane point ≡ true }
     ensures { result ≡ part_tested (seen ⟦<TakenControl as DefinedControl>⟧.control_loan control.now) point }
 {
-    if control.shown && !control.highlight.is_inactive() && is_within(control, 0, point) {
+    if control.kept.shown && !control.kept.highlight.is_inactive() && is_within(control, 0, point) {
         part_under(control, point)
     } else {
         None
@@ -65,12 +71,12 @@ pub(crate) fn part_tested(control: &Control<TakenControl>, point: Point) -> Opti
 }
 
 /// A control, and the part of it that a point of its window lies in. An inactive one is not found.
-fn found_in(control: &Control<TakenControl>, point: Point) -> Option<FoundControl>
+fn found_in(control: &Item<Control<TakenControl>>, point: Point) -> Option<FoundControl>
     requires settled { IsSettledControl (seen ⟦<TakenControl as DefinedControl>⟧.control_loan control.now) }
     requires point { in_plane point ≡ true }
     ensures { result ≡ found_in (seen ⟦<TakenControl as DefinedControl>⟧.control_loan control.now) point }
 {
-    if control.highlight.is_inactive() {
+    if control.kept.highlight.is_inactive() {
         return None;
     }
     match part_under(control, point) {
@@ -108,11 +114,11 @@ impl Controls<TakenControl> {
             (IsControlStep (asks.Get control) result) windows.now o self.now windows.now o self.now }
     {
         let spot = self.spot(windows, control)?;
-        let control = &self.list.controls[spot.control];
+        let control = &self.list.items[spot.control];
         Ok(ControlReply::Info(ControlInfo {
-            values: control.values,
-            highlight: control.highlight,
-            shown: control.shown,
+            values: control.kept.values,
+            highlight: control.kept.highlight,
+            shown: control.kept.shown,
         }))
     }
 
@@ -131,7 +137,7 @@ impl Controls<TakenControl> {
         if !asked.point.is_in_range() {
             return Err(Refusal::OutOfRange);
         }
-        let control = &self.list.controls[spot.control];
+        let control = &self.list.items[spot.control];
         Ok(ControlReply::Part(part_tested(control, asked.point)))
     }
 
@@ -173,7 +179,7 @@ impl Controls<TakenControl> {
         match window.layers.part_at(point) {
             Part::Control(serial) => {
                 let there = self.list.find(window.serial, serial)?;
-                found_in(&self.list.controls[there], point)
+                found_in(&self.list.items[there], point)
             }
             _ => None,
         }

@@ -1,6 +1,6 @@
 //! The end of controls: of those of a window that is disposed of, and of all.
 ghost use Rattle.std.specs.Prelude.{◌≡◌, [], true, List};
-ghost use Rattle.control_list.specs.Lists.{controls_of};
+ghost use Rattle.window_items.specs.Items.{items_of};
 ghost use Rattle.def_iface.specs.Slots.{is_left};
 ghost use Rattle.control_mgr.specs.ControlClosing.{AreAllControlsClosed, IsWindowLeft};
 ghost use Rattle.control_mgr.specs.ControlSteps.{IsControlShut};
@@ -8,8 +8,8 @@ ghost use Rattle.control_mgr.specs.InUse.{AreStocked};
 ghost use Rattle.control_mgr.specs.WholeControls.{AreLiveControls, controls_state, records_of, slots_of};
 
 use crate::Controls;
-use control_list::ControlList;
 use def_iface::{ControlStock, DefinedControl, Stage, StockedControls, TakenControl};
+use window_items::Items;
 
 /// Ends the use of a control's definition.
 pub(crate) fn put_away(taken: TakenControl, stock: &mut ControlStock)
@@ -32,7 +32,7 @@ impl Controls<TakenControl> {
             (controls_state ⟦<TakenControl as DefinedControl>⟧.control_loan self.new (⟦<ControlStock as StockedControls>⟧.control_slots stock.new)) }
     {
         while let Some(control) = self.list.take_of(window) {
-            put_away(control.definition, stock);
+            put_away(control.kept.definition, stock);
         }
     }
 
@@ -44,10 +44,10 @@ impl Controls<TakenControl> {
         ensures { AreAllControlsClosed (records_of ⟦<TakenControl as DefinedControl>⟧.control_loan self) (⟦<ControlStock as StockedControls>⟧.control_slots stock.old) (⟦<ControlStock as StockedControls>⟧.control_slots stock.new) }
     {
         let Controls { list, .. } = self;
-        let ControlList { controls, .. } = list;
-        let mut controls = controls;
+        let Items { items, .. } = list;
+        let mut controls = items;
         while let Some(control) = controls.pop() {
-            put_away(control.definition, stock);
+            put_away(control.kept.definition, stock);
         }
     }
 }

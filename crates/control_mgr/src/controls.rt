@@ -2,25 +2,26 @@
 ghost use Rattle.std.specs.Prelude.{◌≡◌, ◌≤◌, ◌+◌, [], length, Some, OnOk, IsOk, vec_capacity};
 ghost use Rattle.control_mgr.specs.Making.{IsRoomier};
 
-use control_list::ControlList;
+use crate::Control;
 use std::alloc::{AllocError, Global};
+use window_items::Items;
 
 /// The controls of a desk's windows. Those of a desk have a `TakenControl` each.
 #[derive(Drop)]
 pub struct Controls<D> {
     pub(crate) alloc: Global,
-    pub(crate) list: ControlList<D>,
+    pub(crate) list: Items<Control<D>>,
 }
 
 impl<D> Controls<D> {
     /// No control.
     pub fn new(alloc: Global) -> Controls<D>
-        ensures controls { result.list.controls.items ≡ [] }
+        ensures controls { result.list.items.items ≡ [] }
         ensures next { result.list.next ≡ Some 1 }
     {
         Controls {
             alloc,
-            list: ControlList::new(alloc),
+            list: Items::new(alloc),
         }
     }
 
@@ -34,8 +35,8 @@ impl<D> Controls<D> {
     /// Makes room for so many controls more, so that they can be added without memory. With room for them already it takes none.
     pub fn reserve(&mut self, count: usize) -> Result<(), AllocError>
         ensures same { IsRoomier self.old self.new }
-        ensures made { OnOk result (length self.new.list.controls.items + count ≤ vec_capacity self.new.list.controls) }
-        ensures succeeds { length self.old.list.controls.items + count ≤ vec_capacity self.old.list.controls → IsOk result }
+        ensures made { OnOk result (length self.new.list.items.items + count ≤ vec_capacity self.new.list.items) }
+        ensures succeeds { length self.old.list.items.items + count ≤ vec_capacity self.old.list.items → IsOk result }
     {
         self.list.reserve(count)
     }

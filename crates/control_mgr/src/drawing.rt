@@ -4,8 +4,8 @@ ghost use Rattle.std.specs.List.{position};
 ghost use Rattle.tb_geom.specs.Rects.{in_plane};
 ghost use Rattle.bit_blit.specs.Draws.{Draws};
 ghost use Rattle.draw_port.specs.Canvases.{canvas_holds, canvas_point, SameFrame};
-ghost use Rattle.control_list.specs.Lists.{has_serial};
-ghost use Rattle.control_list.specs.Seen.{all_seen};
+ghost use Rattle.window_items.specs.Items.{has_serial};
+ghost use Rattle.control_mgr.specs.Seen.{all_seen};
 ghost use Rattle.def_iface.specs.ControlMeaning.{is_fitting_control};
 ghost use Rattle.def_iface.specs.ControlNews.{no_control_news};
 ghost use Rattle.window_paint.specs.White.{all_white};
@@ -40,9 +40,9 @@ impl DrawnControl for TakenControl {
 }
 
 impl<D: DrawnControl> Showing for Controls<D> {
-    ghost is_whole = { λ m. AreSettled (all_seen D.control_loan m.list.controls.items) };
+    ghost is_whole = { λ m. AreSettled (all_seen D.control_loan m.list.items.items) };
 
-    ghost shows = { λ m. controls_show (λ font. all_white) (all_seen D.control_loan m.list.controls.items) };
+    ghost shows = { λ m. controls_show (λ font. all_white) (all_seen D.control_loan m.list.items.items) };
 
     fn draw(&self, part: Part, canvas: &mut Canvas<'_>) {
         match part {
@@ -58,11 +58,11 @@ impl<D: DrawnControl> Showing for Controls<D> {
 impl<D> Controls<D> {
     /// Where the control of this serial stands in the list, if there is one.
     fn with_serial(&self, serial: u64) -> Option<usize>
-        ensures first { result ≡ position (has_serial serial) self.now.list.controls.items }
-        ensures within { IfSome result (λ at. at < length self.now.list.controls.items) }
+        ensures first { result ≡ position (has_serial serial) self.now.list.items.items }
+        ensures within { IfSome result (λ at. at < length self.now.list.items.items) }
     {
         self.list
-            .controls
+            .items
             .iter()
             .position(|control| control.serial == serial)
     }
@@ -71,24 +71,24 @@ impl<D> Controls<D> {
 impl<D: DrawnControl> Controls<D> {
     /// Draws the control at this index of the list on a canvas whose origin is the 0 0 of the control's window.
     fn draw_at(&self, at: usize, canvas: &mut Canvas<'_>)
-        requires at { at < length self.now.list.controls.items }
-        requires settled { AreSettled (all_seen D.control_loan self.now.list.controls.items) }
+        requires at { at < length self.now.list.items.items }
+        requires settled { AreSettled (all_seen D.control_loan self.now.list.items.items) }
         requires origin { in_plane canvas.old.origin ≡ true }
         ensures same_map { canvas.new.map.ghost_name ≡ canvas.old.map.ghost_name }
         ensures same_frame { SameFrame canvas.old canvas.new }
         ensures drawn { Draws (canvas_holds canvas.old)
             (λ p _. control_bit canvas.old.font.now
-            (slice_get (all_seen D.control_loan self.now.list.controls.items) at) (canvas_point canvas.old p))
+            (slice_get (all_seen D.control_loan self.now.list.items.items) at) (canvas_point canvas.old p))
             canvas.old.map.now canvas.new.map.now }
     {
-        let control = &self.list.controls[at];
+        let control = &self.list.items[at];
         let mut there = Canvas {
             map: &mut *canvas.map,
             clip: canvas.clip,
-            origin: picture_place(canvas.origin, control.place),
+            origin: picture_place(canvas.origin, control.kept.place),
             cut: canvas.cut,
             font: canvas.font,
         };
-        control.definition.draw_control(&mut there);
+        control.kept.definition.draw_control(&mut there);
     }
 }

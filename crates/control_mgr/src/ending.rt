@@ -159,7 +159,7 @@ impl Controls<TakenControl> {
         } = ending;
         let ended = self.list.remove(at);
         windows.commit_layers(window, layers, relaying, None, &*self);
-        put_away(ended.definition, stock);
+        put_away(ended.kept.definition, stock);
     }
 
     /// Ends a control: its definition is disposed of, and put back Closed into its slot.

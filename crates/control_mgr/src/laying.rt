@@ -92,27 +92,27 @@ pub(crate) fn shape_of(alloc: Global, taken: &TakenControl, lie: Lie) -> Result<
 impl Controls<TakenControl> {
     /// How the control at this index lies.
     fn lie(&self, at: usize) -> Lie
-        requires { at < length self.now.list.controls.items }
+        requires { at < length self.now.list.items.items }
         ensures { IfSome (slice_get (records_of ⟦<TakenControl as DefinedControl>⟧.control_loan self.now) at) (λ c.
-            result ≡ record { place = c.place; size = c.size; shown = c.shown }) }
+            result ≡ record { place = c.kept.place; size = c.kept.size; shown = c.kept.shown }) }
     {
-        let control = &self.list.controls[at];
+        let control = &self.list.items[at];
         Lie {
-            place: control.place,
-            size: control.size,
-            shown: control.shown,
+            place: control.kept.place,
+            size: control.kept.size,
+            shown: control.kept.shown,
         }
     }
 
     /// Whether the control that stands here may lie so in its window.
     fn may_lie(&self, windows: &WindowManager, spot: Spot, lie: Lie) -> bool
         requires window { spot.window < length windows.now.windows.records.items }
-        requires control { spot.control < length self.now.list.controls.items }
+        requires control { spot.control < length self.now.list.items.items }
         ensures { IfSome (slice_get (records_of ⟦<TakenControl as DefinedControl>⟧.control_loan self.now) spot.control) (λ c.
             (w : _) → IsWindowAt windows.now.windows.records.items spot.window w
-            → result ≡ may_be_placed (Some c.definition.definition) lie.place lie.size w.place) }
+            → result ≡ may_be_placed (Some c.kept.definition.definition) lie.place lie.size w.place) }
     {
-        let definition = &self.list.controls[spot.control].definition;
+        let definition = &self.list.items[spot.control].kept.definition;
         let window = windows.list().at(spot.window).place;
         may_be_placed(Some(definition), lie.place, lie.size, window)
     }
@@ -132,7 +132,7 @@ impl Controls<TakenControl> {
             → (o : Opened) → LeavesControls ⟦<TakenControl as DefinedControl>⟧.control_loan ⟦<Taken as Defined>⟧.loan
             (IsLaidOrShort c (with_lie lie) result) windows.old o self.old windows.new o self.new }
     {
-        let definition = &self.list.controls[spot.control].definition;
+        let definition = &self.list.items[spot.control].kept.definition;
         let shape = shape_of(self.alloc, definition, lie)?;
         let layer = self.list.layer_index(spot.control);
         let layers = &windows.list().at(spot.window).layers;
@@ -146,15 +146,16 @@ impl Controls<TakenControl> {
 
     /// Notes that the control at this index lies so, and tells its definition.
     fn put_lie(&mut self, at: usize, lie: Lie)
-        requires at { at < length self.old.list.controls.items }
+        requires at { at < length self.old.list.items.items }
         requires tellable { IfSome (slice_get (records_of ⟦<TakenControl as DefinedControl>⟧.control_loan self.old) at) (λ c. IsTellable (with_lie lie c)) }
         ensures changed { IsChangedAt (with_lie lie) at (records_of ⟦<TakenControl as DefinedControl>⟧.control_loan self.old) (records_of ⟦<TakenControl as DefinedControl>⟧.control_loan self.new) }
         ensures next { self.new.list.next ≡ self.old.list.next }
         ensures alloc { self.new.alloc ≡ self.old.alloc }
     {
-        self.list.set_place(at, lie.place);
-        self.list.set_size(at, lie.size);
-        self.list.set_shown(at, lie.shown);
+        let control = self.list.at_mut(at);
+        control.place = lie.place;
+        control.size = lie.size;
+        control.shown = lie.shown;
         self.tell(at);
     }
 

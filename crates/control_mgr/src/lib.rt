@@ -17,12 +17,13 @@
 //! and `plan_ending` take the layers and the update region that earlier plans leave a window, `add` and `end_planned` make the
 //! changes in the same order, and take no memory.
 //!
-//! Boxes of definitions lie in the records of `control_list`, and wait outside in a `ControlStock`. After each change a definition is
+//! Boxes of definitions lie in the records of `window_items`, and wait outside in a `ControlStock`. After each change a definition is
 //! told all of its control: size, title, setting and highlighting. `Controls` shows them to whoever draws windows (`Showing`).
 #![tactic(auto)]
 
 mod asking;
 mod closing;
+mod control;
 mod controls;
 mod drawing;
 mod ending;
@@ -34,6 +35,7 @@ mod spots;
 mod telling;
 mod tracking;
 
+pub use control::Control;
 pub use controls::Controls;
 pub use drawing::DrawnControl;
 pub use ending::{Ending, layers_left, update_left};

@@ -13,10 +13,9 @@ ghost use Rattle.control_mgr.specs.Laying.{definition_if};
 ghost use Rattle.control_mgr.specs.Making.{IsAddition, IsGrown, IsNotAdded, IsReadyToAdd, IsRoomier, IsTicket, MayGrow, judged_by};
 ghost use Rattle.control_mgr.specs.WholeControls.{AreBeside, AreWholeControls, LeavesOver, controls_state, records_of};
 
-use crate::Controls;
 use crate::laying::{Lie, may_be_placed, shape_of};
 use crate::setting::may_have;
-use control_list::Control;
+use crate::{Control, Controls};
 use control_values::{ControlValues, Highlight};
 use def_iface::{
     ControlStock, Defined, DefinedControl, Part, Stage, StockedControls, Taken, TakenControl,
@@ -28,6 +27,7 @@ use scan_region::Region;
 use std::alloc::AllocError;
 use tb_geom::Refusal;
 use vis_update::Relaying;
+use window_items::Item;
 use window_mgr::WindowManager;
 
 /// As many controls as a window may have.
@@ -227,7 +227,7 @@ impl Controls<TakenControl> {
             → (o : Opened) → LeavesOver ⟦<TakenControl as DefinedControl>⟧.control_loan ⟦<Taken as Defined>⟧.loan before left
             (IsControlMade new.now addition.ticket.serial) windows.old o self.old windows.new o self.new }
         ensures put { AreLayersPut addition.ticket.window addition.layers addition.relaying.update windows.old windows.new }
-        ensures room { vec_capacity self.old.list.controls ≤ vec_capacity self.new.list.controls }
+        ensures room { vec_capacity self.old.list.items ≤ vec_capacity self.new.list.items }
     {
         let mut taken = taken;
         let Addition {
@@ -238,16 +238,18 @@ impl Controls<TakenControl> {
         let highlight = Highlight::none();
         may_have(ticket.values, highlight);
         taken.begin(new.size, new.title.as_slice(), ticket.values);
-        self.list.push(Control {
+        self.list.push(Item {
             serial: ticket.serial,
             window: new.window,
-            place: new.place,
-            size: new.size,
-            shown: new.shown,
-            values: ticket.values,
-            highlight,
-            title: ticket.title,
-            definition: taken,
+            kept: Control {
+                place: new.place,
+                size: new.size,
+                shown: new.shown,
+                values: ticket.values,
+                highlight,
+                title: ticket.title,
+                definition: taken,
+            },
         });
         windows.commit_layers(ticket.window, layers, relaying, Some(ticket.layer), &*self);
     }

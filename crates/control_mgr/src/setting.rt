@@ -42,15 +42,15 @@ pub(crate) fn may_have(values: ControlValues, highlight: Highlight)
 impl Controls<TakenControl> {
     /// The state of the control at this index.
     pub(crate) fn state(&self, at: usize) -> State
-        requires { at < length self.now.list.controls.items }
+        requires { at < length self.now.list.items.items }
         ensures { IfSome (slice_get (records_of ⟦<TakenControl as DefinedControl>⟧.control_loan self.now) at) (λ c.
-            result ≡ record { values = c.values; highlight = c.highlight; title = c.title }) }
+            result ≡ record { values = c.kept.values; highlight = c.kept.highlight; title = c.kept.title }) }
     {
-        let control = &self.list.controls[at];
+        let control = &self.list.items[at];
         State {
-            values: control.values,
-            highlight: control.highlight,
-            title: control.title.copy(),
+            values: control.kept.values,
+            highlight: control.kept.highlight,
+            title: control.kept.title.copy(),
         }
     }
 
@@ -65,9 +65,10 @@ impl Controls<TakenControl> {
     {
         may_have(state.values, state.highlight);
         let layer = self.list.layer_index(spot.control);
-        self.list.set_values(spot.control, state.values);
-        self.list.set_highlight(spot.control, state.highlight);
-        self.list.set_title(spot.control, state.title);
+        let control = self.list.at_mut(spot.control);
+        control.values = state.values;
+        control.highlight = state.highlight;
+        control.title = state.title;
         let damage = self.tell(spot.control);
         windows.redraw_layer(spot.window, layer, damage, &*self);
     }

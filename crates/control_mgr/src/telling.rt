@@ -14,7 +14,7 @@ impl Controls<TakenControl> {
     /// Tells the definition of the control at this index all of its control. The answer is the damage, in the coordinates of the
     /// control's window: of the pixels outside of it the control shows what it showed.
     pub(crate) fn tell(&mut self, at: usize) -> Rect
-        requires at { at < length self.old.list.controls.items }
+        requires at { at < length self.old.list.items.items }
         requires tellable { IfSome (slice_get (records_of ⟦<TakenControl as DefinedControl>⟧.control_loan self.old) at) IsTellable }
         ensures told { IsChangedAt (λ c. c) at (records_of ⟦<TakenControl as DefinedControl>⟧.control_loan self.old)
             (records_of ⟦<TakenControl as DefinedControl>⟧.control_loan self.new) }
@@ -23,7 +23,8 @@ impl Controls<TakenControl> {
         ensures next { self.new.list.next ≡ self.old.list.next }
         ensures alloc { self.new.alloc ≡ self.old.alloc }
     {
-        let control = &mut self.list.controls[at];
+        let item = &mut self.list.items[at];
+        let control = &mut item.kept;
         let definition = &mut control.definition;
         let resized = definition.told(&ControlChange::Resized(control.size));
         let titled = definition.told(&ControlChange::Titled(control.title.as_slice()));

@@ -7,8 +7,8 @@ ghost use Rattle.desk_call.specs.declared.control.ControlOf.{ControlOf as Named}
 ghost use Rattle.desk_call.specs.declared.control.ControlCall.TheVariants as asks;
 ghost use Rattle.window_mgr.specs.Kept.{IsKept};
 ghost use Rattle.window_mgr.specs.DeskStates.{Opened};
-ghost use Rattle.control_list.specs.Lists.{with_highlight};
-ghost use Rattle.control_list.specs.Seen.{seen};
+ghost use Rattle.control_mgr.specs.Fields.{with_highlight};
+ghost use Rattle.control_mgr.specs.Seen.{seen};
 ghost use Rattle.control_mgr.specs.ControlDesks.{index_of};
 ghost use Rattle.control_mgr.specs.ControlSteps.{IsControlStep, IsHighlighted, dragged, highlight_after, highlight_of, is_part, is_thumb, released_setting, tracked_part};
 ghost use Rattle.control_mgr.specs.Damages.{IsPut, IsWhereRight};
@@ -72,12 +72,12 @@ fn is_part(part: ControlPart, found: Option<ControlPart>) -> bool
 impl Controls<TakenControl> {
     /// The part that is tracked, where the point lies in it.
     fn tracked_part(&self, at: usize, tracked: TrackedControl, point: Point) -> Option<ControlPart>
-        requires at { at < length self.now.list.controls.items }
+        requires at { at < length self.now.list.items.items }
         requires settled { AreSettled (records_of ⟦<TakenControl as DefinedControl>⟧.control_loan self.now) }
         requires point { in_plane point ≡ true }
         ensures { result ≡ tracked_part tracked (slice_get (records_of ⟦<TakenControl as DefinedControl>⟧.control_loan self.now) at) point }
     {
-        let control = &self.list.controls[at];
+        let control = &self.list.items[at];
         let inside = if is_thumb(tracked.part) {
             is_within(control, SLOP, point)
         } else {
@@ -88,18 +88,18 @@ impl Controls<TakenControl> {
 
     /// The setting of a control whose thumb was dragged so far.
     fn dragged(&self, at: usize, tracked: TrackedControl, point: Point) -> ControlValues
-        requires at { at < length self.now.list.controls.items }
+        requires at { at < length self.now.list.items.items }
         requires settled { AreSettled (records_of ⟦<TakenControl as DefinedControl>⟧.control_loan self.now) }
         requires from { in_plane tracked.from ≡ true }
         requires point { in_plane point ≡ true }
         ensures { IfSome (slice_get (records_of ⟦<TakenControl as DefinedControl>⟧.control_loan self.now) at) (λ c. result ≡ dragged tracked point c) }
     {
-        let control = &self.list.controls[at];
-        let from = local(tracked.from, control.place);
-        let to = local(point, control.place);
-        let mut values = control.values;
+        let control = &self.list.items[at];
+        let from = local(tracked.from, control.kept.place);
+        let to = local(point, control.kept.place);
+        let mut values = control.kept.values;
         values
-            .set_value(i32::from(control.definition.thumb_value(from, to)))
+            .set_value(i32::from(control.kept.definition.thumb_value(from, to)))
             .unwrap();
         values
     }
@@ -112,7 +112,7 @@ impl Controls<TakenControl> {
         point: Point,
         part: Option<ControlPart>,
     ) -> ControlValues
-        requires at { at < length self.now.list.controls.items }
+        requires at { at < length self.now.list.items.items }
         requires settled { AreSettled (records_of ⟦<TakenControl as DefinedControl>⟧.control_loan self.now) }
         requires from { in_plane tracked.from ≡ true }
         requires point { in_plane point ≡ true }
@@ -121,7 +121,7 @@ impl Controls<TakenControl> {
         if is_thumb(tracked.part) && part.is_some() {
             return self.dragged(at, tracked, point);
         }
-        self.list.controls[at].values
+        self.list.items[at].kept.values
     }
 
     /// Highlights a control, and draws it within the damage where it is not to be redrawn.
@@ -179,7 +179,7 @@ impl Controls<TakenControl> {
         if !pressed.point.is_in_range() {
             return Err(Refusal::OutOfRange);
         }
-        match part_tested(&self.list.controls[spot.control], pressed.point) {
+        match part_tested(&self.list.items[spot.control], pressed.point) {
             Some(part) => {
                 self.highlight_part(windows, spot, part, Highlight::of_part(part));
                 *activity = Activity::TrackingControl(TrackedControl {

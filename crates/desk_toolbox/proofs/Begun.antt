@@ -11,12 +11,12 @@ use Rattle.def_iface.specs.declared.taken_list.TakenList.{TakenList}
 use Rattle.def_iface.specs.Change as plain
 use Rattle.def_iface.specs.ControlMeaning.{ControlLoan}
 use Rattle.def_iface.specs.ListMeaning.{ListLoan}
-use Rattle.control_list.specs.Seen.{all_seen}
+use Rattle.control_mgr.specs.Seen.{all_seen}
 use Rattle.control_mgr.specs.ControlDesks.{controls_show}
 use Rattle.control_mgr.specs.WholeControls.{records_of}
 use Rattle.list_mgr.specs.ListDesks.{lists_show}
 use Rattle.list_mgr.specs.WholeLists as lists
-use Rattle.list_records.specs.Seen as seen_lists
+use Rattle.list_mgr.specs.Seen as seen_lists
 use Rattle.vis_update.specs.Records.{layered_window}
 use Rattle.window_mgr.specs.Records.{state_of, state_showing}
 use Rattle.def_iface.specs.Meaning.{Loan}
@@ -48,7 +48,7 @@ right_bare shows s none right = record {
 
 module _ {V : Type 0} {H : V → Type 0} (loan : Taken V H → Loan) {W : Type 0} {K : W → Type 0} (menu_loan : TakenMenu W K → MenuLoan) {U : Type 0} {J : U → Type 0} (control_loan : TakenControl U J → ControlLoan) {X : Type 0} {L : X → Type 0} (list_loan : TakenList X L → ListLoan) (width height bar : ℤ) (font : List ℕ) where
   has_just_begun : (t : Toolbox V U W X H J K L) (stocks : AllSlots) → AreAllFull stocks → IsEmptyDesk loan width height bar font t.windows stocks.windows → t.activity ≡ Idle → t.events ≡ first_events → AreNoMenus width height t.menus
-      → t.controls.list.controls.items ≡ [] → t.controls.list.next ≡ Some 1 → t.lists.list.lists.items ≡ [] → t.lists.list.next ≡ Some 1 → IsJustBegun (toolbox_state loan menu_loan control_loan list_loan t stocks)
+      → t.controls.list.items.items ≡ [] → t.controls.list.next ≡ Some 1 → t.lists.list.items.items ≡ [] → t.lists.list.next ≡ Some 1 → IsJustBegun (toolbox_state loan menu_loan control_loan list_loan t stocks)
   has_just_begun t stocks full empty idle events none bare next no_lists next_list =
       let windows = ap (λ (d : FullDesk). d.windows) empty.desk in
       record {
@@ -72,8 +72,8 @@ module _ {V : Type 0} {H : V → Type 0} (loan : Taken V H → Loan) {W : Type 0
       }
 
   pub begins : {E : Type 0} (events : Events) (menus : Menus W K) (r : Result (Toolbox V U W X H J K L) E) → IfOk r (λ t. (slots : List SlotView) → All IsFull slots → IsEmptyDesk loan width height bar font t.windows slots)
-      → IfOk r (λ t. t.activity ≡ Idle) → IfOk r (λ t. t.events ≡ events) → IfOk r (λ t. t.menus ≡ menus) → IfOk r (λ t. (t.controls.list.controls.items ≡ []) × (t.controls.list.next ≡ Some 1))
-      → IfOk r (λ t. (t.lists.list.lists.items ≡ []) × (t.lists.list.next ≡ Some 1)) → events ≡ first_events → AreNoMenus width height menus
+      → IfOk r (λ t. t.activity ≡ Idle) → IfOk r (λ t. t.events ≡ events) → IfOk r (λ t. t.menus ≡ menus) → IfOk r (λ t. (t.controls.list.items.items ≡ []) × (t.controls.list.next ≡ Some 1))
+      → IfOk r (λ t. (t.lists.list.items.items ≡ []) × (t.lists.list.next ≡ Some 1)) → events ≡ first_events → AreNoMenus width height menus
       → IfOk r (λ t. (stocks : AllSlots) → AreAllFull stocks → IsJustBegun (toolbox_state loan menu_loan control_loan list_loan t stocks))
   begins events menus (Ok t) empty idle kept same bare bare_lists are_first none = λ stocks full.
       has_just_begun t stocks full (empty stocks.windows full.windows) idle (kept ∙ are_first) (subst (λ m. AreNoMenus width height m) (sym same) none) bare.0 bare.1 bare_lists.0 bare_lists.1

@@ -5,7 +5,7 @@ use Rattle.std.proofs.lemmas.List.Elements.{All-head, All-tail, All-weaker}
 use Rattle.std.specs.Prelude.{All}
 use Rattle.tb_geom.specs.declared.refusal.Refusal.{Refusal}
 use Rattle.def_iface.specs.News.{News, told_title, told_highlighted, told_tracked}
-use Rattle.control_list.specs.Lists.{controls_of}
+use Rattle.window_items.specs.Items.{items_of}
 use Rattle.desk_call.specs.declared.frame.FrameCall.{FrameCall}
 use Rattle.desk_call.specs.declared.frame.FrameReply.{FrameReply}
 use Rattle.desk_call.specs.declared.activity.Standing.{Standing}
@@ -32,7 +32,6 @@ use Rattle.control_mgr.specs.WholeControls.{AreWholeControls}
 use Rattle.list_mgr.specs.ListDesks.{KeptList, ListsState, lists_show}
 use Rattle.list_mgr.specs.ListSteps.{AreListLayers}
 use Rattle.list_mgr.specs.WholeLists.{AreWholeLists}
-use Rattle.list_records.specs.Lists.{lists_of}
 use Rattle.menu_mgr.specs.MenuSteps.{IsMenuStep}
 use Rattle.menu_mgr.proofs.MenuKeeps.{menu_keeps}
 use Rattle.desk_toolbox.specs.Reached.{AreContentsRight}
@@ -59,7 +58,7 @@ still before after desk controls lists was = record {
 
 -- a window's layers begin with its controls'
 abbrev pub joined_to : List ControlRecord → Bond
-joined_to cs n floating ls = AreLayersOf (controls_of n cs) ls
+joined_to cs n floating ls = AreLayersOf (items_of n cs) ls
 
 pub whole_on : (s : ControlsState) (ws vs : List WindowRecord) → ((x : ℕ) → copies x ws ≤ copies x vs) → Every (joined_to s.controls) vs → AreWholeControls ws s → AreWholeControls vs s
 whole_on s ws vs more every whole = record {
@@ -78,7 +77,7 @@ joined_every s ws whole = all_every (joined_to s.controls) ws whole.joined
 
 -- so are whole lists
 abbrev pub listed_to : List KeptList → Bond
-listed_to ls n floating layers = AreListLayers (lists_of n ls) layers
+listed_to ls n floating layers = AreListLayers (items_of n ls) layers
 
 pub lists_on : (s : ListsState) (ws vs : List WindowRecord) → ((x : ℕ) → copies x ws ≤ copies x vs) → Every (listed_to s.lists) vs → AreWholeLists ws s → AreWholeLists vs s
 lists_on s ws vs more every whole = record {
@@ -96,28 +95,28 @@ pub listed_every : (s : ListsState) (ws : List WindowRecord) → AreWholeLists w
 listed_every s ws whole = all_every (listed_to s.lists) ws whole.joined
 
 -- a window that is not there has no lists
-pub no_lists_of_missing : (n : ℕ) (ls : List KeptList) (ws : List WindowRecord) → All (λ l. is_missing l.window ws ≡ false) ls → copies n ws ≡ 0 → lists_of n ls ≡ []
+pub no_lists_of_missing : (n : ℕ) (ls : List KeptList) (ws : List WindowRecord) → All (λ l. is_missing l.window ws ≡ false) ls → copies n ws ≡ 0 → items_of n ls ≡ []
 no_lists_of_missing n [] ws there none = refl
 no_lists_of_missing n (l ∷ ls) ws there none =
     by_this (l.window == n) refl
     (no_lists_of_missing n ls ws (All-tail (λ (l : KeptList). is_missing l.window ws ≡ false) l ls there) none)
     (found_counts l.window ws (All-head (λ (l : KeptList). is_missing l.window ws ≡ false) l ls there))
   where
-    by_this : (b : Bool) → (l.window == n) ≡ b → lists_of n ls ≡ [] → 1 ≤ copies l.window ws → (if b then l ∷ lists_of n ls else lists_of n ls) ≡ []
+    by_this : (b : Bool) → (l.window == n) ≡ b → items_of n ls ≡ [] → 1 ≤ copies l.window ws → (if b then l ∷ items_of n ls else items_of n ls) ≡ []
     by_this true same rest some =
         let its : 1 ≤ copies n ws = subst (λ m. 1 ≤ copies m ws) (eqb-true l.window n same) some in
         absurd (omega arith)
     by_this false other rest some = rest
 
 -- nor has it controls
-pub none_of_missing : (n : ℕ) (cs : List ControlRecord) (ws : List WindowRecord) → All (λ c. is_missing c.window ws ≡ false) cs → copies n ws ≡ 0 → controls_of n cs ≡ []
+pub none_of_missing : (n : ℕ) (cs : List ControlRecord) (ws : List WindowRecord) → All (λ c. is_missing c.window ws ≡ false) cs → copies n ws ≡ 0 → items_of n cs ≡ []
 none_of_missing n [] ws there none = refl
 none_of_missing n (c ∷ cs) ws there none =
     by_this (c.window == n) refl
     (none_of_missing n cs ws (All-tail (λ (c : ControlRecord). is_missing c.window ws ≡ false) c cs there) none)
     (found_counts c.window ws (All-head (λ (c : ControlRecord). is_missing c.window ws ≡ false) c cs there))
   where
-    by_this : (b : Bool) → (c.window == n) ≡ b → controls_of n cs ≡ [] → 1 ≤ copies c.window ws → (if b then c ∷ controls_of n cs else controls_of n cs) ≡ []
+    by_this : (b : Bool) → (c.window == n) ≡ b → items_of n cs ≡ [] → 1 ≤ copies c.window ws → (if b then c ∷ items_of n cs else items_of n cs) ≡ []
     by_this true same rest some =
         let its : 1 ≤ copies n ws = subst (λ m. 1 ≤ copies m ws) (eqb-true c.window n same) some in
         absurd (omega arith)

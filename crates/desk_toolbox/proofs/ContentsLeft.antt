@@ -6,7 +6,7 @@ use Rattle.std.proofs.lemmas.List.Elements.{All-nil, All-weaker}
 use Rattle.std.specs.Prelude.{All}
 use Rattle.tb_geom.specs.declared.refusal.Refusal.{Refusal}
 use Rattle.tb_geom.specs.Points.{PixelSet}
-use Rattle.control_list.specs.Lists.{controls_of, is_in}
+use Rattle.window_items.specs.Items.{items_of, is_in}
 use Rattle.desk_call.specs.declared.control.ControlCall.{ControlCall}
 use Rattle.desk_call.specs.declared.control.ControlReply.{ControlReply}
 use Rattle.desk_call.specs.declared.update.Layers.TheVariants.{Controls}
@@ -36,7 +36,6 @@ use Rattle.list_mgr.proofs.ListsBars.{step_keeps}
 use Rattle.list_mgr.proofs.ListsCalled.{list_keeps}
 use Rattle.list_mgr.proofs.ListsKept.{IsRightLists}
 use Rattle.list_mgr.proofs.ListsLeft as lists
-use Rattle.list_records.specs.Lists as records
 use Rattle.desk_call.specs.declared.list.ListCall.{ListCall}
 use Rattle.desk_call.specs.declared.list.ListReply.{ListReply}
 use Rattle.control_mgr.proofs.ControlsFollowed.{followed_right, whole_left}
@@ -195,13 +194,13 @@ module _ (call : WindowCall) (answer : WindowReply) (before : ToolboxState) (mid
     others : All (λ c. is_in d c ≡ false → is_missing c.window told.desk.windows ≡ false) cs
     others = All-weaker (λ (c : ControlRecord). is_missing c.window ws ≡ false) (λ (c : ControlRecord). is_in d c ≡ false → is_missing c.window told.desk.windows ≡ false) (λ c. elsewhere c.window) cs was.controls.somewhere
 
-    other_lists : All (λ l. records.is_in d l ≡ false → is_missing l.window told.desk.windows ≡ false) ls
-    other_lists = All-weaker (λ (l : KeptList). is_missing l.window ws ≡ false) (λ (l : KeptList). records.is_in d l ≡ false → is_missing l.window told.desk.windows ≡ false) (λ l. elsewhere l.window) ls was.lists.somewhere
+    other_lists : All (λ l. is_in d l ≡ false → is_missing l.window told.desk.windows ≡ false) ls
+    other_lists = All-weaker (λ (l : KeptList). is_missing l.window ws ≡ false) (λ (l : KeptList). is_in d l ≡ false → is_missing l.window told.desk.windows ≡ false) (λ l. elsewhere l.window) ls was.lists.somewhere
 
-    joined_all : All (λ w. AreLayersOf (controls_of w.serial cs) w.layers) told.desk.windows
+    joined_all : All (λ w. AreLayersOf (items_of w.serial cs) w.layers) told.desk.windows
     joined_all = every_all (joined_to cs) told.desk.windows joined
 
-    listed_all : All (λ w. AreListLayers (records.lists_of w.serial ls) w.layers) told.desk.windows
+    listed_all : All (λ w. AreListLayers (items_of w.serial ls) w.layers) told.desk.windows
     listed_all = every_all (listed_to ls) told.desk.windows listed
 
     left_controls : AreWholeControls told.desk.windows after.controls

@@ -9,7 +9,7 @@ use Rattle.desk_call.specs.declared.list.ListCall.{ListCall}
 use Rattle.desk_call.specs.declared.list.ListCall.TheVariants.{GetCell, IsSelected, FirstSelected, NextCell, Search}
 use Rattle.desk_call.specs.declared.list.ListReply.{ListReply}
 use Rattle.desk_call.specs.Gates.{gate, list_standing}
-use Rattle.list_records.specs.Lists.{are_before, count_of, lists_of}
+use Rattle.window_items.specs.Items.{are_before, count_of, items_of}
 use Rattle.vis_update.specs.Records.{WindowRecord}
 use Rattle.window_mgr.specs.FullDesk.{FullDesk}
 use Rattle.window_mgr.specs.Refused.{is_missing}
@@ -104,7 +104,7 @@ no_lists_whole windows s bare none next full = record {
   given = (λ i. are_before (next i) (none i));
   somewhere = All-same (λ (l : KeptList). is_missing l.window windows ≡ false) s.lists [] none (All-nil (λ (l : KeptList). is_missing l.window windows ≡ false));
   few = λ t. subst (λ ls. count_of t ls ≤ most_lists) (sym none) (omega arith);
-  joined = All-same (λ (w : WindowRecord). AreListLayers (lists_of w.serial s.lists) w.layers) windows [] bare (All-nil (λ (w : WindowRecord). AreListLayers (lists_of w.serial s.lists) w.layers));
+  joined = All-same (λ (w : WindowRecord). AreListLayers (items_of w.serial s.lists) w.layers) windows [] bare (All-nil (λ (w : WindowRecord). AreListLayers (items_of w.serial s.lists) w.layers));
   stocked = subst (λ own. AreStocked (λ (d : ListDefinition). d.stage) (slots_of own) s.stock) (sym none) (λ k. none_used_at (λ (d : ListDefinition). d.stage) s.stock k full);
 }
 

@@ -33,8 +33,8 @@ windows_go_by_records s h = λ k d within.
     let same : news_of w ≡ news_by_record w = λ i. record (news_of w) { highlighted = knows.0 i; zoomed = knows.1 i } in
     subst (λ (all : AllNews). GoesBy all w.definition) same (h.live k d within).goes_by
 
-pub controls_go_by_records : (s : ToolboxState) → AreContentsRight s → All (λ c. ControlGoesBy (news_of_control c) c.definition.definition) s.controls.controls
+pub controls_go_by_records : (s : ToolboxState) → AreContentsRight s → All (λ c. ControlGoesBy (news_of_control c) c.kept.definition.definition) s.controls.controls
 controls_go_by_records s right = λ k d within. (right.controls.settled k d within).goes_by
 
-pub lists_go_by_records : (s : ToolboxState) → AreContentsRight s → All (λ l. ListGoesBy (cell_size l.view) (not l.flags.no_nil_hilite) l.definition.definition) s.lists.lists
+pub lists_go_by_records : (s : ToolboxState) → AreContentsRight s → All (λ l. ListGoesBy (cell_size l.kept.view) (not l.kept.flags.no_nil_hilite) l.kept.definition.definition) s.lists.lists
 lists_go_by_records s right = λ k d within. (right.lists.settled k d within).goes_by

@@ -7,8 +7,9 @@ use Rattle.tb_geom.specs.declared.refusal.Refusal.{Refusal}
 use Rattle.tb_geom.specs.Rects.{in_plane}
 use Rattle.tb_geom.specs.Refusals.{first_refusal}
 use Rattle.control_values.specs.declared.part.ControlPart.{ControlPart}
-use Rattle.control_list.specs.Lists.{are_before, controls_of, count_of, with_highlight}
-use Rattle.control_list.proofs.WindowLemmas.{control_index-edit_at}
+use Rattle.window_items.specs.Items.{are_before, items_of, count_of}
+use Rattle.control_mgr.specs.Fields.{with_highlight}
+use Rattle.window_items.proofs.WindowLemmas.{item_index-edit_at}
 use Rattle.def_iface.specs.declared.window_def.Stage.{Stage}
 use Rattle.def_iface.specs.ControlMeaning.{ControlDefinition}
 use Rattle.def_iface.specs.Slots.{IsFull, SlotOf}
@@ -137,7 +138,7 @@ module _ (before after : ControlDesk) where
   index_stays c k h anew =
       ap (λ (s : ControlsState). index_of k s.controls) anew.changed.state
       ∙ ap (index_of k) anew.changed.changed.controls
-      ∙ control_index-edit_at (retold (with_highlight h) anew.changed.changed.definition) (λ x. refl) (λ x. refl) k.window k.control anew.changed.at before.controls.controls
+      ∙ item_index-edit_at (retold (with_highlight h) anew.changed.changed.definition) (λ x. refl) (λ x. refl) k.window k.control anew.changed.at before.controls.controls
 
   index_lit : (thumb : Bool) (c k : ControlOf) (h : ℕ) → IsHighlighted thumb c h before after → index_of k after.controls.controls ≡ index_of k before.controls.controls
   index_lit true c k h same = ap (λ (s : ControlsState). index_of k s.controls) same.controls
@@ -303,6 +304,6 @@ none_whole windows s bare none next full = record {
   given = (λ i. are_before (next i) (none i));
   somewhere = All-same (λ (c : ControlRecord). is_missing c.window windows ≡ false) s.controls [] none (All-nil (λ (c : ControlRecord). is_missing c.window windows ≡ false));
   few = λ t. subst (λ cs. count_of t cs ≤ most_controls) (sym none) (omega arith);
-  joined = All-same (λ (w : WindowRecord). AreLayersOf (controls_of w.serial s.controls) w.layers) windows [] bare (All-nil (λ (w : WindowRecord). AreLayersOf (controls_of w.serial s.controls) w.layers));
+  joined = All-same (λ (w : WindowRecord). AreLayersOf (items_of w.serial s.controls) w.layers) windows [] bare (All-nil (λ (w : WindowRecord). AreLayersOf (items_of w.serial s.controls) w.layers));
   stocked = subst (λ own. AreStocked (λ (d : ControlDefinition). d.stage) (slots_of own) s.stock) (sym none) (λ k. none_used_at (λ (d : ControlDefinition). d.stage) s.stock k full);
 }

@@ -318,14 +318,14 @@ pub fn windows_of_a_reached_desk_are_shown_by_their_records()
 #[tactic(auto, using(crate::proofs::Shown::controls_go_by_records))]
 pub fn controls_are_shown_by_their_records()
     ensures { (s : ToolboxState) → AreContentsRight s
-        → All (λ c. ControlGoesBy (news_of_control c) c.definition.definition) s.controls.controls }
+        → All (λ c. ControlGoesBy (news_of_control c) c.kept.definition.definition) s.controls.controls }
 {}
 
 /// And each list: its definition goes by the size of its cells, and by its flag for empty ones.
 #[tactic(auto, using(crate::proofs::Shown::lists_go_by_records))]
 pub fn lists_are_shown_by_their_records()
     ensures { (s : ToolboxState) → AreContentsRight s
-        → All (λ l. ListGoesBy (cell_size l.view) (not l.flags.no_nil_hilite) l.definition.definition) s.lists.lists }
+        → All (λ l. ListGoesBy (cell_size l.kept.view) (not l.kept.flags.no_nil_hilite) l.kept.definition.definition) s.lists.lists }
 {}
 
 /// Over any run of a desk that just began, the activate events that are told of one window are in turn an activation and a

@@ -146,8 +146,8 @@ impl Toolbox {
         ensures idle { IfOk result (λ t. t.activity ≡ Idle) }
         ensures events { IfOk result (λ t. t.events ≡ parts.events) }
         ensures menus { IfOk result (λ t. t.menus ≡ parts.menus) }
-        ensures controls { IfOk result (λ t. (t.controls.list.controls.items ≡ []) × (t.controls.list.next ≡ Some 1)) }
-        ensures lists { IfOk result (λ t. (t.lists.list.lists.items ≡ []) × (t.lists.list.next ≡ Some 1)) }
+        ensures controls { IfOk result (λ t. (t.controls.list.items.items ≡ []) × (t.controls.list.next ≡ Some 1)) }
+        ensures lists { IfOk result (λ t. (t.lists.list.items.items ≡ []) × (t.lists.list.next ≡ Some 1)) }
         ensures whole { IfOk result (λ t. (stocks : AllSlots) → AreAllFull stocks → IsWholeToolbox ⟦<Taken as Defined>⟧.loan ⟦<TakenMenu as DefinedMenu>⟧.menu_loan ⟦<TakenControl as DefinedControl>⟧.control_loan ⟦<TakenList as DefinedList>⟧.list_loan t stocks) }
         ensures in_range { IfOk result (λ t. screens.is_screen width height bar ≡ true) }
         ensures refused { IfErr result (λ e. (e.font ≡ font)

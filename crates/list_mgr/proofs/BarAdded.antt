@@ -4,7 +4,7 @@ use Rattle.std.specs.Prelude.{All}
 use Rattle.tb_geom.specs.Pixels.{Pixels}
 use Rattle.tb_geom.specs.Rects.{is_in_range, moved_rect}
 use Rattle.tb_geom.specs.Refusals.{first_refusal}
-use Rattle.control_list.specs.Seen.{all_seen}
+use Rattle.control_mgr.specs.Seen.{all_seen}
 use Rattle.def_iface.specs.declared.part.Part.TheVariants as part
 use Rattle.def_iface.specs.declared.taken.Taken.{Taken}
 use Rattle.def_iface.specs.declared.taken_control.TakenControl.{TakenControl}

@@ -30,7 +30,7 @@ use Rattle.control_mgr.specs.Ending.{IsPlannedEnd, IsPutIfPlanned, IsReadyToEnd,
 use Rattle.control_mgr.specs.WholeControls.{AreWholeControls, LeavesOver, controls_state}
 use Rattle.control_mgr.proofs.ControlFacts.{control_facts}
 use Rattle.control_mgr.proofs.ControlsKept.{control_behind}
-use Rattle.control_mgr.proofs.Edited as edited
+use Rattle.window_items.proofs.EditLemmas as edited
 use Rattle.control_mgr.proofs.Places.{found_names}
 use Rattle.control_mgr.proofs.Steps.{first_fails, one_fails}
 use Rattle.list_mgr.specs.BarEnds.{IsBarGoneOver, IsBarPlanned, IsBarToEnd, bar_serial}

@@ -3,7 +3,7 @@ use Rattle.std.proofs.Common.{◌≡◌, ℕ, ◌+◌, ◌^◌, ◌<◌, ◌≤�
 use Rattle.std.specs.Prelude.{nat_lt, vec_capacity}
 use Rattle.std.proofs.lemmas.Bool.{ltb-true}
 use Rattle.std.proofs.lemmas.Option.{cond_some, same_Some}
-use Rattle.control_list.specs.Lists.{count_of, serial_after}
+use Rattle.window_items.specs.Items.{count_of, serial_after}
 use Rattle.def_iface.specs.declared.taken.Taken.{Taken}
 use Rattle.def_iface.specs.declared.taken_control.TakenControl.{TakenControl}
 use Rattle.def_iface.specs.declared.taken_list.TakenList.{TakenList}
@@ -162,7 +162,7 @@ module _ {V : Type 0} {H : V → Type 0} (loan : Taken V H → Loan) {W : Type 0
           (second_may w lies s s_is one
           (subst (λ (x : NewControl × Ticket). IsGrown x.0 d.definition x.1 w.layers one) (λ i. ((new_is ∙ ap (bar_control n.window) b_is) i, (j_is ∙ ap (bar_ticket k.window s k.controls) b_is) i)) grown))
 
-      pub so_planned : (c1 : Controls (TakenControl W K)) (m1 : Lists (TakenList X L)) → IsRoomier c c1 → length c1.list.controls.items + 2 ≤ vec_capacity c1.list.controls → length m1.list.lists.items < vec_capacity m1.list.lists
+      pub so_planned : (c1 : Controls (TakenControl W K)) (m1 : Lists (TakenList X L)) → IsRoomier c c1 → length c1.list.items.items + 2 ≤ vec_capacity c1.list.items → length m1.list.items.items < vec_capacity m1.list.items
           → (a : Area) → a ≡ get_or t.areas.items k.window a
           → ((u : WindowManager V H) (r : Controls (TakenControl W K)) → IsReadyToAdd loan control_loan new d.definition j w.layers a.update t u r → IsAddition loan control_loan new d.definition u r one)
           → (two : Addition) → IsGrown next e.definition l one.layers two

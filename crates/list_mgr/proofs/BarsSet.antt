@@ -11,8 +11,9 @@ use Rattle.def_iface.specs.ListMeaning.{ListLoan}
 use Rattle.def_iface.specs.Meaning.{Loan}
 use Rattle.desk_call.specs.declared.activity.Activity.TheVariants.{Idle}
 use Rattle.desk_call.specs.declared.list.ListOf.{ListOf}
-use Rattle.list_records.specs.declared.list_record.ListRecord.{ListRecord}
-use Rattle.list_records.specs.Seen.{seen}
+use Rattle.window_items.specs.declared.item.Item.{Item}
+use Rattle.list_mgr.specs.declared.list_record.ListRecord.{ListRecord}
+use Rattle.list_mgr.specs.Seen.{seen}
 use Rattle.list_view.specs.Bars.{horizontal_setting, vertical_setting}
 use Rattle.window_mgr.specs.declared.manager.WindowManager.{WindowManager}
 use Rattle.window_mgr.specs.DeskStates.{Opened}
@@ -50,9 +51,9 @@ module _ {W : Type 0} {K : W → Type 0} (control_loan : TakenControl W K → Co
 
   -- both bars of a list
   module _ {X : Type 0} {L : X → Type 0} (list_loan : TakenList X L → ListLoan) (l : ListOf) (m : Lists (TakenList X L)) (x : KeptList) (there : list_of l (records_of list_loan m) ≡ Some x)
-      (window : ℕ) (named : window ≡ l.window) (down across : Setting) (down_is : down ≡ vertical_setting x.cells.rows x.view) (across_is : across ≡ horizontal_setting x.cells.columns x.view) where
-    pub bars_set : (t u v : WindowManager V H) (c d e : Controls (TakenControl W K)) → IsBarSetOver control_loan loan window x.vertical down t c u d
-        → IsBarSetOver control_loan loan window x.horizontal across u d v e → LeavesLists list_loan loan control_loan (IsWhereRight (AreBarsSet l)) t c m v e m
+      (window : ℕ) (named : window ≡ l.window) (down across : Setting) (down_is : down ≡ vertical_setting x.kept.cells.rows x.kept.view) (across_is : across ≡ horizontal_setting x.kept.cells.columns x.kept.view) where
+    pub bars_set : (t u v : WindowManager V H) (c d e : Controls (TakenControl W K)) → IsBarSetOver control_loan loan window x.kept.vertical down t c u d
+        → IsBarSetOver control_loan loan window x.kept.horizontal across u d v e → LeavesLists list_loan loan control_loan (IsWhereRight (AreBarsSet l)) t c m v e m
     bars_set t u v c d e first second held kept o slots whole controls lists =
         let once = first o slots held (lists_state list_loan m kept) whole controls in
         let twice = second o slots held (lists_state list_loan m kept) once.0 once.1 in
@@ -65,13 +66,13 @@ module _ {W : Type 0} {K : W → Type 0} (control_loan : TakenControl W K → Co
           subst (λ ws. AreWholeLists ws (lists_state list_loan m kept)) (sym windows) lists,
           λ right.
               let its = named_settled l (records_of list_loan m) x lists.settled there in
-              let first : IsBarSet l.window x.vertical (vertical_setting x.cells.rows x.view) before mid =
-              subst (λ (k : ℕ × Setting). IsBarSet k.0 x.vertical k.1 before mid) (λ i. (named i, down_is i)) (once.2.set right) in
+              let first : IsBarSet l.window x.kept.vertical (vertical_setting x.kept.cells.rows x.kept.view) before mid =
+              subst (λ (k : ℕ × Setting). IsBarSet k.0 x.kept.vertical k.1 before mid) (λ i. (named i, down_is i)) (once.2.set right) in
               let then : IsRightLists mid = bar_set_keeps before mid (record { desk = record { right = right; shows = refl; whole = controls }; lists = lists })
-              l.window x.vertical (vertical_setting x.cells.rows x.view) (bar_may x.view.down x.cells.rows x.view.first.row its.grid.rows_within) first in (
+              l.window x.kept.vertical (vertical_setting x.kept.cells.rows x.kept.view) (bar_may x.kept.view.down x.kept.cells.rows x.kept.view.first.row its.grid.rows_within) first in (
                 x,
                 there,
-                (mid, first, subst (λ (k : ℕ × Setting). IsBarSet k.0 x.horizontal k.1 mid after) (λ i. (named i, across_is i)) (twice.2.set then.desk.right)),
+                (mid, first, subst (λ (k : ℕ × Setting). IsBarSet k.0 x.kept.horizontal k.1 mid after) (λ i. (named i, across_is i)) (twice.2.set then.desk.right)),
               ),
         )
 
@@ -84,14 +85,14 @@ module _ {W : Type 0} {K : W → Type 0} (control_loan : TakenControl W K → Co
 
   -- those of a list that stands here, as the code reads it
   module _ {X : Type 0} {L : X → Type 0} (list_loan : TakenList X L → ListLoan) (l : ListOf) (t : WindowManager V H) (m : Lists (TakenList X L)) (s : Spot) (is : IsSpotOf loan list_loan l t m s)
-      (x : ListRecord (TakenList X L)) (read : x ≡ get_or m.list.lists.items s.list x) where
+      (x : Item (ListRecord (TakenList X L))) (read : x ≡ get_or m.list.items.items s.list x) where
     there : slice_get (records_of list_loan m) s.list ≡ Some (seen list_loan x)
     there = list_read loan list_loan l t m s is x read
 
-    pub bars_set_there : (rows columns : ℕ) (down across : Setting) → rows ≡ x.cells.rows → columns ≡ x.cells.columns → down ≡ vertical_setting rows x.view → across ≡ horizontal_setting columns x.view
-        → (u v : WindowManager V H) (c d e : Controls (TakenControl W K)) → IsBarSetOver control_loan loan x.window x.vertical down t c u d → IsBarSetOver control_loan loan x.window x.horizontal across u d v e
+    pub bars_set_there : (rows columns : ℕ) (down across : Setting) → rows ≡ x.kept.cells.rows → columns ≡ x.kept.cells.columns → down ≡ vertical_setting rows x.kept.view → across ≡ horizontal_setting columns x.kept.view
+        → (u v : WindowManager V H) (c d e : Controls (TakenControl W K)) → IsBarSetOver control_loan loan x.window x.kept.vertical down t c u d → IsBarSetOver control_loan loan x.window x.kept.horizontal across u d v e
         → LeavesLists list_loan loan control_loan (IsWhereRight (AreBarsSet l)) t c m v e m
     bars_set_there rows columns down across rows_are columns_are down_is across_is =
         bars_set list_loan l m (seen list_loan x) (ap (option_and_then (slice_get (records_of list_loan m))) is.list ∙ there)
         x.window (found_names l.window l.list s.list (records_of list_loan m) (seen list_loan x) is.list there).0 down across
-        (down_is ∙ ap (λ n. vertical_setting n x.view) rows_are) (across_is ∙ ap (λ n. horizontal_setting n x.view) columns_are) t
+        (down_is ∙ ap (λ n. vertical_setting n x.kept.view) rows_are) (across_is ∙ ap (λ n. horizontal_setting n x.kept.view) columns_are) t

@@ -27,19 +27,19 @@ pub record MayBecomeWider (flags : SelectionFlags) (old new : Grid) : Type 0 whe
 
 -- what holds of a settled list, however far its view is scrolled
 pub record IsSettledBut (l : KeptList) : Type 0 where
-  pub live : l.definition.definition.stage ≡ Live
-  pub told : l.definition.definition.size ≡ cell_size l.view
-  pub goes_by : ListGoesBy (cell_size l.view) (not l.flags.no_nil_hilite) l.definition.definition
-  pub view : IsView l.view
-  pub grid : IsGrid l.cells
-  pub short : bytes_held l.cells.contents ≤ 32000
-  pub single : l.flags.only_one ≡ true → count_selected l.cells ≤ 1
+  pub live : l.kept.definition.definition.stage ≡ Live
+  pub told : l.kept.definition.definition.size ≡ cell_size l.kept.view
+  pub goes_by : ListGoesBy (cell_size l.kept.view) (not l.kept.flags.no_nil_hilite) l.kept.definition.definition
+  pub view : IsView l.kept.view
+  pub grid : IsGrid l.kept.cells
+  pub short : bytes_held l.kept.cells.contents ≤ 32000
+  pub single : l.kept.flags.only_one ≡ true → count_selected l.kept.cells ≤ 1
 
 pub settled_but : (x : KeptList) → IsSettledList x → IsSettledBut x
 settled_but x its = record { live = its.live; told = its.told; goes_by = its.goes_by; view = its.view; grid = its.grid; short = its.short; single = its.single }
 
 -- a list that was given other cells
-pub grid_settles : (g : Grid → Grid) (x : KeptList) → IsSettledList x → MayBecome x.flags x.cells (g x.cells) → IsSettledBut (with_grid g x)
+pub grid_settles : (g : Grid → Grid) (x : KeptList) → IsSettledList x → MayBecome x.kept.flags x.kept.cells (g x.kept.cells) → IsSettledBut (with_grid g x)
 grid_settles g x its may = record {
   live = its.live;
   told = its.told;
@@ -58,12 +58,12 @@ pub bound_least : (a : Axis) (k : ℕ) → pos 0 ≤ℤ bound a k
 bound_least a k = omega (arith, ints, clamps)
 
 -- a list that was given other cells, and no fewer lines
-pub grid_stays : (g : Grid → Grid) (x : KeptList) → IsSettledList x → MayBecomeWider x.flags x.cells (g x.cells) → IsSettledList (with_grid g x)
+pub grid_stays : (g : Grid → Grid) (x : KeptList) → IsSettledList x → MayBecomeWider x.kept.flags x.kept.cells (g x.kept.cells) → IsSettledList (with_grid g x)
 grid_stays g x its may =
     let across = its.scrolled.across in
     let down = its.scrolled.down in
-    let columns = bound_more x.view.across x.cells.columns (g x.cells).columns may.columns in
-    let rows = bound_more x.view.down x.cells.rows (g x.cells).rows may.rows in
+    let columns = bound_more x.kept.view.across x.kept.cells.columns (g x.kept.cells).columns may.columns in
+    let rows = bound_more x.kept.view.down x.kept.cells.rows (g x.kept.cells).rows may.rows in
     record {
       live = its.live;
       told = its.told;

@@ -19,12 +19,14 @@ use Rattle.def_iface.specs.Meaning.{Loan}
 use Rattle.def_iface.specs.Stocked.{SlotView}
 use Rattle.def_iface.proofs.Owning.{same_number}
 use Rattle.list_cells.specs.Grids.{Grid}
-use Rattle.list_records.specs.declared.list_record.ListRecord.{ListRecord}
-use Rattle.list_records.specs.Lists.{edit_at, with_cells}
-use Rattle.list_records.specs.Seen.{all_seen, seen}
-use Rattle.list_records.proofs.ListLemmas.{set_is_edit}
-use Rattle.list_records.proofs.SeenLemmas.{length-seen, with_cells-seen}
-use Rattle.list_records.proofs.WindowLemmas.{list_index-edit_at}
+use Rattle.window_items.specs.declared.item.Item.{Item}
+use Rattle.list_mgr.specs.declared.list_record.ListRecord.{ListRecord}
+use Rattle.window_items.specs.Items.{edit_at}
+use Rattle.list_mgr.specs.Fields.{with_cells}
+use Rattle.list_mgr.specs.Seen.{all_seen, seen, kept_seen}
+use Rattle.window_items.proofs.ListLemmas.{set_is_edit}
+use Rattle.window_items.proofs.SeenLemmas.{length-seen, edit_at-seen}
+use Rattle.window_items.proofs.WindowLemmas.{item_index-edit_at}
 use Rattle.layer_list.specs.Holders.{belongs_to}
 use Rattle.desk_call.specs.declared.list.ListCall.{ListCall}
 use Rattle.desk_call.specs.declared.list.ListOf.{ListOf}
@@ -47,11 +49,11 @@ use Rattle.list_mgr.specs.ListSteps.{IsChangedTo, IsLayerMarked, IsListChanged, 
 use Rattle.list_mgr.specs.Spots.{IsSpot, IsSpotOf}
 use Rattle.list_mgr.specs.WholeLists.{AreBeside, AreWholeLists, IsChangedOver, IsSettledList, list_desk, lists_state, records_of}
 use Rattle.list_mgr.specs.Within.{IsSameOutside, IsWhereRight}
-use Rattle.list_mgr.proofs.Drawn.{All-there}
-use Rattle.list_mgr.proofs.Edited.{Keeps, edit_alike, edit_nothing, there_edited, whole_edited}
+use Rattle.list_mgr.proofs.Edited.{Keeps, whole_edited}
 use Rattle.list_mgr.proofs.ListsFound.{with_own}
 use Rattle.list_mgr.proofs.Places.{found_names}
 use Rattle.list_mgr.proofs.Steps.{IsTold, list_named, list_there}
+use Rattle.window_items.proofs.EditLemmas.{All-there, edit_alike, edit_nothing, there_edited}
 
 pub same_item : (ls : List KeptList) (at : ℕ) (x y : KeptList) → slice_get ls at ≡ Some x → slice_get ls at ≡ Some y → x ≡ y
 same_item ls at x y e f = let both : Some x ≡ Some y = sym e ∙ f in cc
@@ -60,27 +62,27 @@ same_item ls at x y e f = let both : Some x ≡ Some y = sym e ∙ f in cc
 pub grid_keeps : (g : Grid → Grid) → Keeps (with_grid g)
 grid_keeps g = record { serial = λ x. refl; window = λ x. refl; definition = λ x. refl; layer = λ x k is. record { part = is.part; shown = is.shown; region = is.region; bounds = is.bounds } }
 
-pub grid_or_not : (changes : Bool) (g : Grid → Grid) (x : KeptList) → IsSameOrNot changes (g x.cells) x.cells → IsSameOrNot changes (with_grid g x) x
-grid_or_not true g x other = λ same. other (ap (λ (y : KeptList). y.cells) same)
+pub grid_or_not : (changes : Bool) (g : Grid → Grid) (x : KeptList) → IsSameOrNot changes (g x.kept.cells) x.kept.cells → IsSameOrNot changes (with_grid g x) x
+grid_or_not true g x other = λ same. other (ap (λ (y : KeptList). y.kept.cells) same)
 grid_or_not false g x same = ap (λ (cells : Grid). with_cells cells x) same
 
 -- ---- lists of which the cells of one were written over
 
 module _ {X : Type 0} {L : X → Type 0} (list_loan : TakenList X L → ListLoan) where
-  pub cells_written : (g : Grid → Grid) (xs : List (ListRecord (TakenList X L))) (at : ℕ) (x : ListRecord (TakenList X L)) (cells : Grid) → x ≡ get_or xs at x → at < length xs
-      → slice_get (all_seen list_loan xs) at ≡ Some (seen list_loan x) → cells ≡ g x.cells → all_seen list_loan (set xs at (record x { cells = cells })) ≡ edit_at (with_grid g) at (all_seen list_loan xs)
+  pub cells_written : (g : Grid → Grid) (xs : List (Item (ListRecord (TakenList X L)))) (at : ℕ) (x : Item (ListRecord (TakenList X L))) (cells : Grid) → x ≡ get_or xs at x → at < length xs
+      → slice_get (all_seen list_loan xs) at ≡ Some (seen list_loan x) → cells ≡ g x.kept.cells → all_seen list_loan (set xs at (with_cells cells x)) ≡ edit_at (with_grid g) at (all_seen list_loan xs)
   cells_written g xs at x cells read low there now =
       ap (all_seen list_loan) (set_is_edit (with_cells cells) xs at x read)
-      ∙ with_cells-seen list_loan cells at xs
+      ∙ edit_at-seen (kept_seen list_loan) (with_cells cells) (with_cells cells) (λ l. refl) at xs
       ∙ edit_alike (with_cells cells) (with_grid g) at (all_seen list_loan xs)
-      (λ y e. let same : seen list_loan x ≡ y = same_item (all_seen list_loan xs) at (seen list_loan x) y there e in ap (λ (k : Grid). with_cells k y) (now ∙ ap (λ (z : KeptList). g z.cells) same))
+      (λ y e. let same : seen list_loan x ≡ y = same_item (all_seen list_loan xs) at (seen list_loan x) y there e in ap (λ (k : Grid). with_cells k y) (now ∙ ap (λ (z : KeptList). g z.kept.cells) same))
 
   -- by what they were
-  pub cells_kept : (xs : List (ListRecord (TakenList X L))) (at : ℕ) (x : ListRecord (TakenList X L)) (cells : Grid) → x ≡ get_or xs at x → cells ≡ x.cells
-      → all_seen list_loan (set xs at (record x { cells = cells })) ≡ all_seen list_loan xs
+  pub cells_kept : (xs : List (Item (ListRecord (TakenList X L)))) (at : ℕ) (x : Item (ListRecord (TakenList X L))) (cells : Grid) → x ≡ get_or xs at x → cells ≡ x.kept.cells
+      → all_seen list_loan (set xs at (with_cells cells x)) ≡ all_seen list_loan xs
   cells_kept xs at x cells read same =
-      ap (λ (k : Grid). all_seen list_loan (set xs at (record x { cells = k }))) same
-      ∙ ap (λ (y : ListRecord (TakenList X L)). all_seen list_loan (set xs at y)) read
+      ap (λ (k : Grid). all_seen list_loan (set xs at (with_cells k x))) same
+      ∙ ap (λ (y : Item (ListRecord (TakenList X L))). all_seen list_loan (set xs at y)) read
       ∙ ap (all_seen list_loan) (set-get_or xs at x)
 
 -- ---- steps that change nothing
@@ -159,8 +161,8 @@ module _ {V : Type 0} {H : V → Type 0} (loan : Taken V H → Loan) {X : Type 0
   spot_of_after = record {
     window = is.window;
     there = is.there;
-    list = ap (index_of l) edited ∙ list_index-edit_at f keeps.window keeps.serial l.window l.list s.list (records_of list_loan m) ∙ is.list;
-    low = subst (λ k. s.list < k) (length-seen list_loan n.list.lists.items) (within (records_of list_loan n) s.list (f its.item) (there_after its.item its.there));
+    list = ap (index_of l) edited ∙ item_index-edit_at f keeps.window keeps.serial l.window l.list s.list (records_of list_loan m) ∙ is.list;
+    low = subst (λ k. s.list < k) (length-seen (kept_seen list_loan) n.list.items.items) (within (records_of list_loan n) s.list (f its.item) (there_after its.item its.there));
   }
 
   pub spot_after : IsSpot loan list_loan t n s
@@ -170,7 +172,7 @@ module _ {V : Type 0} {H : V → Type 0} (loan : Taken V H → Loan) {X : Type 0
   beside_after beside = record { slots = beside.slots; whole = whole_after (desk_of loan t []).windows beside.slots beside.whole }
 
   -- and is marked so still
-  pub mark_after : ((x : KeptList) → (f x).drawing ≡ x.drawing) → (mark : Option Pixels) → IsMark list_loan loan t m s mark → IsMark list_loan loan t n s mark
+  pub mark_after : ((x : KeptList) → (f x).kept.drawing ≡ x.kept.drawing) → (mark : Option Pixels) → IsMark list_loan loan t m s mark → IsMark list_loan loan t n s mark
   mark_after draws None (x, there, on) = (f x, there_after x there, draws x ∙ on)
   mark_after draws (Some update) ((x, there, off), region) = (
     (f x, there_after x there, draws x ∙ off),
@@ -259,7 +261,7 @@ pub grows_off : {V : Type 0} {H : V → Type 0} (loan : Taken V H → Loan) {X :
     (l : ListOf) (t : WindowManager V H) (m : Lists (TakenList X L)) (s : Spot) → IsSpotOf loan list_loan l t m s → IsDrawing list_loan false m s
     → (kept : List ListSlot) → is_drawing_off l (lists_state list_loan m kept) ≡ true
 grows_off loan list_loan l t m s is (x, there, off) kept =
-    ap (λ o. option_map_or (λ (y : KeptList). not y.drawing) o false) (list_named loan list_loan l t m s is x there) ∙ ap not off
+    ap (λ o. option_map_or (λ (y : KeptList). not y.kept.drawing) o false) (list_named loan list_loan l t m s is x there) ∙ ap not off
 
 -- what a call leaves is a step of another kind as well
 pub changed_as : {V : Type 0} {H : V → Type 0} (loan : Taken V H → Loan) {X : Type 0} {L : X → Type 0} (list_loan : TakenList X L → ListLoan)

@@ -15,8 +15,9 @@ use Rattle.list_cells.specs.declared.cell.Cell.{Cell}
 use Rattle.list_cells.specs.declared.click.SelectionFlags.{SelectionFlags}
 use Rattle.list_cells.specs.Blocks.{clicked_cell}
 use Rattle.list_cells.specs.Clicks.{keys_of}
-use Rattle.list_records.specs.declared.list_record.ListRecord.{ListRecord}
-use Rattle.list_records.specs.Seen.{seen}
+use Rattle.window_items.specs.declared.item.Item.{Item}
+use Rattle.list_mgr.specs.declared.list_record.ListRecord.{ListRecord}
+use Rattle.list_mgr.specs.Seen.{seen}
 use Rattle.desk_call.specs.declared.list.ListCall.TheVariants as asks
 use Rattle.desk_call.specs.declared.list.ListClick.{ListClick}
 use Rattle.desk_call.specs.declared.list.ListReply.TheVariants as reply
@@ -84,7 +85,7 @@ module _ {V : Type 0} {H : V → Type 0} (loan : Taken V H → Loan) {X : Type 0
         ∙ first_fails (not (in_plane k.point)) OutOfRange ((not (is_word k.modifiers), OutOfRange) ∷ []) (ap not inside)
         ∙ one_fails (not (is_word k.modifiers)) OutOfRange (ap not word)
 
-    module _ (x : ListRecord (TakenList X L)) (read : x ≡ get_or m.list.lists.items s.list x) (inside : in_plane k.point ≡ true) (word : is_word k.modifiers ≡ true) where
+    module _ (x : Item (ListRecord (TakenList X L))) (read : x ≡ get_or m.list.items.items s.list x) (inside : in_plane k.point ≡ true) (word : is_word k.modifiers ≡ true) where
       -- on no cell
       pub clicked_none : clicked_at k (seen list_loan x) ≡ None → IsChangedOver list_loan loan (IsListStep (asks.Click k) (Ok (reply.Clicked false))) t m t m
       clicked_none none o slots cs kept whole lists = (

@@ -10,8 +10,9 @@ use Rattle.def_iface.specs.declared.taken.Taken.{Taken}
 use Rattle.def_iface.specs.declared.taken_list.TakenList.{TakenList}
 use Rattle.def_iface.specs.ListMeaning.{ListLoan}
 use Rattle.def_iface.specs.Meaning.{Loan}
-use Rattle.list_records.specs.Lists.{edit_at, has_serial, with_drawing}
-use Rattle.list_records.proofs.ListLemmas.{length-edit_at}
+use Rattle.window_items.specs.Items.{edit_at, has_serial}
+use Rattle.list_mgr.specs.Fields.{with_drawing}
+use Rattle.window_items.proofs.ListLemmas.{length-edit_at}
 use Rattle.desk_call.specs.declared.list.ListCall.TheVariants as asks
 use Rattle.desk_call.specs.declared.list.ListDrawing.{ListDrawing}
 use Rattle.desk_call.specs.declared.list.ListReply.TheVariants as reply

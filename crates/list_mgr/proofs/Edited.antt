@@ -1,14 +1,13 @@
 -- What holds of lists between calls holds where one of them is changed that keeps its place among them.
-use Rattle.std.proofs.Common.{◌≡◌, ℕ, zero, suc, ◌≤◌, ◌&&◌, ◌||◌, ◌==◌, Bool, true, false, cond, List, [], ◌∷◌, Option, None, Some, refl, sym, ap, ◌∙◌, subst}
-use Rattle.std.specs.Prelude.{All, map, slice_get}
+use Rattle.std.proofs.Common.{◌≡◌, ℕ, zero, suc, ◌≤◌, ◌&&◌, ◌||◌, ◌==◌, Bool, true, false, List, [], ◌∷◌, Option, None, Some, refl, sym, ap, ◌∙◌, subst}
+use Rattle.std.specs.Prelude.{All, slice_get}
 use Rattle.std.specs.List.{AllZip, list_any}
 use Rattle.std.specs.Option.{option_and_then}
-use Rattle.std.proofs.lemmas.List.Elements.{All-cons, All-head, All-tail, All-weaker}
+use Rattle.std.proofs.lemmas.List.Elements.{All-weaker}
 use Rattle.def_iface.specs.ListMeaning.{ListDefinition, ListLoan}
 use Rattle.layer_list.specs.declared.layer.Layer.{Layer}
-use Rattle.list_records.specs.declared.list_record.ListRecord.{ListRecord}
-use Rattle.list_records.specs.Lists.{are_before, count_of, edit_at, has_serial, is_before, is_in_at, lists_of}
-use Rattle.list_records.proofs.WindowLemmas.{lists_of-edit_at, lists_of-edit_at_other}
+use Rattle.window_items.specs.Items.{edit_at, has_serial, is_in_at, items_of}
+use Rattle.window_items.proofs.WindowLemmas.{items_of-edit_at, items_of-edit_at_other}
 use Rattle.vis_update.specs.Records.{WindowRecord}
 use Rattle.window_mgr.specs.Refused.{is_missing}
 use Rattle.control_mgr.specs.InUse.{AreStocked}
@@ -17,47 +16,7 @@ use Rattle.list_mgr.specs.ListDesks.{KeptList, ListsState, index_of, list_of}
 use Rattle.list_mgr.specs.ListRefusals.{most_lists}
 use Rattle.list_mgr.specs.ListSteps.{AreListLayers, IsLayerOf}
 use Rattle.list_mgr.specs.WholeLists.{AreListsApart, AreSettled, AreWholeLists, IsSettledList}
-use Rattle.list_mgr.proofs.Drawn.{All-there}
-
-module _ {D : Type 0} (P : ListRecord D → Type 0) where
-  pub All-edit : (g : ListRecord D → ListRecord D) (i : ℕ) (xs : List (ListRecord D)) → All P xs → ((x : ListRecord D) → slice_get xs i ≡ Some x → P (g x)) → All P (edit_at g i xs)
-  All-edit g i [] h new = h
-  All-edit g zero (x ∷ xs) h new = All-cons P (g x) xs (new x refl) (All-tail P x xs h)
-  All-edit g (suc i) (x ∷ xs) h new = All-cons P x (edit_at g i xs) (All-head P x xs h) (All-edit g i xs (All-tail P x xs h) new)
-
-module _ {D : Type 0} where
-  -- two changes that make the same of the list at a place
-  pub edit_alike : (f g : ListRecord D → ListRecord D) (i : ℕ) (xs : List (ListRecord D)) → ((x : ListRecord D) → slice_get xs i ≡ Some x → f x ≡ g x) → edit_at f i xs ≡ edit_at g i xs
-  edit_alike f g i [] same = refl
-  edit_alike f g zero (x ∷ xs) same = ap (λ y. y ∷ xs) (same x refl)
-  edit_alike f g (suc i) (x ∷ xs) same = ap (λ ys. x ∷ ys) (edit_alike f g i xs same)
-
-  pub there_edited : (f : ListRecord D → ListRecord D) (i : ℕ) (xs : List (ListRecord D)) (x : ListRecord D) → slice_get xs i ≡ Some x → slice_get (edit_at f i xs) i ≡ Some (f x)
-  there_edited f i [] x e = absurd (cc)
-  there_edited f zero (y ∷ ys) x e = let same : y ≡ x = cc in ap (λ z. Some (f z)) same
-  there_edited f (suc i) (y ∷ ys) x e = there_edited f i ys x e
-
-  -- a change that changes nothing of the list at a place changes no list
-  pub edit_nothing : (f : ListRecord D → ListRecord D) (i : ℕ) (xs : List (ListRecord D)) → ((x : ListRecord D) → slice_get xs i ≡ Some x → f x ≡ x) → edit_at f i xs ≡ xs
-  edit_nothing f i [] same = refl
-  edit_nothing f zero (x ∷ xs) same = ap (λ y. y ∷ xs) (same x refl)
-  edit_nothing f (suc i) (x ∷ xs) same = ap (λ ys. x ∷ ys) (edit_nothing f i xs same)
-
-  -- what a change leaves of each list
-  pub map-edit : {Y : Type 0} (h : ListRecord D → Y) (f : ListRecord D → ListRecord D) → ((x : ListRecord D) → h (f x) ≡ h x) → (i : ℕ) (xs : List (ListRecord D)) → map h (edit_at f i xs) ≡ map h xs
-  map-edit h f same i [] = refl
-  map-edit h f same zero (x ∷ xs) = ap (λ y. y ∷ map h xs) (same x)
-  map-edit h f same (suc i) (x ∷ xs) = ap (λ ys. h x ∷ ys) (map-edit h f same i xs)
-
-  any-edit : (n : ℕ) (f : ListRecord D → ListRecord D) → ((x : ListRecord D) → (f x).serial ≡ x.serial) → (i : ℕ) (xs : List (ListRecord D)) → list_any (has_serial n) (edit_at f i xs) ≡ list_any (has_serial n) xs
-  any-edit n f same i [] = refl
-  any-edit n f same zero (x ∷ xs) = ap (λ s. (s == n) || list_any (has_serial n) xs) (same x)
-  any-edit n f same (suc i) (x ∷ xs) = ap (λ b. has_serial n x || b) (any-edit n f same i xs)
-
-before-edit : (next : Option ℕ) (f : KeptList → KeptList) → ((x : KeptList) → (f x).serial ≡ x.serial) → (i : ℕ) (xs : List KeptList) → are_before next (edit_at f i xs) ≡ are_before next xs
-before-edit next f same i [] = refl
-before-edit next f same zero (x ∷ xs) = ap (λ s. is_before next s && are_before next xs) (same x)
-before-edit next f same (suc i) (x ∷ xs) = ap (λ b. is_before next x.serial && b) (before-edit next f same i xs)
+use Rattle.window_items.proofs.EditLemmas.{All-there, All-edit, any-edit, before-edit, count-edit, map-edit}
 
 apart-edit : (f : KeptList → KeptList) → ((x : KeptList) → (f x).serial ≡ x.serial) → (i : ℕ) (xs : List KeptList) → AreListsApart xs → AreListsApart (edit_at f i xs)
 apart-edit f same i [] h = tt
@@ -74,19 +33,19 @@ zip-edit f (suc i) (x ∷ xs) (k ∷ ks) h same = (h.0, zip-edit f i xs ks h.1 s
 pub record Keeps (f : KeptList → KeptList) : Type 0 where
   pub serial : (x : KeptList) → (f x).serial ≡ x.serial
   pub window : (x : KeptList) → (f x).window ≡ x.window
-  pub definition : (x : KeptList) → (f x).definition ≡ x.definition
+  pub definition : (x : KeptList) → (f x).kept.definition ≡ x.kept.definition
   pub layer : (x : KeptList) (k : Layer) → IsLayerOf x k → IsLayerOf (f x) k
 
 -- the layers of each window are its lists' as before
-joined_edit : (f : KeptList → KeptList) → Keeps f → (at : ℕ) (ls : List KeptList) (ws : List WindowRecord) → All (λ w. AreListLayers (lists_of w.serial ls) w.layers) ws
-    → All (λ w. AreListLayers (lists_of w.serial (edit_at f at ls)) w.layers) ws
+joined_edit : (f : KeptList → KeptList) → Keeps f → (at : ℕ) (ls : List KeptList) (ws : List WindowRecord) → All (λ w. AreListLayers (items_of w.serial ls) w.layers) ws
+    → All (λ w. AreListLayers (items_of w.serial (edit_at f at ls)) w.layers) ws
 joined_edit f keeps at ls ws joined =
-    All-weaker (λ (w : WindowRecord). AreListLayers (lists_of w.serial ls) w.layers) (λ (w : WindowRecord). AreListLayers (lists_of w.serial (edit_at f at ls)) w.layers)
+    All-weaker (λ (w : WindowRecord). AreListLayers (items_of w.serial ls) w.layers) (λ (w : WindowRecord). AreListLayers (items_of w.serial (edit_at f at ls)) w.layers)
     (λ w h. by_test w h (is_in_at w.serial at ls) refl) ws joined
   where
-    by_test : (w : WindowRecord) → AreListLayers (lists_of w.serial ls) w.layers → (b : Bool) → is_in_at w.serial at ls ≡ b → AreListLayers (lists_of w.serial (edit_at f at ls)) w.layers
-    by_test w h true e = subst (λ xs. AreListLayers xs w.layers) (sym (lists_of-edit_at f keeps.window w.serial at ls e)) (zip-edit f _ (lists_of w.serial ls) _ h keeps.layer)
-    by_test w h false e = subst (λ xs. AreListLayers xs w.layers) (sym (lists_of-edit_at_other f keeps.window w.serial at ls e)) h
+    by_test : (w : WindowRecord) → AreListLayers (items_of w.serial ls) w.layers → (b : Bool) → is_in_at w.serial at ls ≡ b → AreListLayers (items_of w.serial (edit_at f at ls)) w.layers
+    by_test w h true e = subst (λ xs. AreListLayers xs w.layers) (sym (items_of-edit_at f keeps.window w.serial at ls e)) (zip-edit f _ (items_of w.serial ls) _ h keeps.layer)
+    by_test w h false e = subst (λ xs. AreListLayers xs w.layers) (sym (items_of-edit_at_other f keeps.window w.serial at ls e)) h
 
 -- a list that is named is settled where all are
 pub named_settled : (l : ListOf) (ls : List KeptList) (x : KeptList) → AreSettled ls → list_of l ls ≡ Some x → IsSettledList x
@@ -101,11 +60,6 @@ named_settled l ls x settled named = by_place (index_of l ls) refl
 pub settled_edited : (f : KeptList → KeptList) (at : ℕ) (ls : List KeptList) → AreSettled ls → ((x : KeptList) → slice_get ls at ≡ Some x → IsSettledList x → IsSettledList (f x)) → AreSettled (edit_at f at ls)
 settled_edited f at ls settled stays = All-edit IsSettledList f at ls settled (λ x e. stays x e (All-there IsSettledList at ls x e settled))
 
-count-edit : (f : KeptList → KeptList) → ((x : KeptList) → (f x).window ≡ x.window) → (t i : ℕ) (ls : List KeptList) → count_of t (edit_at f i ls) ≡ count_of t ls
-count-edit f same t i [] = refl
-count-edit f same t zero (x ∷ ls) = ap (λ w. cond (w == t) (suc (count_of t ls)) (count_of t ls)) (same x)
-count-edit f same t (suc i) (x ∷ ls) = ap (λ n. cond (x.window == t) (suc n) n) (count-edit f same t i ls)
-
 -- and all that holds between calls
 pub whole_edited : (f : KeptList → KeptList) → Keeps f → (at : ℕ) (ws : List WindowRecord) (state : ListsState) → AreWholeLists ws state
     → ((x : KeptList) → slice_get state.lists at ≡ Some x → IsSettledList x → IsSettledList (f x)) → AreWholeLists ws (record state { lists = edit_at f at state.lists })
@@ -117,5 +71,5 @@ whole_edited f keeps at ws state whole stays = record {
   somewhere = All-edit (λ (x : KeptList). is_missing x.window ws ≡ false) f at state.lists whole.somewhere
       (λ x e. ap (λ w. is_missing w ws) (keeps.window x) ∙ All-there (λ (y : KeptList). is_missing y.window ws ≡ false) at state.lists x e whole.somewhere);
   joined = joined_edit f keeps at state.lists ws whole.joined;
-  stocked = subst (λ ns. AreStocked (λ (d : ListDefinition). d.stage) ns state.stock) (sym (map-edit (λ (x : KeptList). x.definition.slot) f (λ x. ap (λ (d : ListLoan). d.slot) (keeps.definition x)) at state.lists)) whole.stocked;
+  stocked = subst (λ ns. AreStocked (λ (d : ListDefinition). d.stage) ns state.stock) (sym (map-edit (λ (x : KeptList). x.kept.definition.slot) f (λ x. ap (λ (d : ListLoan). d.slot) (keeps.definition x)) at state.lists)) whole.stocked;
 }

@@ -5,7 +5,7 @@ use Rattle.std.proofs.lemmas.Bool.{lt-ltb, ltb-true}
 use Rattle.std.proofs.lemmas.List.Elements.{All-weaker}
 use Rattle.tb_geom.specs.declared.refusal.Refusal.{Refusal}
 use Rattle.control_values.specs.Settings.{Setting}
-use Rattle.control_list.specs.Lists.{is_before, serial_after}
+use Rattle.window_items.specs.Items.{is_before, serial_after}
 use Rattle.desk_call.specs.declared.control.ControlCall.{ControlCall}
 use Rattle.desk_call.specs.declared.control.ControlCall.TheVariants as control_calls
 use Rattle.desk_call.specs.declared.control.ControlOf.{ControlOf}
@@ -25,10 +25,9 @@ use Rattle.control_mgr.proofs.ControlFacts.{IsNextControl, control_facts}
 use Rattle.list_mgr.specs.GivenBars.{AreBarsApart, AreBarsGiven, HasGivenBars, IsBarGiven, IsFromOne}
 use Rattle.list_mgr.specs.ListDesks.{KeptList, ListDesk, ListsState, with_controls}
 use Rattle.list_mgr.specs.ListSteps.{IsBarGone, IsBarGoneIf, IsBarMade, IsBarSet, IsChangedTo, IsClickOn, IsListDisposed, IsListEffect, IsListMade, IsListStep, IsRelined, IsSeenOrNot, IsToggledOrNot, IsUnseen, clicked_at, new_list}
-use Rattle.list_mgr.proofs.Drawn.{All-there}
-use Rattle.list_mgr.proofs.Edited.{All-edit}
 use Rattle.list_mgr.proofs.ListFacts.{IsNextList, list_facts}
-use Rattle.list_mgr.proofs.ListsWhole.{All-more, All-remove}
+use Rattle.list_mgr.proofs.ListsWhole.{All-more}
+use Rattle.window_items.proofs.EditLemmas.{All-there, All-edit, All-remove}
 
 -- ---- the next serial
 
@@ -91,7 +90,7 @@ still_given (Some n) first next on given = (given.0, on n given.1)
 pub bars_go_on : (first next : Option ℕ) (ls : List KeptList) → SerialsGoOn first next → All (HasGivenBars first) ls → All (HasGivenBars next) ls
 bars_go_on first next ls on h =
     All-weaker (HasGivenBars first) (HasGivenBars next)
-    (λ l its. record { vertical = still_given l.vertical first next on its.vertical; horizontal = still_given l.horizontal first next on its.horizontal; apart = its.apart })
+    (λ l its. record { vertical = still_given l.kept.vertical first next on its.vertical; horizontal = still_given l.kept.horizontal first next on its.horizontal; apart = its.apart })
     ls h
 
 -- each call about controls leaves the next serial, or it is taken
@@ -110,7 +109,7 @@ control_from_one call result before after same low = subst IsFromOne (sym same) 
 
 -- the change leaves a list its scroll bars
 abbrev KeepsBars : (KeptList → KeptList) → Type 0
-KeepsBars f = (x : KeptList) → ((f x).vertical ≡ x.vertical) × ((f x).horizontal ≡ x.horizontal)
+KeepsBars f = (x : KeptList) → ((f x).kept.vertical ≡ x.kept.vertical) × ((f x).kept.horizontal ≡ x.kept.horizontal)
 
 bar_set : (window : ℕ) (bar : Option ℕ) (setting : Setting) (before after : ListDesk) → IsBarSet window bar setting before after → after.lists ≡ before.lists
 bar_set window None setting before after same = same.lists
@@ -160,18 +159,18 @@ module _ (next : Option ℕ) where
 
     clicked : (k : ListClick) (o : Option Cell) (answer : ListReply) → IsClickOn k o answer before after → HaveGiven after
     clicked k None answer done = same_lists before after done.1.lists was
-    clicked k (Some c) answer (is, (x, named, done)) = toggled x.drawing k.list _ x done
+    clicked k (Some c) answer (is, (x, named, done)) = toggled x.kept.drawing k.list _ x done
 
   relined : (l : ListOf) (f : KeptList → KeptList) (before after : ListDesk) → HaveGiven before → IsRelined l f before after → KeepsBars f → HaveGiven after
   relined l f before after was (mid, (x, named, done), (y, there, (both, down, across))) keeps =
-      same_lists both after (bar_set l.window y.horizontal _ both after across)
-      (same_lists mid both (bar_set l.window y.vertical _ mid both down) (seen before mid was x.drawing l f x done keeps))
+      same_lists both after (bar_set l.window y.kept.horizontal _ both after across)
+      (same_lists mid both (bar_set l.window y.kept.vertical _ mid both down) (seen before mid was x.kept.drawing l f x done keeps))
 
   -- a list was taken out
   disposed : (l : ListOf) (before after : ListDesk) → HaveGiven before → IsListDisposed l before after → HaveGiven after
   disposed l before after was (x, gone, mid, first, down, across) =
-      same_lists mid after (bar_gone l.window x.horizontal mid after across)
-      (same_lists gone mid (bar_gone l.window x.vertical gone mid down)
+      same_lists mid after (bar_gone l.window x.kept.horizontal mid after across)
+      (same_lists gone mid (bar_gone l.window x.kept.vertical gone mid down)
       (subst (λ (s : ListsState). All (HasGivenBars next) s.lists) (sym first.lists) (All-remove (HasGivenBars next) first.at before.lists.lists was)))
 
 -- ---- a list that is made
@@ -229,11 +228,11 @@ module _ (before after : ListDesk) (low : IsFromOne before.controls.next) (was :
   effect_keeps (AddColumns n) answer done facts = with_next facts.1 (relined next n.list _ before after was done.1 (λ x. (refl, refl)))
   effect_keeps (DeleteRows n) answer done facts = with_next facts.1 (relined next n.list _ before after was done.1 (λ x. (refl, refl)))
   effect_keeps (DeleteColumns n) answer done facts = with_next facts.1 (relined next n.list _ before after was done.1 (λ x. (refl, refl)))
-  effect_keeps (SetCell t) answer (is, (x, named, done)) facts = with_next facts.1 (seen next before after was x.drawing t.cell.list _ x done (λ y. (refl, refl)))
-  effect_keeps (AddToCell t) answer (is, (x, named, done)) facts = with_next facts.1 (seen next before after was x.drawing t.cell.list _ x done (λ y. (refl, refl)))
-  effect_keeps (ClearCell c) answer (is, (x, named, done)) facts = with_next facts.1 (seen next before after was x.drawing c.list _ x done (λ y. (refl, refl)))
+  effect_keeps (SetCell t) answer (is, (x, named, done)) facts = with_next facts.1 (seen next before after was x.kept.drawing t.cell.list _ x done (λ y. (refl, refl)))
+  effect_keeps (AddToCell t) answer (is, (x, named, done)) facts = with_next facts.1 (seen next before after was x.kept.drawing t.cell.list _ x done (λ y. (refl, refl)))
+  effect_keeps (ClearCell c) answer (is, (x, named, done)) facts = with_next facts.1 (seen next before after was x.kept.drawing c.list _ x done (λ y. (refl, refl)))
   effect_keeps (GetCell c) answer done facts = with_next facts.1 (same_lists next before after done.1.lists was)
-  effect_keeps (Select k) answer (is, (x, named, done)) facts = with_next facts.1 (toggled next before after was x.drawing k.cell.list _ x done)
+  effect_keeps (Select k) answer (is, (x, named, done)) facts = with_next facts.1 (toggled next before after was x.kept.drawing k.cell.list _ x done)
   effect_keeps (IsSelected c) answer done facts = with_next facts.1 (same_lists next before after done.1.lists was)
   effect_keeps (FirstSelected c) answer done facts = with_next facts.1 (same_lists next before after done.1.lists was)
   effect_keeps (NextCell n) answer done facts = with_next facts.1 (same_lists next before after done.1.lists was)

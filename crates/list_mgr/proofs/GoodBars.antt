@@ -4,8 +4,8 @@ use Rattle.std.specs.Prelude.{int_le, nat_lt, ◌≤ℤ◌}
 use Rattle.std.proofs.lemmas.Bool.{and_parts, false≢true, ltb-true}
 use Rattle.std.proofs.lemmas.Int.{clamps, ints}
 use Rattle.tb_geom.specs.declared.rect.Rect.{Rect}
-use Rattle.control_list.specs.Lists.{serial_after}
-use Rattle.control_list.proofs.SeenLemmas.{count_of-seen}
+use Rattle.window_items.specs.Items.{serial_after}
+use Rattle.window_items.proofs.SeenLemmas.{count_of-seen}
 use Rattle.control_values.specs.Settings.{is_in_range, nearest, settled}
 use Rattle.def_iface.specs.declared.taken.Taken.{Taken}
 use Rattle.def_iface.specs.declared.taken_control.TakenControl.{TakenControl}
@@ -13,7 +13,7 @@ use Rattle.def_iface.specs.declared.taken_list.TakenList.{TakenList}
 use Rattle.def_iface.specs.ControlMeaning.{ControlDefinition, ControlLoan}
 use Rattle.def_iface.specs.ListMeaning.{ListLoan}
 use Rattle.def_iface.specs.Meaning.{Loan}
-use Rattle.list_records.proofs.SeenLemmas as lists_seen
+use Rattle.window_items.proofs.SeenLemmas as lists_seen
 use Rattle.list_view.specs.declared.axis.Axis.{Axis}
 use Rattle.list_view.specs.Axes.{bound}
 use Rattle.desk_call.specs.declared.list.NewList.{NewList}
@@ -43,6 +43,8 @@ use Rattle.list_mgr.specs.NewBars.{IsGoodBar, bar_control, bar_ticket, horizonta
 use Rattle.list_mgr.specs.Putting.{IsGoodList, IsPlace}
 use Rattle.list_mgr.proofs.Judged.{horizontal_fits, vertical_fits}
 use Rattle.list_mgr.proofs.NewLists.{good_of, room_here, view_fits, view_may}
+use Rattle.list_mgr.specs.Seen.{kept_seen}
+use Rattle.control_mgr.specs.Seen.{kept_seen as control_kept_seen}
 
 -- ---- settings
 
@@ -114,7 +116,7 @@ module _ {V : Type 0} {H : V → Type 0} (loan : Taken V H → Loan) {W : Type 0
       let w : Window V H = there.item in
       let lies : IsWindowAt t.windows.records.items k.window w = read_is t.windows.records.items k.window w there.there in
       is_given loan control_loan (bar_control window b) (Some d) t c kept k.window ticket.window w lies (ticket.placed w lies) good.setting (omega arith) k.serial ticket.serial
-      (let count = ticket.layer ∙ count_of-seen control_loan window c.list.controls.items in omega (arith, count, few))
+      (let count = ticket.layer ∙ count_of-seen (control_kept_seen control_loan) window c.list.items.items in omega (arith, count, few))
 
   module _ {X : Type 0} {L : X → Type 0} (list_loan : TakenList X L → ListLoan) (n : NewList) (vertical horizontal : Option ControlDefinition) (t : WindowManager V H) (c : Controls (TakenControl W K)) (m : Lists (TakenList X L)) (k : ListTicket)
       (kept : IsKept loan t) (ticket : IsListTicket loan control_loan list_loan n vertical horizontal t c m k) where
@@ -131,7 +133,7 @@ module _ {V : Type 0} {H : V → Type 0} (loan : Taken V H → Loan) {W : Type 0
       good = good_of n vertical horizontal (desk_of loan t []) (control_records.records_of control_loan c) c.list.next _ m.list.next ticket.judged;
       fits = λ w lies. view_fits n (record_of loan w) (subst (λ o. may_view_be_in n o ≡ true) (window_is w lies)
           (view_may n vertical horizontal (desk_of loan t []) (control_records.records_of control_loan c) c.list.next _ m.list.next ticket.judged));
-      few = subst (λ k. k < most_lists) (lists_seen.count_of-seen list_loan n.window m.list.lists.items)
+      few = subst (λ k. k < most_lists) (lists_seen.count_of-seen (kept_seen list_loan) n.window m.list.items.items)
           (room_here n vertical horizontal (desk_of loan t []) (control_records.records_of control_loan c) c.list.next _ m.list.next ticket.judged);
     }
 

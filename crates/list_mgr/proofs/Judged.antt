@@ -16,9 +16,9 @@ use Rattle.def_iface.specs.declared.taken_list.TakenList.{TakenList}
 use Rattle.def_iface.specs.ControlMeaning.{ControlDefinition, ControlLoan, is_control_extent, is_control_size}
 use Rattle.def_iface.specs.ListMeaning.{ListLoan}
 use Rattle.def_iface.specs.Meaning.{Loan}
-use Rattle.control_list.specs.Lists as controls
-use Rattle.list_records.specs.Lists.{count_of}
-use Rattle.list_records.proofs.SeenLemmas.{count_of-seen}
+use Rattle.window_items.specs.Items as controls
+use Rattle.window_items.specs.Items.{count_of}
+use Rattle.window_items.proofs.SeenLemmas.{count_of-seen}
 use Rattle.list_view.specs.Axes.{is_axis}
 use Rattle.list_view.specs.Bars.{horizontal_bar, vertical_bar}
 use Rattle.list_view.specs.Views.{IsView, View, view_rect}
@@ -41,6 +41,7 @@ use Rattle.list_mgr.specs.ListSteps.{vertical_bar_of}
 use Rattle.list_mgr.specs.Making.{IsListTicket, judged_by, lie_refusals, number_refusals, room_refusals}
 use Rattle.list_mgr.specs.WholeLists.{records_of}
 use Rattle.list_mgr.proofs.Drawn.{extent_of}
+use Rattle.list_mgr.specs.Seen.{kept_seen}
 
 -- ---- sizes
 
@@ -130,19 +131,19 @@ module _ {X : Type 0} {L : X → Type 0} (list_loan : TakenList X L → ListLoan
   abbrev room : Bool
   room = have_room (bars_wanted n) count bar
 
-  counted : first_refusal (room_refusals n count bar (records_of list_loan m) m.list.next) ≡ why (nat_le 8 (count_of n.window m.list.lists.items)) room
-  counted = ap (λ k. why (nat_le 8 k) room) (count_of-seen list_loan n.window m.list.lists.items)
+  counted : first_refusal (room_refusals n count bar (records_of list_loan m) m.list.next) ≡ why (nat_le 8 (count_of n.window m.list.items.items)) room
+  counted = ap (λ k. why (nat_le 8 k) room) (count_of-seen (kept_seen list_loan) n.window m.list.items.items)
 
   -- the window has as many lists as it may
-  pub many_lists : 8 ≤ count_of n.window m.list.lists.items → first_refusal (room_refusals n count bar (records_of list_loan m) m.list.next) ≡ Some TooMany
-  many_lists e = counted ∙ (λ i. why (are_many (count_of n.window m.list.lists.items) e i) room)
+  pub many_lists : 8 ≤ count_of n.window m.list.items.items → first_refusal (room_refusals n count bar (records_of list_loan m) m.list.next) ≡ Some TooMany
+  many_lists e = counted ∙ (λ i. why (are_many (count_of n.window m.list.items.items) e i) room)
     where
       are_many : (k : ℕ) → 8 ≤ k → nat_le 8 k ≡ true
       are_many k e = grind (arith, nat_tests)
 
   -- its controls leave no room for the bars
   pub no_room : room ≡ false → first_refusal (room_refusals n count bar (records_of list_loan m) m.list.next) ≡ Some TooMany
-  no_room e = counted ∙ ap (why (nat_le 8 (count_of n.window m.list.lists.items))) e ∙ by_test (nat_le 8 (count_of n.window m.list.lists.items) || is_none m.list.next)
+  no_room e = counted ∙ ap (why (nat_le 8 (count_of n.window m.list.items.items))) e ∙ by_test (nat_le 8 (count_of n.window m.list.items.items) || is_none m.list.next)
     where
       by_test : (b : Bool) → first_refusal ((b, TooMany) ∷ (true, TooMany) ∷ []) ≡ Some TooMany
       by_test true = refl
@@ -150,17 +151,17 @@ module _ {X : Type 0} {L : X → Type 0} (list_loan : TakenList X L → ListLoan
 
   -- no serial is left
   pub no_serial : m.list.next ≡ None → first_refusal (room_refusals n count bar (records_of list_loan m) m.list.next) ≡ Some TooMany
-  no_serial e = counted ∙ ap (λ o. first_refusal ((nat_le 8 (count_of n.window m.list.lists.items) || is_none o, TooMany) ∷ (not room, TooMany) ∷ [])) e
-      ∙ by_test (nat_le 8 (count_of n.window m.list.lists.items))
+  no_serial e = counted ∙ ap (λ o. first_refusal ((nat_le 8 (count_of n.window m.list.items.items) || is_none o, TooMany) ∷ (not room, TooMany) ∷ [])) e
+      ∙ by_test (nat_le 8 (count_of n.window m.list.items.items))
     where
       by_test : (b : Bool) → first_refusal ((b || true, TooMany) ∷ (not room, TooMany) ∷ []) ≡ Some TooMany
       by_test true = refl
       by_test false = refl
 
-  pub is_room : (serial : ℕ) → m.list.next ≡ Some serial → count_of n.window m.list.lists.items < 8 → room ≡ true
+  pub is_room : (serial : ℕ) → m.list.next ≡ Some serial → count_of n.window m.list.items.items < 8 → room ≡ true
       → first_refusal (room_refusals n count bar (records_of list_loan m) m.list.next) ≡ None
   is_room serial e few there =
-      counted ∙ (λ i. first_refusal ((are_few (count_of n.window m.list.lists.items) few i || is_none (e i), TooMany) ∷ (not (there i), TooMany) ∷ []))
+      counted ∙ (λ i. first_refusal ((are_few (count_of n.window m.list.items.items) few i || is_none (e i), TooMany) ∷ (not (there i), TooMany) ∷ []))
     where
       are_few : (k : ℕ) → k < 8 → nat_le 8 k ≡ false
       are_few k e = grind (arith, nat_tests)

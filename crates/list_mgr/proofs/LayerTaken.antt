@@ -5,8 +5,8 @@ use Rattle.std.specs.List.{AllZip, filter, remove}
 use Rattle.std.proofs.lemmas.Bool.{false≢true}
 use Rattle.def_iface.specs.declared.part.Part.TheVariants as part
 use Rattle.layer_list.specs.declared.layer.Layer.{Layer}
-use Rattle.list_records.specs.Lists.{is_in_at, lists_of, place_among}
-use Rattle.list_records.proofs.WindowLemmas.{lists_of-remove, slice_get-lists_of}
+use Rattle.window_items.specs.Items.{is_in_at, items_of, place_among}
+use Rattle.window_items.proofs.WindowLemmas.{items_of-remove, slice_get-items_of}
 use Rattle.desk_call.specs.declared.update.Layers.TheVariants.{Controls}
 use Rattle.window_paint.specs.Kinds.{is_of}
 use Rattle.control_mgr.specs.ControlSteps.{behind_controls}
@@ -47,12 +47,12 @@ part_serial x y k x_is y_is = let both : part.List y.serial ≡ part.List x.seri
 
 -- the layers of a window without that of a list are its lists without it
 pub layers_left_are : (ls : List KeptList) (window at : ℕ) (x : KeptList) (ks : List Layer) (i : ℕ) (k : Layer) → AreListsApart ls → is_in_at window at ls ≡ true → slice_get ls at ≡ Some x
-    → AreListLayers (lists_of window ls) ks → slice_get ks i ≡ Some k → IsLayerOf x k → AreListLayers (lists_of window (remove ls at)) (remove ks i)
+    → AreListLayers (items_of window ls) ks → slice_get ks i ≡ Some k → IsLayerOf x k → AreListLayers (items_of window (remove ls at)) (remove ks i)
 layers_left_are ls window at x ks i k apart here there joined k_there k_is =
-    let xs = lists_of window ls in
+    let xs = items_of window ls in
     let gone = filter_remove (λ (l : Layer). not (is_of Controls l.part)) ks i k k_there (ap (λ q. not (is_of Controls q)) k_is.part) in
     let its = with_list xs (behind_controls ks) gone.0 k joined gone.1 in
-    let same : place_among at ls ≡ gone.0 = one_place xs (place_among at ls) gone.0 x its.0 (lists_apart window ls apart) (slice_get-lists_of window at ls here ∙ there) its.1 (part_serial x its.0 k k_is its.2) in
-    subst (λ (zs : List KeptList). AllZip IsLayerOf zs (behind_controls (remove ks i))) (sym (lists_of-remove window at ls here))
+    let same : place_among at ls ≡ gone.0 = one_place xs (place_among at ls) gone.0 x its.0 (lists_apart window ls apart) (slice_get-items_of window at ls here ∙ there) its.1 (part_serial x its.0 k k_is its.2) in
+    subst (λ (zs : List KeptList). AllZip IsLayerOf zs (behind_controls (remove ks i))) (sym (items_of-remove window at ls here))
     (subst (λ (ys : List Layer). AllZip IsLayerOf (remove xs (place_among at ls)) ys) (ap (remove (behind_controls ks)) same ∙ sym gone.2)
     (zip-remove (place_among at ls) xs (behind_controls ks) joined))

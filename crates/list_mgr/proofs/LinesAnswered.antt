@@ -14,8 +14,9 @@ use Rattle.desk_call.specs.declared.list.ListCall.{ListCall}
 use Rattle.desk_call.specs.declared.list.ListOf.{ListOf}
 use Rattle.desk_call.specs.declared.list.ListReply.{ListReply}
 use Rattle.desk_call.specs.declared.list.ListReply.TheVariants.{Done}
-use Rattle.list_records.specs.declared.list_record.ListRecord.{ListRecord}
-use Rattle.list_records.specs.Seen.{seen}
+use Rattle.window_items.specs.declared.item.Item.{Item}
+use Rattle.list_mgr.specs.declared.list_record.ListRecord.{ListRecord}
+use Rattle.list_mgr.specs.Seen.{seen}
 use Rattle.window_mgr.specs.declared.manager.WindowManager.{WindowManager}
 use Rattle.window_mgr.specs.FullDesk.{FullDesk}
 use Rattle.control_mgr.specs.declared.controls.Controls.{Controls}
@@ -40,7 +41,7 @@ none_refused o p e a b c = let both : None ≡ Some e = a ∙ b ∙ c in absurd 
 module _ {V : Type 0} {H : V → Type 0} (loan : Taken V H → Loan) {X : Type 0} {L : X → Type 0} (list_loan : TakenList X L → ListLoan) where
   -- ---- what is told of a list that is there
 
-  module _ (l : ListOf) (t : WindowManager V H) (m : Lists (TakenList X L)) (s : Spot) (is : IsSpotOf loan list_loan l t m s) (x : ListRecord (TakenList X L)) (read : x ≡ get_or m.list.lists.items s.list x) where
+  module _ (l : ListOf) (t : WindowManager V H) (m : Lists (TakenList X L)) (s : Spot) (is : IsSpotOf loan list_loan l t m s) (x : Item (ListRecord (TakenList X L))) (read : x ≡ get_or m.list.items.items s.list x) where
     -- why a call is refused that is judged by the list
     pub judged : (call : ListCall) (f : KeptList → List (Bool × Refusal)) → ((desk : FullDesk) (cs : ControlsState) (state : ListsState) → list_refusals call desk cs state ≡ list_reasons l f desk state.lists)
         → IsTold loan list_loan call t m (λ why. first_refusal why ≡ first_refusal (f (seen list_loan x)))

@@ -167,37 +167,37 @@ scroll_settles columns rows x its = record {
     across = its.view.across;
     down = its.view.down;
     first = record {
-      column = line_scrolled x.view.across x.cells.columns x.view.first.column columns its.grid.columns_within;
-      row = line_scrolled x.view.down x.cells.rows x.view.first.row rows its.grid.rows_within;
+      column = line_scrolled x.kept.view.across x.kept.cells.columns x.kept.view.first.column columns its.grid.columns_within;
+      row = line_scrolled x.kept.view.down x.kept.cells.rows x.kept.view.first.row rows its.grid.rows_within;
     };
   };
   grid = its.grid;
   short = its.short;
   scrolled = record {
-    across = scrolled_most x.view.across x.cells.columns x.view.first.column columns;
-    down = scrolled_most x.view.down x.cells.rows x.view.first.row rows;
+    across = scrolled_most x.kept.view.across x.kept.cells.columns x.kept.view.first.column columns;
+    down = scrolled_most x.kept.view.down x.kept.cells.rows x.kept.view.first.row rows;
   };
   single = its.single;
 }
 
 -- ---- lists that are changed so
 
-pub rows_more_settles : (n at : ℤ) (x : KeptList) → MayAdd x.cells.rows x.cells.columns n → IsSettledList x → IsSettledList (with_rows_more n at x)
+pub rows_more_settles : (n at : ℤ) (x : KeptList) → MayAdd x.kept.cells.rows x.kept.cells.columns n → IsSettledList x → IsSettledList (with_rows_more n at x)
 rows_more_settles n at x may its =
-    let place = place_to_add x.cells.rows at in
-    grid_stays (rows_added place (nat_abs n)) x its (rows_added_grid x.cells place n its.grid may)
+    let place = place_to_add x.kept.cells.rows at in
+    grid_stays (rows_added place (nat_abs n)) x its (rows_added_grid x.kept.cells place n its.grid may)
 
-pub columns_more_settles : (n at : ℤ) (x : KeptList) → MayAdd x.cells.columns x.cells.rows n → IsSettledList x → IsSettledList (with_columns_more n at x)
+pub columns_more_settles : (n at : ℤ) (x : KeptList) → MayAdd x.kept.cells.columns x.kept.cells.rows n → IsSettledList x → IsSettledList (with_columns_more n at x)
 columns_more_settles n at x may its =
-    let place = place_to_add x.cells.columns at in
-    grid_stays (columns_added place (nat_abs n)) x its (columns_added_grid x.cells place n its.grid may)
+    let place = place_to_add x.kept.cells.columns at in
+    grid_stays (columns_added place (nat_abs n)) x its (columns_added_grid x.kept.cells place n its.grid may)
 
-pub rows_fewer_settles : (n first : ℤ) (x : KeptList) → MayDelete x.cells.rows n first → IsSettledList x → IsSettledList (with_rows_fewer n first x)
+pub rows_fewer_settles : (n first : ℤ) (x : KeptList) → MayDelete x.kept.cells.rows n first → IsSettledList x → IsSettledList (with_rows_fewer n first x)
 rows_fewer_settles n first x may its =
-    let g = rows_deleted (nat_abs first) (count_to_delete x.cells.rows n first) in
-    scroll_settles (pos 0) (pos 0) (with_grid g x) (grid_settles g x its (rows_deleted_grid x.cells n first its.grid may))
+    let g = rows_deleted (nat_abs first) (count_to_delete x.kept.cells.rows n first) in
+    scroll_settles (pos 0) (pos 0) (with_grid g x) (grid_settles g x its (rows_deleted_grid x.kept.cells n first its.grid may))
 
-pub columns_fewer_settles : (n first : ℤ) (x : KeptList) → MayDelete x.cells.columns n first → IsSettledList x → IsSettledList (with_columns_fewer n first x)
+pub columns_fewer_settles : (n first : ℤ) (x : KeptList) → MayDelete x.kept.cells.columns n first → IsSettledList x → IsSettledList (with_columns_fewer n first x)
 columns_fewer_settles n first x may its =
-    let g = columns_deleted (nat_abs first) (count_to_delete x.cells.columns n first) in
-    scroll_settles (pos 0) (pos 0) (with_grid g x) (grid_settles g x its (columns_deleted_grid x.cells n first its.grid may))
+    let g = columns_deleted (nat_abs first) (count_to_delete x.kept.cells.columns n first) in
+    scroll_settles (pos 0) (pos 0) (with_grid g x) (grid_settles g x its (columns_deleted_grid x.kept.cells n first its.grid may))

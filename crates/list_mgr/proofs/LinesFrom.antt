@@ -105,13 +105,13 @@ shown_alike font d v g h p inside same = by_test (is_before g.columns g.rows (an
 
 -- a list that was given other cells shows what it showed where its cell is the same at each point of the view
 cells_outside : (within : Rect) (x : KeptList) (g : Grid → Grid)
-    → ((p : Point) → rect_holds (view_rect x.view) p ≡ true → rect_holds within p ≡ false → IsSameCell x.cells (g x.cells) (any_cell_at x.view p))
+    → ((p : Point) → rect_holds (view_rect x.kept.view) p ≡ true → rect_holds within p ≡ false → IsSameCell x.kept.cells (g x.kept.cells) (any_cell_at x.kept.view p))
     → IsSameOutside within x (with_grid g x)
-cells_outside within x g same font p out = by_view (rect_holds (view_rect x.view) p) refl
+cells_outside within x g same font p out = by_view (rect_holds (view_rect x.kept.view) p) refl
   where
-    by_view : (b : Bool) → rect_holds (view_rect x.view) p ≡ b → list_shown font x.definition.definition x.view (g x.cells) p ≡ list_shown font x.definition.definition x.view x.cells p
-    by_view false e = nothing_outside font x.definition.definition x.view (g x.cells) p e ∙ sym (nothing_outside font x.definition.definition x.view x.cells p e)
-    by_view true e = shown_alike font x.definition.definition x.view x.cells (g x.cells) p e (same p e out)
+    by_view : (b : Bool) → rect_holds (view_rect x.kept.view) p ≡ b → list_shown font x.kept.definition.definition x.kept.view (g x.kept.cells) p ≡ list_shown font x.kept.definition.definition x.kept.view x.kept.cells p
+    by_view false e = nothing_outside font x.kept.definition.definition x.kept.view (g x.kept.cells) p e ∙ sym (nothing_outside font x.kept.definition.definition x.kept.view x.kept.cells p e)
+    by_view true e = shown_alike font x.kept.definition.definition x.kept.view x.kept.cells (g x.kept.cells) p e (same p e out)
 
 -- ---- the cells before lines that were added or deleted
 
@@ -180,17 +180,17 @@ column_deleted_right g at n c is low counted left = record {
 pub added_low : (lines across : ℕ) (n before : ℤ) → first_refusal (add_refusals lines across n before) ≡ None → place_to_add lines before ≤ 4095
 added_low lines across n before none = let may = may_add lines across n before none in omega (arith, may.some, may.lines_within)
 
-pub rows_more_outside : (within : Rect) (x : KeptList) (n before : ℤ) → IsSettledList x → AreRowsFrom false x.view (pos (place_to_add x.cells.rows before)) within
+pub rows_more_outside : (within : Rect) (x : KeptList) (n before : ℤ) → IsSettledList x → AreRowsFrom false x.kept.view (pos (place_to_add x.kept.cells.rows before)) within
     → IsSameOutside within x (with_rows_more n before x)
 rows_more_outside within x n before its from =
-    cells_outside within x (rows_added (place_to_add x.cells.rows before) (nat_abs n))
-    (λ p has out. row_added_below x.cells (place_to_add x.cells.rows before) (nat_abs n) (any_cell_at x.view p) its.grid (omega arith) (counted_at x.view p its.view has) (from p has out))
+    cells_outside within x (rows_added (place_to_add x.kept.cells.rows before) (nat_abs n))
+    (λ p has out. row_added_below x.kept.cells (place_to_add x.kept.cells.rows before) (nat_abs n) (any_cell_at x.kept.view p) its.grid (omega arith) (counted_at x.kept.view p its.view has) (from p has out))
 
-pub columns_more_outside : (within : Rect) (x : KeptList) (n before : ℤ) → IsSettledList x → AreColumnsFrom false x.view (pos (place_to_add x.cells.columns before)) within
+pub columns_more_outside : (within : Rect) (x : KeptList) (n before : ℤ) → IsSettledList x → AreColumnsFrom false x.kept.view (pos (place_to_add x.kept.cells.columns before)) within
     → IsSameOutside within x (with_columns_more n before x)
 columns_more_outside within x n before its from =
-    cells_outside within x (columns_added (place_to_add x.cells.columns before) (nat_abs n))
-    (λ p has out. column_added_right x.cells (place_to_add x.cells.columns before) (nat_abs n) (any_cell_at x.view p) its.grid (omega arith) (counted_at x.view p its.view has) (from p has out))
+    cells_outside within x (columns_added (place_to_add x.kept.cells.columns before) (nat_abs n))
+    (λ p has out. column_added_right x.kept.cells (place_to_add x.kept.cells.columns before) (nat_abs n) (any_cell_at x.kept.view p) its.grid (omega arith) (counted_at x.kept.view p its.view has) (from p has out))
 
 -- lines are deleted from one on that there is
 record IsOne (lines : ℕ) (first : ℤ) : Type 0 where
@@ -222,22 +222,22 @@ deleted_low lines n first l none =
     let few = one.few in
     low_number first (nat_abs first) one.number (omega arith)
 
-pub rows_fewer_outside : (within : Rect) (x : KeptList) (n first : ℤ) (scrolled : Bool) → IsSettledList x → first_refusal (delete_refusals x.cells.rows n first) ≡ None → AreRowsFrom scrolled x.view first within
-    → IsSameOrNot scrolled (with_rows_fewer n first x) (with_grid (rows_deleted (nat_abs first) (count_to_delete x.cells.rows n first)) x)
+pub rows_fewer_outside : (within : Rect) (x : KeptList) (n first : ℤ) (scrolled : Bool) → IsSettledList x → first_refusal (delete_refusals x.kept.cells.rows n first) ≡ None → AreRowsFrom scrolled x.kept.view first within
+    → IsSameOrNot scrolled (with_rows_fewer n first x) (with_grid (rows_deleted (nat_abs first) (count_to_delete x.kept.cells.rows n first)) x)
     → IsSameOutside within x (with_rows_fewer n first x)
 rows_fewer_outside within x n first true its none from same = view_outside within x (with_rows_fewer n first x) from refl
 rows_fewer_outside within x n first false its none from same =
     subst (IsSameOutside within x) (sym same)
-    (cells_outside within x (rows_deleted (nat_abs first) (count_to_delete x.cells.rows n first))
-    (λ p has out. row_deleted_below x.cells (nat_abs first) (count_to_delete x.cells.rows n first) (any_cell_at x.view p) its.grid (may_delete x.cells.rows n first none).within (counted_at x.view p its.view has)
-    (subst (λ z. (any_cell_at x.view p).row <ℤ z) (deleted_from x.cells.rows n first none).number (from p has out))))
+    (cells_outside within x (rows_deleted (nat_abs first) (count_to_delete x.kept.cells.rows n first))
+    (λ p has out. row_deleted_below x.kept.cells (nat_abs first) (count_to_delete x.kept.cells.rows n first) (any_cell_at x.kept.view p) its.grid (may_delete x.kept.cells.rows n first none).within (counted_at x.kept.view p its.view has)
+    (subst (λ z. (any_cell_at x.kept.view p).row <ℤ z) (deleted_from x.kept.cells.rows n first none).number (from p has out))))
 
-pub columns_fewer_outside : (within : Rect) (x : KeptList) (n first : ℤ) (scrolled : Bool) → IsSettledList x → first_refusal (delete_refusals x.cells.columns n first) ≡ None → AreColumnsFrom scrolled x.view first within
-    → IsSameOrNot scrolled (with_columns_fewer n first x) (with_grid (columns_deleted (nat_abs first) (count_to_delete x.cells.columns n first)) x)
+pub columns_fewer_outside : (within : Rect) (x : KeptList) (n first : ℤ) (scrolled : Bool) → IsSettledList x → first_refusal (delete_refusals x.kept.cells.columns n first) ≡ None → AreColumnsFrom scrolled x.kept.view first within
+    → IsSameOrNot scrolled (with_columns_fewer n first x) (with_grid (columns_deleted (nat_abs first) (count_to_delete x.kept.cells.columns n first)) x)
     → IsSameOutside within x (with_columns_fewer n first x)
 columns_fewer_outside within x n first true its none from same = view_outside within x (with_columns_fewer n first x) from refl
 columns_fewer_outside within x n first false its none from same =
     subst (IsSameOutside within x) (sym same)
-    (cells_outside within x (columns_deleted (nat_abs first) (count_to_delete x.cells.columns n first))
-    (λ p has out. column_deleted_right x.cells (nat_abs first) (count_to_delete x.cells.columns n first) (any_cell_at x.view p) its.grid (may_delete x.cells.columns n first none).within (counted_at x.view p its.view has)
-    (subst (λ z. (any_cell_at x.view p).column <ℤ z) (deleted_from x.cells.columns n first none).number (from p has out))))
+    (cells_outside within x (columns_deleted (nat_abs first) (count_to_delete x.kept.cells.columns n first))
+    (λ p has out. column_deleted_right x.kept.cells (nat_abs first) (count_to_delete x.kept.cells.columns n first) (any_cell_at x.kept.view p) its.grid (may_delete x.kept.cells.columns n first none).within (counted_at x.kept.view p its.view has)
+    (subst (λ z. (any_cell_at x.kept.view p).column <ℤ z) (deleted_from x.kept.cells.columns n first none).number (from p has out))))

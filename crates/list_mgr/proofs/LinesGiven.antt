@@ -8,8 +8,9 @@ use Rattle.def_iface.specs.ListMeaning.{ListLoan}
 use Rattle.def_iface.specs.Meaning.{Loan}
 use Rattle.list_cells.specs.Grids.{Grid, IsGrid, columns_added, columns_deleted, rows_added, rows_deleted}
 use Rattle.list_cells.specs.Runs.{add_refusals, count_to_delete, delete_refusals, place_to_add}
-use Rattle.list_records.specs.declared.list_record.ListRecord.{ListRecord}
-use Rattle.list_records.specs.Lists.{edit_at}
+use Rattle.window_items.specs.declared.item.Item.{Item}
+use Rattle.list_mgr.specs.declared.list_record.ListRecord.{ListRecord}
+use Rattle.window_items.specs.Items.{edit_at}
 use Rattle.desk_call.specs.declared.list.ListOf.{ListOf}
 use Rattle.window_mgr.specs.declared.manager.WindowManager.{WindowManager}
 use Rattle.list_mgr.specs.declared.lists.Lists.{Lists}
@@ -18,14 +19,14 @@ use Rattle.list_mgr.specs.Changing.{IsSameOrNot}
 use Rattle.list_mgr.specs.ListDesks.{KeptList}
 use Rattle.list_mgr.specs.ListSteps.{with_columns_fewer, with_columns_more, with_grid, with_rows_fewer, with_rows_more, with_scroll}
 use Rattle.list_mgr.specs.Spots.{IsSpotOf}
-use Rattle.list_mgr.specs.WholeLists.{records_of}
-use Rattle.list_mgr.specs.WholeLists.{IsSettledList}
+use Rattle.list_mgr.specs.WholeLists.{records_of, IsSettledList}
 use Rattle.list_mgr.proofs.Becoming.{IsSettledBut, MayBecome, MayBecomeWider, settled_but}
 use Rattle.list_mgr.proofs.Changed.{grid_keeps}
-use Rattle.list_mgr.proofs.Edited.{Keeps, edit_nothing}
+use Rattle.list_mgr.proofs.Edited.{Keeps}
 use Rattle.list_mgr.proofs.Given as given
 use Rattle.list_mgr.proofs.LinesChanged as lines
 use Rattle.list_mgr.proofs.Relined.{IsChange}
+use Rattle.window_items.proofs.EditLemmas.{edit_nothing}
 
 -- two changes of the list at a place, one after the other
 edit_twice : (f g : KeptList → KeptList) (i : ℕ) (xs : List KeptList) → edit_at f i (edit_at g i xs) ≡ edit_at (λ x. f (g x)) i xs
@@ -46,7 +47,7 @@ module _ {V : Type 0} {H : V → Type 0} (loan : Taken V H → Loan) {X : Type 0
   record IsChangeBut (l : ListOf) (t : WindowManager V H) (m n : Lists (TakenList X L)) (s : Spot) (f : KeptList → KeptList) : Type 0 where
     pub is : IsSpotOf loan list_loan l t m s
     pub keeps : Keeps f
-    pub draws : (x : KeptList) → (f x).drawing ≡ x.drawing
+    pub draws : (x : KeptList) → (f x).kept.drawing ≡ x.kept.drawing
     pub edited : records_of list_loan n ≡ edit_at f s.list (records_of list_loan m)
     pub next : n.list.next ≡ m.list.next
     pub stays : (x : KeptList) → slice_get (records_of list_loan m) s.list ≡ Some x → IsSettledList x → IsSettledBut (f x)
@@ -85,11 +86,11 @@ module _ {V : Type 0} {H : V → Type 0} (loan : Taken V H → Loan) {X : Type 0
   -- ---- given other cells
 
   module _ (l : ListOf) (t : WindowManager V H) (m : Lists (TakenList X L)) (s : Spot) (is : IsSpotOf loan list_loan l t m s)
-      (x : ListRecord (TakenList X L)) (read : x ≡ get_or m.list.lists.items s.list x) (cells : Grid) where
+      (x : Item (ListRecord (TakenList X L))) (read : x ≡ get_or m.list.items.items s.list x) (cells : Grid) where
     abbrev n : Lists (TakenList X L)
     n = given.with_cells_there loan list_loan l t m s is x read cells
 
-    given_change : (g : Grid → Grid) → cells ≡ g x.cells → (IsGrid x.cells → MayBecomeWider x.flags x.cells (g x.cells)) → IsChange loan list_loan l t m n s (with_grid g)
+    given_change : (g : Grid → Grid) → cells ≡ g x.kept.cells → (IsGrid x.kept.cells → MayBecomeWider x.kept.flags x.kept.cells (g x.kept.cells)) → IsChange loan list_loan l t m n s (with_grid g)
     given_change g now good = record {
       is = is;
       keeps = grid_keeps g;
@@ -99,7 +100,7 @@ module _ {V : Type 0} {H : V → Type 0} (loan : Taken V H → Loan) {X : Type 0
       stays = given.stays loan list_loan l t m s is x read g cells now good;
     }
 
-    given_but : (g : Grid → Grid) → cells ≡ g x.cells → (IsGrid x.cells → MayBecome x.flags x.cells (g x.cells)) → IsChangeBut l t m n s (with_grid g)
+    given_but : (g : Grid → Grid) → cells ≡ g x.kept.cells → (IsGrid x.kept.cells → MayBecome x.kept.flags x.kept.cells (g x.kept.cells)) → IsChangeBut l t m n s (with_grid g)
     given_but g now good = record {
       is = is;
       keeps = grid_keeps g;
@@ -111,57 +112,57 @@ module _ {V : Type 0} {H : V → Type 0} (loan : Taken V H → Loan) {X : Type 0
 
     -- more lines
     module _ (count at : ℤ) where
-      pub rows_more_change : cells ≡ rows_added (place_to_add x.cells.rows at) (nat_abs count) x.cells → first_refusal (add_refusals x.cells.rows x.cells.columns count at) ≡ None
+      pub rows_more_change : cells ≡ rows_added (place_to_add x.kept.cells.rows at) (nat_abs count) x.kept.cells → first_refusal (add_refusals x.kept.cells.rows x.kept.cells.columns count at) ≡ None
           → IsChange loan list_loan l t m n s (with_rows_more count at)
       rows_more_change now none =
           given_change (λ y. rows_added (place_to_add y.rows at) (nat_abs count) y) now
-          (λ good. lines.rows_added_grid x.cells (place_to_add x.cells.rows at) count good (lines.may_add x.cells.rows x.cells.columns count at none))
+          (λ good. lines.rows_added_grid x.kept.cells (place_to_add x.kept.cells.rows at) count good (lines.may_add x.kept.cells.rows x.kept.cells.columns count at none))
 
-      pub rows_more_other : first_refusal (add_refusals x.cells.rows x.cells.columns count at) ≡ None → (y : KeptList) → slice_get (records_of list_loan m) s.list ≡ Some y
+      pub rows_more_other : first_refusal (add_refusals x.kept.cells.rows x.kept.cells.columns count at) ≡ None → (y : KeptList) → slice_get (records_of list_loan m) s.list ≡ Some y
           → IsSameOrNot true (with_rows_more count at y) y
       rows_more_other none =
           given.of_read loan list_loan l t m s is x read (λ y. with_rows_more count at y ≡ y → ⊥)
-          (λ same. lines.rows_added_other x.cells (place_to_add x.cells.rows at) count (lines.may_add x.cells.rows x.cells.columns count at none) (ap (λ (y : KeptList). y.cells) same))
+          (λ same. lines.rows_added_other x.kept.cells (place_to_add x.kept.cells.rows at) count (lines.may_add x.kept.cells.rows x.kept.cells.columns count at none) (ap (λ (y : KeptList). y.kept.cells) same))
 
-      pub columns_more_change : cells ≡ columns_added (place_to_add x.cells.columns at) (nat_abs count) x.cells → first_refusal (add_refusals x.cells.columns x.cells.rows count at) ≡ None
+      pub columns_more_change : cells ≡ columns_added (place_to_add x.kept.cells.columns at) (nat_abs count) x.kept.cells → first_refusal (add_refusals x.kept.cells.columns x.kept.cells.rows count at) ≡ None
           → IsChange loan list_loan l t m n s (with_columns_more count at)
       columns_more_change now none =
           given_change (λ y. columns_added (place_to_add y.columns at) (nat_abs count) y) now
-          (λ good. lines.columns_added_grid x.cells (place_to_add x.cells.columns at) count good (lines.may_add x.cells.columns x.cells.rows count at none))
+          (λ good. lines.columns_added_grid x.kept.cells (place_to_add x.kept.cells.columns at) count good (lines.may_add x.kept.cells.columns x.kept.cells.rows count at none))
 
-      pub columns_more_other : first_refusal (add_refusals x.cells.columns x.cells.rows count at) ≡ None → (y : KeptList) → slice_get (records_of list_loan m) s.list ≡ Some y
+      pub columns_more_other : first_refusal (add_refusals x.kept.cells.columns x.kept.cells.rows count at) ≡ None → (y : KeptList) → slice_get (records_of list_loan m) s.list ≡ Some y
           → IsSameOrNot true (with_columns_more count at y) y
       columns_more_other none =
           given.of_read loan list_loan l t m s is x read (λ y. with_columns_more count at y ≡ y → ⊥)
-          (λ same. lines.columns_added_other x.cells (place_to_add x.cells.columns at) count (lines.may_add x.cells.columns x.cells.rows count at none) (ap (λ (y : KeptList). y.cells) same))
+          (λ same. lines.columns_added_other x.kept.cells (place_to_add x.kept.cells.columns at) count (lines.may_add x.kept.cells.columns x.kept.cells.rows count at none) (ap (λ (y : KeptList). y.kept.cells) same))
 
     -- fewer, after which the list is scrolled no further than there are cells
     module _ (count first : ℤ) (k : Lists (TakenList X L)) (scrolled : records_of list_loan k ≡ edit_at (with_scroll (pos 0) (pos 0)) s.list (records_of list_loan n)) (next : k.list.next ≡ n.list.next) where
-      pub rows_fewer_change : cells ≡ rows_deleted (nat_abs first) (count_to_delete x.cells.rows count first) x.cells → first_refusal (delete_refusals x.cells.rows count first) ≡ None
+      pub rows_fewer_change : cells ≡ rows_deleted (nat_abs first) (count_to_delete x.kept.cells.rows count first) x.kept.cells → first_refusal (delete_refusals x.kept.cells.rows count first) ≡ None
           → IsChange loan list_loan l t m k s (with_rows_fewer count first)
       rows_fewer_change now none =
           then_scrolled l t m n k s (with_grid (λ y. rows_deleted (nat_abs first) (count_to_delete y.rows count first) y)) (pos 0) (pos 0)
           (given_but (λ y. rows_deleted (nat_abs first) (count_to_delete y.rows count first) y) now
-          (λ good. lines.rows_deleted_grid x.cells count first good (lines.may_delete x.cells.rows count first none)))
+          (λ good. lines.rows_deleted_grid x.kept.cells count first good (lines.may_delete x.kept.cells.rows count first none)))
           scrolled next
 
-      pub columns_fewer_change : cells ≡ columns_deleted (nat_abs first) (count_to_delete x.cells.columns count first) x.cells → first_refusal (delete_refusals x.cells.columns count first) ≡ None
+      pub columns_fewer_change : cells ≡ columns_deleted (nat_abs first) (count_to_delete x.kept.cells.columns count first) x.kept.cells → first_refusal (delete_refusals x.kept.cells.columns count first) ≡ None
           → IsChange loan list_loan l t m k s (with_columns_fewer count first)
       columns_fewer_change now none =
           then_scrolled l t m n k s (with_grid (λ y. columns_deleted (nat_abs first) (count_to_delete y.columns count first) y)) (pos 0) (pos 0)
           (given_but (λ y. columns_deleted (nat_abs first) (count_to_delete y.columns count first) y) now
-          (λ good. lines.columns_deleted_grid x.cells count first good (lines.may_delete x.cells.columns count first none)))
+          (λ good. lines.columns_deleted_grid x.kept.cells count first good (lines.may_delete x.kept.cells.columns count first none)))
           scrolled next
 
     module _ (count first : ℤ) where
-      pub rows_fewer_other : first_refusal (delete_refusals x.cells.rows count first) ≡ None → (y : KeptList) → slice_get (records_of list_loan m) s.list ≡ Some y
+      pub rows_fewer_other : first_refusal (delete_refusals x.kept.cells.rows count first) ≡ None → (y : KeptList) → slice_get (records_of list_loan m) s.list ≡ Some y
           → IsSameOrNot true (with_rows_fewer count first y) y
       rows_fewer_other none =
           given.of_read loan list_loan l t m s is x read (λ y. with_rows_fewer count first y ≡ y → ⊥)
-          (λ same. lines.rows_deleted_other x.cells count first (lines.may_delete x.cells.rows count first none) (ap (λ (y : KeptList). y.cells) same))
+          (λ same. lines.rows_deleted_other x.kept.cells count first (lines.may_delete x.kept.cells.rows count first none) (ap (λ (y : KeptList). y.kept.cells) same))
 
-      pub columns_fewer_other : first_refusal (delete_refusals x.cells.columns count first) ≡ None → (y : KeptList) → slice_get (records_of list_loan m) s.list ≡ Some y
+      pub columns_fewer_other : first_refusal (delete_refusals x.kept.cells.columns count first) ≡ None → (y : KeptList) → slice_get (records_of list_loan m) s.list ≡ Some y
           → IsSameOrNot true (with_columns_fewer count first y) y
       columns_fewer_other none =
           given.of_read loan list_loan l t m s is x read (λ y. with_columns_fewer count first y ≡ y → ⊥)
-          (λ same. lines.columns_deleted_other x.cells count first (lines.may_delete x.cells.columns count first none) (ap (λ (y : KeptList). y.cells) same))
+          (λ same. lines.columns_deleted_other x.kept.cells count first (lines.may_delete x.kept.cells.columns count first none) (ap (λ (y : KeptList). y.kept.cells) same))

@@ -26,7 +26,7 @@ use Rattle.desk_call.specs.declared.list.ListReply.TheVariants as reply
 use Rattle.desk_call.specs.declared.list.NewList.{NewList}
 use Rattle.list_cells.specs.declared.cell.Cell.{Cell}
 use Rattle.list_cells.specs.Grids.{Grid}
-use Rattle.list_records.specs.Lists.{serial_after}
+use Rattle.window_items.specs.Items.{serial_after}
 use Rattle.vis_update.specs.Records.{WindowRecord}
 use Rattle.window_mgr.specs.DeskStates.{SameActivity}
 use Rattle.window_mgr.specs.Finding.{record_with}
@@ -256,7 +256,7 @@ module _ (before after : ListDesk) where
   list_gone : (l : ListOf) (x : KeptList) → IsListGone l x before after → KeepsNext before after
   list_gone l x gone = record {
     beside = laid l.window _ gone.laid gone.beside.activity gone.beside.controls
-        (back_kinds (record { definition = gone.shut.definition; slot = x.definition.slot }) before.lists.stock after.lists.stock gone.shut.left gone.shut.back);
+        (back_kinds (record { definition = gone.shut.definition; slot = x.kept.definition.slot }) before.lists.stock after.lists.stock gone.shut.left gone.shut.back);
     control = ap (λ (s : ControlsState). s.next) gone.beside.controls;
     list = ap (λ (s : ListsState). s.next) gone.lists;
   }
@@ -264,14 +264,14 @@ module _ (before after : ListDesk) where
 -- ---- each call
 
 bars_set : (l : ListOf) (before after : ListDesk) → AreBarsSet l before after → KeepsNext before after
-bars_set l before after (x, named, (mid, down, across)) = and_next before mid after (bar_set before mid l.window x.vertical _ down) (bar_set mid after l.window x.horizontal _ across)
+bars_set l before after (x, named, (mid, down, across)) = and_next before mid after (bar_set before mid l.window x.kept.vertical _ down) (bar_set mid after l.window x.kept.horizontal _ across)
 
 relined : (l : ListOf) (f : KeptList → KeptList) (before after : ListDesk) → IsRelined l f before after → KeepsNext before after
-relined l f before after (mid, (x, named, done), bars) = and_next before mid after (seen before mid x.drawing l f x done) (bars_set l mid after bars)
+relined l f before after (mid, (x, named, done), bars) = and_next before mid after (seen before mid x.kept.drawing l f x done) (bars_set l mid after bars)
 
 disposed : (l : ListOf) (before after : ListDesk) → IsListDisposed l before after → KeepsNext before after
 disposed l before after (x, gone, mid, first, down, across) =
-    and_next before gone after (list_gone before gone l x first) (and_next gone mid after (bar_gone gone mid l.window x.vertical down) (bar_gone mid after l.window x.horizontal across))
+    and_next before gone after (list_gone before gone l x first) (and_next gone mid after (bar_gone gone mid l.window x.kept.vertical down) (bar_gone mid after l.window x.kept.horizontal across))
 
 -- so many serials and then so many more
 next_both : (j k : Bool) (a b c : Option ℕ) → IsNextAfter (if j then 1 else 0) a b → IsNextAfter (if k then 1 else 0) b c → IsNextAfter ((if j then 1 else 0) + (if k then 1 else 0)) a c
@@ -302,7 +302,7 @@ module _ (before after : ListDesk) where
 
   clicked : (k : ListClick) (o : Option Cell) (answer : ListReply) → is_missing k.list.window before.desk.windows.desk.windows ≡ false → IsClickOn k o answer before after → KeepsNext before after
   clicked k None answer there done = still before after done.1
-  clicked k (Some c) answer there (is, (x, named, done)) = selected before after x.drawing k.list _ x there done
+  clicked k (Some c) answer there (is, (x, named, done)) = selected before after x.kept.drawing k.list _ x there done
 
   effect_facts : (call : ListCall) (answer : ListReply) → first_refusal (list_refusals call before.desk.windows.desk before.controls before.lists) ≡ None → IsListEffect call answer before after
       → IsBesideLayers before after × IsNextList call (Ok answer) before after
@@ -312,11 +312,11 @@ module _ (before after : ListDesk) where
   effect_facts (AddColumns n) answer may done = both (relined n.list _ before after done.1)
   effect_facts (DeleteRows n) answer may done = both (relined n.list _ before after done.1)
   effect_facts (DeleteColumns n) answer may done = both (relined n.list _ before after done.1)
-  effect_facts (SetCell t) answer may (is, (x, named, done)) = both (seen before after x.drawing t.cell.list _ x done)
-  effect_facts (AddToCell t) answer may (is, (x, named, done)) = both (seen before after x.drawing t.cell.list _ x done)
-  effect_facts (ClearCell c) answer may (is, (x, named, done)) = both (seen before after x.drawing c.list _ x done)
+  effect_facts (SetCell t) answer may (is, (x, named, done)) = both (seen before after x.kept.drawing t.cell.list _ x done)
+  effect_facts (AddToCell t) answer may (is, (x, named, done)) = both (seen before after x.kept.drawing t.cell.list _ x done)
+  effect_facts (ClearCell c) answer may (is, (x, named, done)) = both (seen before after x.kept.drawing c.list _ x done)
   effect_facts (GetCell c) answer may done = both (still before after done.1)
-  effect_facts (Select k) answer may (is, (x, named, done)) = both (selected before after x.drawing k.cell.list _ x (window_there k.cell.list (of_list (cell_refusals k.cell.cell) (list_of k.cell.list before.lists.lists)) may) done)
+  effect_facts (Select k) answer may (is, (x, named, done)) = both (selected before after x.kept.drawing k.cell.list _ x (window_there k.cell.list (of_list (cell_refusals k.cell.cell) (list_of k.cell.list before.lists.lists)) may) done)
   effect_facts (IsSelected c) answer may done = both (still before after done.1)
   effect_facts (FirstSelected c) answer may done = both (still before after done.1)
   effect_facts (NextCell n) answer may done = both (still before after done.1)

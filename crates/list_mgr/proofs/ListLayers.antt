@@ -20,7 +20,7 @@ use Rattle.layer_list.specs.declared.layer.Layer.{Layer}
 use Rattle.layer_list.specs.declared.layers.Relaid.{Relaid}
 use Rattle.layer_list.specs.Changes.{is_gained}
 use Rattle.layer_list.specs.Holders.{ArePartsApart, PlacedLayers, fits_at}
-use Rattle.list_records.specs.Lists.{are_before, has_serial, lists_of}
+use Rattle.window_items.specs.Items.{are_before, has_serial, items_of}
 use Rattle.list_view.specs.Views.{view_rect}
 use Rattle.desk_call.specs.declared.list.NewList.{NewList}
 use Rattle.desk_call.specs.declared.update.Layers.TheVariants.{Controls}
@@ -103,7 +103,7 @@ module _ (k : ListTicket) (ls : PlacedLayers) (may : MayLay k ls) (r : Pixels) (
   abbrev pub own : Layer
   own = record { part = part.List k.serial; shown = true; region = r; bounds = rect }
 
-  own_is : (x : KeptList) → x.serial ≡ k.serial → x.view ≡ k.view → IsLayerOf x own
+  own_is : (x : KeptList) → x.serial ≡ k.serial → x.kept.view ≡ k.view → IsLayerOf x own
   own_is x serial view = record {
     part = ap part.List (sym serial);
     shown = refl;
@@ -152,8 +152,8 @@ module _ {V : Type 0} {H : V → Type 0} (loan : Taken V H → Loan) {X : Type 0
   pub may_lay : (w : Window V H) → IsWindowAt t.windows.records.items k.window w → MayLay k w.layers
   may_lay w lies = record {
     apart = contents.layers_apart loan t kept.slots kept.whole k.window place.window.0 w lies (λ font q p. false);
-    unused = none_named k.serial (lists_of w.serial ls) w.layers.layers
-        (at_window loan (λ r. AreListLayers (lists_of r.serial ls) r.layers) t.windows.records.items k.window w place.window.0 lies beside.whole.joined)
+    unused = none_named k.serial (items_of w.serial ls) w.layers.layers
+        (at_window loan (λ r. AreListLayers (items_of r.serial ls) r.layers) t.windows.records.items k.window w place.window.0 lies beside.whole.joined)
         (none_in_window k.serial w.serial ls (none_before k.serial ls (subst (λ o. are_before o ls ≡ true) place.serial beside.whole.given)));
     fits =
         (λ i. is_in_range (moved_rect (view_rect (place.view i)) (there i).h (there i).v))

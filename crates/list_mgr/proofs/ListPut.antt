@@ -16,13 +16,13 @@ use Rattle.def_iface.specs.Stocked.{SlotView}
 use Rattle.def_iface.proofs.Owning.{same_number}
 use Rattle.layer_list.specs.declared.layer.Layer.{Layer}
 use Rattle.layer_list.specs.Holders.{PlacedLayers}
-use Rattle.control_list.specs.Lists.{controls_of}
-use Rattle.list_records.specs.declared.list_record.ListRecord.{ListRecord}
-use Rattle.list_records.specs.Lists.{are_before, lists_of, serial_after}
-use Rattle.list_records.specs.Seen.{all_seen, seen}
-use Rattle.list_records.proofs.LawLemmas.{no_others}
-use Rattle.list_records.proofs.SeenLemmas.{append-seen, count_of-seen}
-use Rattle.list_records.proofs.WindowLemmas.{lists_of-push}
+use Rattle.window_items.specs.Items.{items_of, are_before, serial_after}
+use Rattle.window_items.specs.declared.item.Item.{Item}
+use Rattle.list_mgr.specs.declared.list_record.ListRecord.{ListRecord}
+use Rattle.list_mgr.specs.Seen.{all_seen, seen, kept_seen}
+use Rattle.window_items.proofs.LawLemmas.{no_others}
+use Rattle.window_items.proofs.SeenLemmas.{append-seen, count_of-seen}
+use Rattle.window_items.proofs.WindowLemmas.{items_of-push}
 use Rattle.list_cells.specs.Grids.{Grid, empty_grid}
 use Rattle.desk_call.specs.declared.list.NewList.{NewList}
 use Rattle.desk_call.specs.declared.update.Layers.TheVariants.{Controls}
@@ -67,24 +67,26 @@ cells_fit n good = λ i. extent_of n.cell_size.width good.view.across.cell_some 
 module _ {X : Type 0} {L : X → Type 0} (list_loan : TakenList X L → ListLoan) where
   pub list_seen : (n : NewList) (k : ListTicket) (cells : Grid) (vertical horizontal : Option ℕ) (taken : TakenList X L) (slot : ℕ) → k.view ≡ view_of n → cells ≡ empty_grid (nat_abs n.columns) (nat_abs n.rows)
       → (list_loan taken).slot ≡ slot
-      → seen list_loan (record { serial = k.serial; window = n.window; view = k.view; cells = cells; flags = k.flags; drawing = true; vertical = vertical; horizontal = horizontal; definition = taken })
+      → seen list_loan (record { serial = k.serial; window = n.window; kept = record { view = k.view; cells = cells; flags = k.flags; drawing = true; vertical = vertical; horizontal = horizontal; definition = taken } })
       ≡ new_list n k.serial k.flags vertical horizontal (record { definition = (list_loan taken).definition; slot = slot })
   list_seen n k cells vertical horizontal taken slot view_is cells_are same = λ i. record {
     serial = k.serial;
     window = n.window;
-    view = view_is i;
-    cells = cells_are i;
-    flags = k.flags;
-    drawing = true;
-    vertical = vertical;
-    horizontal = horizontal;
-    definition = record { definition = (list_loan taken).definition; slot = same i };
+    kept = record {
+      view = view_is i;
+      cells = cells_are i;
+      flags = k.flags;
+      drawing = true;
+      vertical = vertical;
+      horizontal = horizontal;
+      definition = record { definition = (list_loan taken).definition; slot = same i };
+    };
   }
 
   -- what is left of the lists where it was put behind the others
-  pub pushed : (m : Lists (TakenList X L)) (xs : List (ListRecord (TakenList X L))) (x : ListRecord (TakenList X L)) (l : KeptList) → xs ≡ m.list.lists.items ++ x ∷ [] → seen list_loan x ≡ l
+  pub pushed : (m : Lists (TakenList X L)) (xs : List (Item (ListRecord (TakenList X L)))) (x : Item (ListRecord (TakenList X L))) (l : KeptList) → xs ≡ m.list.items.items ++ x ∷ [] → seen list_loan x ≡ l
       → all_seen list_loan xs ≡ records_of list_loan m ++ l ∷ []
-  pushed m xs x l is same = ap (all_seen list_loan) is ∙ append-seen list_loan m.list.lists.items (x ∷ []) ∙ ap (λ y. records_of list_loan m ++ y ∷ []) same
+  pushed m xs x l is same = ap (all_seen list_loan) is ∙ append-seen (kept_seen list_loan) m.list.items.items (x ∷ []) ∙ ap (λ y. records_of list_loan m ++ y ∷ []) same
 
 -- ---- the list put
 
@@ -144,8 +146,8 @@ module _ {V : Type 0} {H : V → Type 0} (loan : Taken V H → Loan) {X : Type 0
           (subst (λ s. AreLayersSet s layers q (state_showing showed (state_of loan t slots)) (state_showing (lists_show (records_of list_loan m')) (state_of loan u slots))) serial leaves.1) in
           let windows_are : (desk_of loan u []).windows ≡ map (with_layers_of n.window layers) (desk_of loan t []).windows = ap (λ (d : FullDesk). d.windows) sets.desk in
           let there : is_missing n.window (desk_of loan t []).windows ≡ false = ap is_none (found loan t t slots whole k.window n.window w ready.place.window.0 lies serial) in
-          let controls_laid : AreLayersOf (controls_of n.window cs.controls) layers = laid_controls cs controls w lies in
-          let lists_laid : AreListLayers (lists_of n.window (records_of list_loan m ++ one ∷ [])) layers = laid_lists before lists w lies in (
+          let controls_laid : AreLayersOf (items_of n.window cs.controls) layers = laid_controls cs controls w lies in
+          let lists_laid : AreListLayers (items_of n.window (records_of list_loan m ++ one ∷ [])) layers = laid_lists before lists w lies in (
             leaves.0,
             whole_set loan n.window layers q showed shows t u slots cs sets controls controls_laid,
             subst (λ ws. AreWholeLists ws (lists_state list_loan m' left)) (sym windows_are)
@@ -154,7 +156,7 @@ module _ {V : Type 0} {H : V → Type 0} (loan : Taken V H → Loan) {X : Type 0
                 (whole_put one old n.kind layers (desk_of loan t []).windows (lists_state list_loan m before) left lists ready.place.serial
                 (no_others one (records_of list_loan m) (subst (λ x. are_before x (records_of list_loan m) ≡ true) ready.place.serial lists.given))
                 (new_settled n ready.place.good k.serial slot k.flags vertical horizontal old begun live) there
-                (subst (λ c. c < most_lists) (sym (count_of-seen list_loan n.window m.list.lists.items)) ready.place.few) took lists_laid)),
+                (subst (λ c. c < most_lists) (sym (count_of-seen (kept_seen list_loan) n.window m.list.items.items)) ready.place.few) took lists_laid)),
             record {
               flags = k.flags;
               sum = ready.place.flags;
@@ -168,7 +170,7 @@ module _ {V : Type 0} {H : V → Type 0} (loan : Taken V H → Loan) {X : Type 0
               laid = record {
                 layers = layers;
                 controls = controls_laid;
-                lists = subst (λ xs. AreListLayers (lists_of n.window xs) layers) (sym lists_are) lists_laid;
+                lists = subst (λ xs. AreListLayers (items_of n.window xs) layers) (sym lists_are) lists_laid;
                 set = sets;
                 shows = refl;
               };
@@ -176,21 +178,21 @@ module _ {V : Type 0} {H : V → Type 0} (loan : Taken V H → Loan) {X : Type 0
             },
           )
         where
-          laid_controls : (cs : ControlsState) → AreWholeControls (desk_of loan t []).windows cs → (w : Window V H) → IsWindowAt t.windows.records.items k.window w → AreLayersOf (controls_of n.window cs.controls) layers
+          laid_controls : (cs : ControlsState) → AreWholeControls (desk_of loan t []).windows cs → (w : Window V H) → IsWindowAt t.windows.records.items k.window w → AreLayersOf (items_of n.window cs.controls) layers
           laid_controls cs whole w lies =
-              let was : AreLayersOf (controls_of n.window cs.controls) ready.layers.layers =
-              subst (λ (x : ℕ × PlacedLayers). AreLayersOf (controls_of x.0 cs.controls) x.1.layers) (λ i. (ready.place.window.1 w lies i, ready.lies w lies i))
-              (at_window loan (λ r. AreLayersOf (controls_of r.serial cs.controls) r.layers) t.windows.records.items k.window w ready.place.window.0 lies whole.joined) in
-              subst (AreLayersOf (controls_of n.window cs.controls)) (sym inserted)
-              (joined_with (controls_of n.window cs.controls) ready.layers.layers (length ready.layers.layers) own
-              (begin_length IsControlLayer AreNoControls (controls_of n.window cs.controls) ready.layers.layers was) (ap (is_of Controls) ready.planned.part_is) was)
+              let was : AreLayersOf (items_of n.window cs.controls) ready.layers.layers =
+              subst (λ (x : ℕ × PlacedLayers). AreLayersOf (items_of x.0 cs.controls) x.1.layers) (λ i. (ready.place.window.1 w lies i, ready.lies w lies i))
+              (at_window loan (λ r. AreLayersOf (items_of r.serial cs.controls) r.layers) t.windows.records.items k.window w ready.place.window.0 lies whole.joined) in
+              subst (AreLayersOf (items_of n.window cs.controls)) (sym inserted)
+              (joined_with (items_of n.window cs.controls) ready.layers.layers (length ready.layers.layers) own
+              (begin_length IsControlLayer AreNoControls (items_of n.window cs.controls) ready.layers.layers was) (ap (is_of Controls) ready.planned.part_is) was)
 
           laid_lists : (before : List ListSlot) → AreWholeLists (desk_of loan t []).windows (lists_state list_loan m before) → (w : Window V H) → IsWindowAt t.windows.records.items k.window w
-              → AreListLayers (lists_of n.window (records_of list_loan m ++ one ∷ [])) layers
+              → AreListLayers (items_of n.window (records_of list_loan m ++ one ∷ [])) layers
           laid_lists before whole w lies =
-              let was : AreListLayers (lists_of n.window (records_of list_loan m)) ready.layers.layers =
-              subst (λ (x : ℕ × PlacedLayers). AreListLayers (lists_of x.0 (records_of list_loan m)) x.1.layers) (λ i. (ready.place.window.1 w lies i, ready.lies w lies i))
-              (at_window loan (λ r. AreListLayers (lists_of r.serial (records_of list_loan m)) r.layers) t.windows.records.items k.window w ready.place.window.0 lies whole.joined) in
+              let was : AreListLayers (items_of n.window (records_of list_loan m)) ready.layers.layers =
+              subst (λ (x : ℕ × PlacedLayers). AreListLayers (items_of x.0 (records_of list_loan m)) x.1.layers) (λ i. (ready.place.window.1 w lies i, ready.lies w lies i))
+              (at_window loan (λ r. AreListLayers (items_of r.serial (records_of list_loan m)) r.layers) t.windows.records.items k.window w ready.place.window.0 lies whole.joined) in
               subst (λ (x : List KeptList × List Layer). AreListLayers x.0 x.1)
-              (λ i. (sym (lists_of-push n.window (records_of list_loan m) one (same_number n.window)) i, sym inserted i))
-              (listed_with (lists_of n.window (records_of list_loan m)) ready.layers.layers one own was (ready.planned.is one refl (sym ready.place.view)))
+              (λ i. (sym (items_of-push n.window (records_of list_loan m) one (same_number n.window)) i, sym inserted i))
+              (listed_with (items_of n.window (records_of list_loan m)) ready.layers.layers one own was (ready.planned.is one refl (sym ready.place.view)))

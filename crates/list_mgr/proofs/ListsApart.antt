@@ -5,8 +5,8 @@ use Rattle.std.specs.List.{AllZip, list_any}
 use Rattle.std.proofs.lemmas.Bool.{false≢true}
 use Rattle.std.proofs.lemmas.List.Elements.{All-head, All-tail}
 use Rattle.tb_geom.specs.Points.{PixelSet}
-use Rattle.control_list.specs.Lists as controls
-use Rattle.list_records.specs.Lists.{has_serial, is_in, lists_of}
+use Rattle.window_items.specs.Items as controls
+use Rattle.window_items.specs.Items.{has_serial, is_in, items_of}
 use Rattle.def_iface.specs.declared.part.Part.{Part}
 use Rattle.def_iface.specs.declared.part.Part.TheVariants as part
 use Rattle.def_iface.specs.Desk as layers
@@ -90,20 +90,20 @@ module _ (look : Look) (content : PixelSet) (w : WindowRecord) where
 -- ---- those of one window
 
 -- the controls of one window are apart where all are
-controls_apart : (window : ℕ) (cs : List ControlRecord) → kept.AreControlsApart cs → kept.AreControlsApart (controls.controls_of window cs)
+controls_apart : (window : ℕ) (cs : List ControlRecord) → kept.AreControlsApart cs → kept.AreControlsApart (controls.items_of window cs)
 controls_apart window [] apart = tt
 controls_apart window (c ∷ cs) apart = by_test (controls.is_in window c) (controls_apart window cs apart.1)
   where
-    by_test : (b : Bool) → kept.AreControlsApart (controls.controls_of window cs) → kept.AreControlsApart (cond b (c ∷ controls.controls_of window cs) (controls.controls_of window cs))
+    by_test : (b : Bool) → kept.AreControlsApart (controls.items_of window cs) → kept.AreControlsApart (cond b (c ∷ controls.items_of window cs) (controls.items_of window cs))
     by_test true rest = (no_control_in c.serial window cs apart.0, rest)
     by_test false rest = rest
 
 -- and so are its lists
-pub lists_apart : (window : ℕ) (ls : List KeptList) → AreListsApart ls → AreListsApart (lists_of window ls)
+pub lists_apart : (window : ℕ) (ls : List KeptList) → AreListsApart ls → AreListsApart (items_of window ls)
 lists_apart window [] apart = tt
 lists_apart window (l ∷ ls) apart = by_test (is_in window l) (lists_apart window ls apart.1)
   where
-    by_test : (b : Bool) → AreListsApart (lists_of window ls) → AreListsApart (cond b (l ∷ lists_of window ls) (lists_of window ls))
+    by_test : (b : Bool) → AreListsApart (items_of window ls) → AreListsApart (cond b (l ∷ items_of window ls) (items_of window ls))
     by_test true rest = (none_in_window l.serial window ls apart.0, rest)
     by_test false rest = rest
 
@@ -135,10 +135,10 @@ distinct_windows look other cs ls (w ∷ ws) (v ∷ vs) apart away same joined i
           (none_of other v.serial vs ∙ missing_alike v.serial ws vs rest ∙ sym (none_of look v.serial ws)
           ∙ ap (λ (x : WindowRecord). is_none (layers.window_of x.serial (map (layered_window look) ws))) first ∙ ap is_none distinct.0),
       (
-        all_parts other (v.definition.content v.size) v (controls.controls_of v.serial cs) (lists_of v.serial ls) v.layers
-            (All-head (λ x. AreLayersOf (controls.controls_of x.serial cs) x.layers) v vs joined) (All-head (λ x. AreListLayers (lists_of x.serial ls) x.layers) v vs its)
+        all_parts other (v.definition.content v.size) v (controls.items_of v.serial cs) (items_of v.serial ls) v.layers
+            (All-head (λ x. AreLayersOf (controls.items_of x.serial cs) x.layers) v vs joined) (All-head (λ x. AreListLayers (items_of x.serial ls) x.layers) v vs its)
             (controls_apart v.serial cs apart) (lists_apart v.serial ls away),
-        distinct_windows look other cs ls ws vs apart away rest (All-tail (λ x. AreLayersOf (controls.controls_of x.serial cs) x.layers) v vs joined)
-            (All-tail (λ x. AreListLayers (lists_of x.serial ls) x.layers) v vs its) distinct.1.1,
+        distinct_windows look other cs ls ws vs apart away rest (All-tail (λ x. AreLayersOf (controls.items_of x.serial cs) x.layers) v vs joined)
+            (All-tail (λ x. AreListLayers (items_of x.serial ls) x.layers) v vs its) distinct.1.1,
       ),
     )

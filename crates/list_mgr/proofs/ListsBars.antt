@@ -4,7 +4,7 @@ use Rattle.std.specs.Prelude.{is_none, slice_get}
 use Rattle.std.proofs.lemmas.Bool.{and_parts}
 use Rattle.tb_geom.specs.declared.point.Point.{Point}
 use Rattle.tb_geom.specs.declared.refusal.Refusal.{Refusal}
-use Rattle.control_list.specs.Lists.{with_values}
+use Rattle.control_mgr.specs.Fields.{with_values}
 use Rattle.control_values.specs.Settings.{Setting}
 use Rattle.def_iface.specs.declared.part.Part.TheVariants as part
 use Rattle.def_iface.specs.Desk.{IsDesk, on_screen}
@@ -35,7 +35,6 @@ use Rattle.control_mgr.specs.WholeControls.{AreWholeControls}
 use Rattle.control_mgr.proofs.ControlBits.{bare, same_own}
 use Rattle.control_mgr.proofs.ControlFacts.{control_facts}
 use Rattle.control_mgr.proofs.ControlsKept.{control_behind, control_keeps}
-use Rattle.control_mgr.proofs.Edited.{All-there}
 use Rattle.control_mgr.proofs.SerialsFound as controls
 use Rattle.control_mgr.proofs.Sets.{state_of_control}
 use Rattle.control_mgr.proofs.Settled.{changed_alike, whole_put}
@@ -46,6 +45,8 @@ use Rattle.list_mgr.proofs.BarSettings.{bar_may}
 use Rattle.list_mgr.proofs.Edited.{Keeps, named_settled}
 use Rattle.list_mgr.proofs.ListsKept.{IsRightLists, changed_keeps, unchanged_keeps}
 use Rattle.list_mgr.proofs.ListsWhole.{same_whole, whole_behind}
+use Rattle.window_items.specs.Items.{with_kept}
+use Rattle.window_items.proofs.EditLemmas.{All-there}
 
 -- ---- calls about controls
 
@@ -84,7 +85,7 @@ module _ (before after : ListDesk) (was : IsRightLists before) where
     agrees : (x : ControlRecord) → slice_get before.controls.controls done.changed.at ≡ Some x → with_values setting x ≡ with_state (state_of_control bar) x
     agrees x there =
         let is : x ≡ control = one x control there done.changed.changed.there in
-        λ i. record x { values = setting; highlight = (is i).highlight; title = (is i).title }
+        λ i. with_kept (λ k. record k { values = setting; highlight = (is i).kept.highlight; title = (is i).kept.title }) x
 
     controls_are : AreWholeControls e.windows after.controls
     controls_are =
@@ -183,8 +184,8 @@ pub bars_set_keep : (l : ListOf) (before after : ListDesk) → IsRightLists befo
 bars_set_keep l before after was (x, named, bars) =
     let its = named_settled l before.lists.lists x was.lists.settled named in
     bar_set_keeps bars.0 after
-    (bar_set_keeps before bars.0 was l.window x.vertical (vertical_setting x.cells.rows x.view) (bar_may x.view.down x.cells.rows x.view.first.row its.grid.rows_within) bars.1)
-    l.window x.horizontal (horizontal_setting x.cells.columns x.view) (bar_may x.view.across x.cells.columns x.view.first.column its.grid.columns_within) bars.2
+    (bar_set_keeps before bars.0 was l.window x.kept.vertical (vertical_setting x.kept.cells.rows x.kept.view) (bar_may x.kept.view.down x.kept.cells.rows x.kept.view.first.row its.grid.rows_within) bars.1)
+    l.window x.kept.horizontal (horizontal_setting x.kept.cells.columns x.kept.view) (bar_may x.kept.view.across x.kept.cells.columns x.kept.view.first.column its.grid.columns_within) bars.2
 
 -- a list was changed so, and its bars were set
 pub relined_keeps : (l : ListOf) (f : KeptList → KeptList) → Keeps f → (before after : ListDesk) → IsRightLists before

@@ -40,11 +40,11 @@ module _ (before after : ListDesk) (was : IsRightLists before) where
   settles (ClearCell c) may = cleared_settles before c may
   settles (Select k) may = λ x named.
       let reasons = reasons_of k.cell.list _ before.desk.windows.desk before.lists.lists x named may in
-      let has = not-false (is_cell x.cells k.cell.cell) (none_hold (not (is_cell x.cells k.cell.cell)) NoSuchCell [] reasons).0 in
-      choice_selects x.cells k.cell.cell (settled k.cell.list x named).grid has k.selected x.flags.only_one
+      let has = not-false (is_cell x.kept.cells k.cell.cell) (none_hold (not (is_cell x.kept.cells k.cell.cell)) NoSuchCell [] reasons).0 in
+      choice_selects x.kept.cells k.cell.cell (settled k.cell.list x named).grid has k.selected x.kept.flags.only_one
   settles (Click k) may = λ c x named found.
       let its = settled k.list x named in
-      click_selects x.cells c its.grid (found_is_cell x.view x.cells c k.point its.view found) x.flags _
+      click_selects x.kept.cells c its.grid (found_is_cell x.kept.view x.kept.cells c k.point its.view found) x.kept.flags _
   settles (Scroll m) may = λ x named its. scroll_settles m.columns m.rows x (settled_but x its)
   settles call may = tt
 

@@ -6,7 +6,7 @@ use Rattle.std.specs.Option.{option_map}
 use Rattle.tb_geom.specs.declared.point.Point.{Point}
 use Rattle.tb_geom.specs.Points.{PixelSet, minus}
 use Rattle.tb_geom.specs.Pixels.{Pixels, holds}
-use Rattle.control_list.specs.Lists.{controls_of}
+use Rattle.window_items.specs.Items.{items_of, is_in_at}
 use Rattle.def_iface.specs.declared.part.Part.{Part}
 use Rattle.def_iface.specs.declared.taken.Taken.{Taken}
 use Rattle.def_iface.specs.declared.taken_control.TakenControl.{TakenControl}
@@ -19,11 +19,11 @@ use Rattle.layer_list.specs.declared.layer.Layer.{Layer}
 use Rattle.layer_list.specs.declared.layers.Relaid.{Relaid}
 use Rattle.layer_list.specs.Changes.{is_gained}
 use Rattle.layer_list.specs.Holders.{ArePartsApart, PlacedLayers}
-use Rattle.list_records.specs.declared.list_record.ListRecord.{ListRecord}
-use Rattle.list_records.specs.Lists.{is_in_at, lists_of}
-use Rattle.list_records.specs.Seen.{all_seen, seen}
-use Rattle.list_records.proofs.SeenLemmas.{remove-seen, slice_get-seen}
-use Rattle.list_records.proofs.WindowLemmas.{found_in}
+use Rattle.window_items.specs.declared.item.Item.{Item}
+use Rattle.list_mgr.specs.declared.list_record.ListRecord.{ListRecord}
+use Rattle.list_mgr.specs.Seen.{all_seen, seen, kept_seen}
+use Rattle.window_items.proofs.SeenLemmas.{remove-seen, slice_get-seen}
+use Rattle.window_items.proofs.WindowLemmas.{found_in}
 use Rattle.desk_call.specs.declared.list.ListCall.TheVariants.{Dispose}
 use Rattle.desk_call.specs.declared.list.ListOf.{ListOf}
 use Rattle.desk_call.specs.declared.list.ListReply.TheVariants.{Done}
@@ -119,8 +119,8 @@ module _ {V : Type 0} {H : V → Type 0} (loan : Taken V H → Loan) {X : Type 0
 
       -- ---- the list, taken out
 
-      module _ (r : Relaying) (n : Lists (TakenList X L)) (x : ListRecord (TakenList X L)) (x_there : slice_get m.list.lists.items s.list ≡ Some x)
-          (lists_are : n.list.lists.items ≡ remove m.list.lists.items s.list) (next_is : n.list.next ≡ m.list.next)
+      module _ (r : Relaying) (n : Lists (TakenList X L)) (x : Item (ListRecord (TakenList X L))) (x_there : slice_get m.list.items.items s.list ≡ Some x)
+          (lists_are : n.list.items.items ≡ remove m.list.items.items s.list) (next_is : n.list.next ≡ m.list.next)
           (t1 : WindowManager V H) (put : AreLayersPut at relaid.layers r.update t t1)
           (set : (v : Window V H) → IsWindowAt t.windows.records.items at v → (q : Option Part) → IsPartAt relaid.layers.layers None q → (was : List ℕ → Part → PixelSet) (slots : List SlotView) → IsWholeManager loan t slots
           → IsWholeManager loan t1 slots × AreLayersSet v.serial relaid.layers.layers q (state_showing was (state_of loan t slots)) (state_showing (lists_show (records_of list_loan n)) (state_of loan t1 slots)))
@@ -141,11 +141,11 @@ module _ {V : Type 0} {H : V → Type 0} (loan : Taken V H → Loan) {X : Type 0
             l.window relaid.layers.layers None (state_showing was (state_of loan t slots)) (λ q e. absurd (cc))
             (subst (λ k. AreLayersSet k relaid.layers.layers None (state_showing was (state_of loan t slots)) (state_showing (lists_show (records_of list_loan n)) (state_of loan t1 slots))) serial done.1)
 
-        controls_joined : AreLayersOf (controls_of l.window (controls_kept control_loan c)) relaid.layers.layers
+        controls_joined : AreLayersOf (items_of l.window (controls_kept control_loan c)) relaid.layers.layers
         controls_joined =
-            subst (λ (y : ℕ × PlacedLayers). AreLayersOf (controls_of y.0 (controls_kept control_loan c)) y.1.layers) (λ i. (serial i, sym layers_are i))
-            (joined_without (controls_of w.serial (controls_kept control_loan c)) w.layers.layers layer own low own_read no_control
-            (at_window loan (λ v. AreLayersOf (controls_of v.serial (controls_kept control_loan c)) v.layers) t.windows.records.items at w is.window.0 lies controls.joined))
+            subst (λ (y : ℕ × PlacedLayers). AreLayersOf (items_of y.0 (controls_kept control_loan c)) y.1.layers) (λ i. (serial i, sym layers_are i))
+            (joined_without (items_of w.serial (controls_kept control_loan c)) w.layers.layers layer own low own_read no_control
+            (at_window loan (λ v. AreLayersOf (items_of v.serial (controls_kept control_loan c)) v.layers) t.windows.records.items at w is.window.0 lies controls.joined))
 
         pub controls_first : AreWholeControls (desk_of loan t1 []).windows (controls_state control_loan c held)
         controls_first =
@@ -156,10 +156,10 @@ module _ {V : Type 0} {H : V → Type 0} (loan : Taken V H → Loan) {X : Type 0
         beside_first = record { slots = held; whole = controls_first }
 
         left : records_of list_loan n ≡ remove (records_of list_loan m) s.list
-        left = ap (all_seen list_loan) lists_are ∙ remove-seen list_loan m.list.lists.items s.list
+        left = ap (all_seen list_loan) lists_are ∙ remove-seen (kept_seen list_loan) m.list.items.items s.list
 
         seen_x : slice_get (records_of list_loan m) s.list ≡ Some (seen list_loan x)
-        seen_x = slice_get-seen list_loan m.list.lists.items s.list ∙ ap (option_map (seen list_loan)) x_there
+        seen_x = slice_get-seen (kept_seen list_loan) m.list.items.items s.list ∙ ap (option_map (seen list_loan)) x_there
 
         here : is_in_at l.window s.list (records_of list_loan m) ≡ true
         here = found_in l.window l.list s.list (records_of list_loan m) is.list
@@ -170,19 +170,19 @@ module _ {V : Type 0} {H : V → Type 0} (loan : Taken V H → Loan) {X : Type 0
             let same : its.list ≡ seen list_loan x = cc in
             subst (λ y. IsLayerOf y own) same (its.is own own_read)
 
-        lists_left : AreListLayers (lists_of l.window (remove (records_of list_loan m) s.list)) relaid.layers.layers
+        lists_left : AreListLayers (items_of l.window (remove (records_of list_loan m) s.list)) relaid.layers.layers
         lists_left =
-            subst (λ (y : PlacedLayers). AreListLayers (lists_of l.window (remove (records_of list_loan m) s.list)) y.layers) (sym layers_are)
+            subst (λ (y : PlacedLayers). AreListLayers (items_of l.window (remove (records_of list_loan m) s.list)) y.layers) (sym layers_are)
             (layers_left_are (records_of list_loan m) l.window s.list (seen list_loan x) w.layers.layers layer own lists.apart here seen_x
-            (subst (λ k. AreListLayers (lists_of k (records_of list_loan m)) w.layers.layers) serial
-            (at_window loan (λ v. AreListLayers (lists_of v.serial (records_of list_loan m)) v.layers) t.windows.records.items at w is.window.0 lies lists.joined))
+            (subst (λ k. AreListLayers (items_of k (records_of list_loan m)) w.layers.layers) serial
+            (at_window loan (λ v. AreListLayers (items_of v.serial (records_of list_loan m)) v.layers) t.windows.records.items at w is.window.0 lies lists.joined))
             (there_is w.layers.layers layer low).there x_layer)
 
         -- the bars are ready to be ended, as they were planned
         pub ready_first : (bar : Option ℕ) → IsReadyToEnd loan control_loan (bar_of l.window bar) at relaid.layers r.update t t1 c
         ready_first bar = ending_after loan control_loan (bar_of l.window bar) at w.layers relaid.layers a.update r.update t t t1 c laid_first put kept_first beside_first is.window
 
-        module _ (rest : List ListSlot) (shut : IsListShut (list_loan x.definition) stock rest) where
+        module _ (rest : List ListSlot) (shut : IsListShut (list_loan x.kept.definition) stock rest) where
           state_is : lists_state list_loan n rest ≡ record (lists_state list_loan m stock) { lists = remove (records_of list_loan m) s.list; stock = rest }
           state_is = λ i. record { lists = left i; next = next_is i; stock = rest }
 
@@ -203,7 +203,7 @@ module _ {V : Type 0} {H : V → Type 0} (loan : Taken V H → Loan) {X : Type 0
             laid = record {
               layers = relaid.layers.layers;
               controls = controls_joined;
-              lists = subst (λ ls. AreListLayers (lists_of l.window ls) relaid.layers.layers) (sym left) lists_left;
+              lists = subst (λ ls. AreListLayers (items_of l.window ls) relaid.layers.layers) (sym left) lists_left;
               set = layers_set (controls_show (lists_show (records_of list_loan m)) (controls_kept control_loan c)) slots whole;
               shows = refl;
             };
@@ -226,7 +226,7 @@ module _ {V : Type 0} {H : V → Type 0} (loan : Taken V H → Loan) {X : Type 0
                 (ending_left loan control_loan (bar_of l.window bar) at (bar_serial vertical) relaid.layers r.update t t1 t2 c c2 one (ready_first bar) taken next_put kept_second (record { slots = held2; whole = controls_second }))
 
             module _ (horizontal : Option ℕ) (t3 : WindowManager V H) (c3 : Controls (TakenControl W K)) (held3 : List ControlSlot) (other_gone : IsBarGoneOver control_loan loan held2 held3 l.window horizontal t2 c2 t3 c3)
-                (vertical_is : vertical ≡ x.vertical) (horizontal_is : horizontal ≡ x.horizontal) where
+                (vertical_is : vertical ≡ x.kept.vertical) (horizontal_is : horizontal ≡ x.kept.horizontal) where
               abbrev shows : Controls (TakenControl W K) → List ℕ → Part → PixelSet
               shows k = controls_show (lists_show (records_of list_loan n)) (controls_kept control_loan k)
 

@@ -7,7 +7,8 @@ use Rattle.list_cells.specs.Blocks.{clicked_cell}
 use Rattle.list_cells.specs.Clicks.{keys_of}
 use Rattle.list_cells.specs.Grids.{Grid, with_bytes}
 use Rattle.list_cells.specs.Selections.{IsSelecting, chosen_cell}
-use Rattle.list_records.specs.Lists.{count_of, with_cells}
+use Rattle.window_items.specs.Items.{count_of}
+use Rattle.list_mgr.specs.Fields.{with_cells}
 use Rattle.desk_call.specs.declared.list.ListCall.{ListCall}
 use Rattle.desk_call.specs.declared.list.ListCall.TheVariants.{New, Dispose, AddRows, AddColumns, DeleteRows, DeleteColumns, SetCell, AddToCell, ClearCell, GetCell, Select, IsSelected, FirstSelected, NextCell, Search, Click, Scroll, SetDrawing}
 use Rattle.desk_call.specs.declared.list.ListClick.{ListClick}
@@ -74,11 +75,11 @@ scroll_keep columns rows = record {
 
 -- with lOnlyOne no two cells are selected after the change where no two were before it
 abbrev StaysSingle : (Grid → Grid) → KeptList → Type 0
-StaysSingle g x = x.flags.only_one ≡ true → count_selected x.cells ≤ 1 → count_selected (g x.cells) ≤ 1
+StaysSingle g x = x.kept.flags.only_one ≡ true → count_selected x.kept.cells ≤ 1 → count_selected (g x.kept.cells) ≤ 1
 
 -- a list whose cells differ in their selection alone is as good
-settled_selected : (x : KeptList) (g : Grid → Grid) (s : Selecting) → IsSelecting x.cells (g x.cells) s → StaysSingle g x → IsSettledList x → IsSettledList (with_cells (g x.cells) x)
-settled_selected x g s h single its = grid_stays g x its (selecting_wider x.flags x.cells (g x.cells) s h single its.grid)
+settled_selected : (x : KeptList) (g : Grid → Grid) (s : Selecting) → IsSelecting x.kept.cells (g x.kept.cells) s → StaysSingle g x → IsSettledList x → IsSettledList (with_cells (g x.kept.cells) x)
+settled_selected x g s h single its = grid_stays g x its (selecting_wider x.kept.flags x.kept.cells (g x.kept.cells) s h single its.grid)
 
 -- ---- what is left to say of each call
 
@@ -88,7 +89,7 @@ StaysSettled l f d = (x : KeptList) → list_of l d.lists.lists ≡ Some x → I
 
 -- the change of cells of the list that is named changes their selection alone
 abbrev pub SelectsAt : ListOf → (KeptList → Grid → Grid) → ListDesk → Type 0
-SelectsAt l g d = (x : KeptList) → list_of l d.lists.lists ≡ Some x → (s : Selecting) × IsSelecting x.cells (g x x.cells) s
+SelectsAt l g d = (x : KeptList) → list_of l d.lists.lists ≡ Some x → (s : Selecting) × IsSelecting x.kept.cells (g x x.kept.cells) s
 
 -- a list that is put is settled, and its window is there and has room for it
 pub record IsPutSettled (n : NewList) (d after : ListDesk) : Type 0 where
@@ -107,8 +108,8 @@ MaySettle (DeleteColumns n) d after = StaysSettled n.list (with_columns_fewer n.
 MaySettle (SetCell t) d after = StaysSettled t.cell.list (with_grid (λ g. with_bytes g t.cell.cell t.text)) d
 MaySettle (AddToCell t) d after = StaysSettled t.cell.list (with_grid (appended t.cell.cell t.text)) d
 MaySettle (ClearCell c) d after = StaysSettled c.list (with_grid (λ g. with_bytes g c.cell [])) d
-MaySettle (Select k) d after = SelectsAt k.cell.list (λ x. chosen_cell k.cell.cell k.selected x.flags.only_one) d
-MaySettle (Click k) d after = (c : Cell) (x : KeptList) → list_of k.list d.lists.lists ≡ Some x → clicked_at k x ≡ Some c → (s : Selecting) × IsSelecting x.cells (clicked_cell x.flags (keys_of (nat_abs k.modifiers)) c x.cells) s
+MaySettle (Select k) d after = SelectsAt k.cell.list (λ x. chosen_cell k.cell.cell k.selected x.kept.flags.only_one) d
+MaySettle (Click k) d after = (c : Cell) (x : KeptList) → list_of k.list d.lists.lists ≡ Some x → clicked_at k x ≡ Some c → (s : Selecting) × IsSelecting x.kept.cells (clicked_cell x.kept.flags (keys_of (nat_abs k.modifiers)) c x.kept.cells) s
 MaySettle (Scroll m) d after = StaysSettled m.list (with_scroll m.columns m.rows) d
 MaySettle _ d after = Unit {0}
 
@@ -119,17 +120,17 @@ module _ (before after : ListDesk) (was : IsRightLists before) where
   one_named l x y e f = cc
 
   -- a change that selects leaves the list settled
-  stays_selected : (l : ListOf) (g : Grid → Grid) (x : KeptList) → list_of l before.lists.lists ≡ Some x → (s : Selecting) → IsSelecting x.cells (g x.cells) s → StaysSingle g x
-      → (y : KeptList) → list_of l before.lists.lists ≡ Some y → IsSettledList y → IsSettledList (with_cells (g y.cells) y)
+  stays_selected : (l : ListOf) (g : Grid → Grid) (x : KeptList) → list_of l before.lists.lists ≡ Some x → (s : Selecting) → IsSelecting x.kept.cells (g x.kept.cells) s → StaysSingle g x
+      → (y : KeptList) → list_of l before.lists.lists ≡ Some y → IsSettledList y → IsSettledList (with_cells (g y.kept.cells) y)
   stays_selected l g x named s selecting single y other =
-      subst (λ (z : KeptList). IsSettledList z → IsSettledList (with_cells (g z.cells) z)) (one_named l x y named other) (settled_selected x g s selecting single)
+      subst (λ (z : KeptList). IsSettledList z → IsSettledList (with_cells (g z.kept.cells) z)) (one_named l x y named other) (settled_selected x g s selecting single)
 
   clicked_keeps : (k : ListClick) (o : Option Cell) (answer : ListReply) → ((x : KeptList) → list_of k.list before.lists.lists ≡ Some x → clicked_at k x ≡ o) → MaySettle (Click k) before after → IsClickOn k o answer before after → IsRightLists after
   clicked_keeps k None answer found may done = unchanged_keeps before after was done.1
   clicked_keeps k (Some c) answer found may (is, (x, named, done)) =
       let selects = may c x named (found x named) in
-      toggled_or_not_keeps before after was k.list (clicked_cell x.flags (keys_of (nat_abs k.modifiers)) c) x named selects
-      (stays_selected k.list (clicked_cell x.flags (keys_of (nat_abs k.modifiers)) c) x named selects.0 selects.1 (λ only few. clicked_single x.flags (keys_of (nat_abs k.modifiers)) c x.cells only)) x.drawing done
+      toggled_or_not_keeps before after was k.list (clicked_cell x.kept.flags (keys_of (nat_abs k.modifiers)) c) x named selects
+      (stays_selected k.list (clicked_cell x.kept.flags (keys_of (nat_abs k.modifiers)) c) x named selects.0 selects.1 (λ only few. clicked_single x.kept.flags (keys_of (nat_abs k.modifiers)) c x.kept.cells only)) x.kept.drawing done
 
   -- what a call leaves keeps it, where it leaves its list settled
   pub effect_keeps : (call : ListCall) (answer : ListReply) → MaySettle call before after → IsListEffect call answer before after → IsRightLists after
@@ -145,8 +146,8 @@ module _ (before after : ListDesk) (was : IsRightLists before) where
   effect_keeps (GetCell c) answer may done = unchanged_keeps before after was done.1
   effect_keeps (Select k) answer may (is, (x, named, done)) =
       let selects = may x named in
-      toggled_or_not_keeps before after was k.cell.list (chosen_cell k.cell.cell k.selected x.flags.only_one) x named selects
-      (stays_selected k.cell.list (chosen_cell k.cell.cell k.selected x.flags.only_one) x named selects.0 selects.1 (chosen_single x.flags.only_one x.cells k.cell.cell k.selected)) x.drawing done
+      toggled_or_not_keeps before after was k.cell.list (chosen_cell k.cell.cell k.selected x.kept.flags.only_one) x named selects
+      (stays_selected k.cell.list (chosen_cell k.cell.cell k.selected x.kept.flags.only_one) x named selects.0 selects.1 (chosen_single x.kept.flags.only_one x.kept.cells k.cell.cell k.selected)) x.kept.drawing done
   effect_keeps (IsSelected c) answer may done = unchanged_keeps before after was done.1
   effect_keeps (FirstSelected c) answer may done = unchanged_keeps before after was done.1
   effect_keeps (NextCell n) answer may done = unchanged_keeps before after was done.1

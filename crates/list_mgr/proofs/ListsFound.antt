@@ -5,8 +5,8 @@ use Rattle.std.specs.List.{list_any, position, remove}
 use Rattle.std.specs.Option.{option_and_then, option_map}
 use Rattle.std.proofs.lemmas.Bool.{false≢true}
 use Rattle.std.proofs.lemmas.Bool.Decides.{nat_tests}
-use Rattle.list_records.specs.Lists.{edit_at, has_serial, is_in, lists_of}
-use Rattle.list_records.proofs.WindowLemmas.{position-cons}
+use Rattle.window_items.specs.Items.{edit_at, has_serial, is_in, items_of}
+use Rattle.window_items.proofs.WindowLemmas.{position-cons}
 use Rattle.def_iface.specs.declared.part.Part.TheVariants as part
 use Rattle.def_iface.specs.Owner.{Owner, same_owner}
 use Rattle.def_iface.specs.Owner.Owner.{Content}
@@ -47,19 +47,19 @@ any_behind n l ls h other = sym (ap (λ b. b || list_any (has_serial n) ls) othe
 -- ---- one list of each serial
 
 -- a serial that no list has, no list of a window has
-pub none_in_window : (n window : ℕ) (ls : List KeptList) → list_any (has_serial n) ls ≡ false → list_any (has_serial n) (lists_of window ls) ≡ false
+pub none_in_window : (n window : ℕ) (ls : List KeptList) → list_any (has_serial n) ls ≡ false → list_any (has_serial n) (items_of window ls) ≡ false
 none_in_window n window [] e = refl
 none_in_window n window (l ∷ ls) e =
     let both = or_parts (has_serial n l) (list_any (has_serial n) ls) e in
     by_test (is_in window l) both.0 (none_in_window n window ls both.1)
   where
-    by_test : (b : Bool) → has_serial n l ≡ false → list_any (has_serial n) (lists_of window ls) ≡ false
-        → list_any (has_serial n) (cond b (l ∷ lists_of window ls) (lists_of window ls)) ≡ false
+    by_test : (b : Bool) → has_serial n l ≡ false → list_any (has_serial n) (items_of window ls) ≡ false
+        → list_any (has_serial n) (cond b (l ∷ items_of window ls) (items_of window ls)) ≡ false
     by_test true f rest = λ i. f i || rest i
     by_test false f rest = rest
 
 -- a list of a window is one of all
-pub any_of : (n window : ℕ) (ls : List KeptList) → list_any (has_serial n) (lists_of window ls) ≡ true → list_any (has_serial n) ls ≡ true
+pub any_of : (n window : ℕ) (ls : List KeptList) → list_any (has_serial n) (items_of window ls) ≡ true → list_any (has_serial n) ls ≡ true
 any_of n window ls h = by_test (list_any (has_serial n) ls) refl
   where
     by_test : (b : Bool) → list_any (has_serial n) ls ≡ b → b ≡ true
@@ -87,30 +87,30 @@ any_there n (suc i) (x ∷ xs) l there named = or_true (has_serial n x) (list_an
 
 -- a list of a serial that one of a window has is in that window
 pub one_window : (n window i : ℕ) (ls : List KeptList) (l : KeptList) → AreListsApart ls → slice_get ls i ≡ Some l → has_serial n l ≡ true
-    → list_any (has_serial n) (lists_of window ls) ≡ true → is_in window l ≡ true
+    → list_any (has_serial n) (items_of window ls) ≡ true → is_in window l ≡ true
 one_window n window i [] l apart there named h = absurd (cc)
 one_window n window zero (x ∷ xs) l apart there named h =
     let same : x ≡ l = cc in
     subst (λ y. is_in window y ≡ true) same (by_test (is_in window x) refl (ap (has_serial n) same ∙ named) h)
   where
-    by_test : (b : Bool) → is_in window x ≡ b → has_serial n x ≡ true → list_any (has_serial n) (cond b (x ∷ lists_of window xs) (lists_of window xs)) ≡ true → is_in window x ≡ true
+    by_test : (b : Bool) → is_in window x ≡ b → has_serial n x ≡ true → list_any (has_serial n) (cond b (x ∷ items_of window xs) (items_of window xs)) ≡ true → is_in window x ≡ true
     by_test true e its h = e
     by_test false e its h = absurd (false≢true (sym (only_one n x xs apart (any_of n window xs h)) ∙ its))
 one_window n window (suc i) (x ∷ xs) l apart there named h = one_window n window i xs l apart.1 there named (by_test (is_in window x) h)
   where
-    by_test : (b : Bool) → list_any (has_serial n) (cond b (x ∷ lists_of window xs) (lists_of window xs)) ≡ true → list_any (has_serial n) (lists_of window xs) ≡ true
-    by_test true h = any_behind n x (lists_of window xs) h (only_one n x xs apart (any_there n i xs l there named))
+    by_test : (b : Bool) → list_any (has_serial n) (cond b (x ∷ items_of window xs) (items_of window xs)) ≡ true → list_any (has_serial n) (items_of window xs) ≡ true
+    by_test true h = any_behind n x (items_of window xs) h (only_one n x xs apart (any_there n i xs l there named))
     by_test false h = h
 
 -- it names the same list among those of its window
-pub with_among : (n window : ℕ) (ls : List KeptList) → AreListsApart ls → list_any (has_serial n) (lists_of window ls) ≡ true → with_serial n (lists_of window ls) ≡ with_serial n ls
+pub with_among : (n window : ℕ) (ls : List KeptList) → AreListsApart ls → list_any (has_serial n) (items_of window ls) ≡ true → with_serial n (items_of window ls) ≡ with_serial n ls
 with_among n window [] apart h = refl
 with_among n window (x ∷ xs) apart h = by_test (with_among n window xs apart.1) (is_in window x) h
   where
-    by_test : (list_any (has_serial n) (lists_of window xs) ≡ true → with_serial n (lists_of window xs) ≡ with_serial n xs) → (b : Bool)
-        → list_any (has_serial n) (cond b (x ∷ lists_of window xs) (lists_of window xs)) ≡ true
-        → with_serial n (cond b (x ∷ lists_of window xs) (lists_of window xs)) ≡ with_serial n (x ∷ xs)
-    by_test rest true h = with_alike n x xs (lists_of window xs) (λ other. rest (any_behind n x (lists_of window xs) h other))
+    by_test : (list_any (has_serial n) (items_of window xs) ≡ true → with_serial n (items_of window xs) ≡ with_serial n xs) → (b : Bool)
+        → list_any (has_serial n) (cond b (x ∷ items_of window xs) (items_of window xs)) ≡ true
+        → with_serial n (cond b (x ∷ items_of window xs) (items_of window xs)) ≡ with_serial n (x ∷ xs)
+    by_test rest true h = with_alike n x xs (items_of window xs) (λ other. rest (any_behind n x (items_of window xs) h other))
     by_test rest false h = rest h ∙ sym (with_behind n x xs (only_one n x xs apart (any_of n window xs h)))
 
 -- a list that stands somewhere is the one that its serial names
@@ -152,7 +152,7 @@ edit_none f (suc i) (x ∷ xs) none = ap (λ ys. x ∷ ys) (edit_none f i xs non
 
 -- a list that is in a window before and after is the same one, unless it is an owner of this sort
 abbrev pub StaySame : (Owner → Bool) → List KeptList → List KeptList → Type 0
-StaySame own ls ks = (window n : ℕ) → list_any (has_serial n) (lists_of window ls) ≡ true → list_any (has_serial n) (lists_of window ks) ≡ true
+StaySame own ls ks = (window n : ℕ) → list_any (has_serial n) (items_of window ls) ≡ true → list_any (has_serial n) (items_of window ks) ≡ true
     → own (Content window (part.List n)) ≡ false → with_serial n ks ≡ with_serial n ls
 
 pub stay_edited : (l : ListOf) (f : KeptList → KeptList) → ((x : KeptList) → (f x).serial ≡ x.serial) → (before after : ListDesk) → AreListsApart before.lists.lists → IsChangedTo l f before after

@@ -7,7 +7,7 @@ use Rattle.std.proofs.lemmas.Bool.Decides.{nat_tests}
 use Rattle.list_cells.specs.declared.selecting.Selecting.{Selecting}
 use Rattle.list_cells.specs.Grids.{Grid}
 use Rattle.list_cells.specs.Selections.{IsSelecting}
-use Rattle.list_records.specs.Lists.{with_cells}
+use Rattle.list_mgr.specs.Fields.{with_cells}
 use Rattle.desk_call.specs.declared.list.ListOf.{ListOf}
 use Rattle.vis_update.specs.Records.{WindowRecord}
 use Rattle.window_mgr.specs.Finding.{record_with}
@@ -19,13 +19,13 @@ use Rattle.control_mgr.proofs.ControlsKept.{IsRightDesk}
 use Rattle.list_mgr.specs.ListDesks.{IsListDeskUnchanged, KeptList, ListDesk, ListsState, list_of, lists_show, with_controls}
 use Rattle.list_mgr.specs.ListSteps.{IsChangedTo, IsListChanged, IsListMarked, IsSeenOrNot, IsShown, IsToggled, IsToggledOrNot, IsUnseen}
 use Rattle.list_mgr.specs.WholeLists.{AreWholeLists, IsSettledList}
-use Rattle.list_mgr.proofs.Drawn.{All-there}
-use Rattle.list_mgr.proofs.Edited.{Keeps, there_edited}
+use Rattle.list_mgr.proofs.Edited.{Keeps}
 use Rattle.list_mgr.proofs.ListsFound.{with_own}
 use Rattle.list_mgr.proofs.ListsRight.{marked_right, redrawn_right, toggled_right, unchanged_right}
 use Rattle.list_mgr.proofs.ListsStay.{lists_edited}
 use Rattle.list_mgr.proofs.ListsWhole.{edited_whole, same_whole}
 use Rattle.list_mgr.proofs.Places.{found_names}
+use Rattle.window_items.proofs.EditLemmas.{All-there, there_edited}
 
 -- what holds between calls: the desk with its controls is right, and the lists are whole
 pub record IsRightLists (d : ListDesk) : Type 0 where
@@ -106,7 +106,7 @@ module _ (before after : ListDesk) (was : IsRightLists before) where
 
     -- as its drawing is on or off
     pub changed_keeps : IsListChanged l f before after → IsRightLists after
-    changed_keeps done = seen_keeps done.0.drawing done.0 done.2
+    changed_keeps done = seen_keeps done.0.kept.drawing done.0 done.2
 
   -- ---- selections
 
@@ -114,10 +114,10 @@ module _ (before after : ListDesk) (was : IsRightLists before) where
   abbrev pub Selects : (Grid → Grid) → Grid → Type 0
   Selects g cells = (s : Selecting) × IsSelecting cells (g cells) s
 
-  module _ (l : ListOf) (g : Grid → Grid) (x : KeptList) (named : list_of l before.lists.lists ≡ Some x) (selects : Selects g x.cells)
-      (stays : (y : KeptList) → list_of l before.lists.lists ≡ Some y → IsSettledList y → IsSettledList (with_cells (g y.cells) y)) where
+  module _ (l : ListOf) (g : Grid → Grid) (x : KeptList) (named : list_of l before.lists.lists ≡ Some x) (selects : Selects g x.kept.cells)
+      (stays : (y : KeptList) → list_of l before.lists.lists ≡ Some y → IsSettledList y → IsSettledList (with_cells (g y.kept.cells) y)) where
     abbrev f : KeptList → KeptList
-    f y = with_cells (g y.cells) y
+    f y = with_cells (g y.kept.cells) y
 
     keeps : Keeps f
     keeps = record {
@@ -143,7 +143,7 @@ module _ (before after : ListDesk) (was : IsRightLists before) where
         let serial : (x.serial == l.list) ≡ true = same_number x.serial l.list names.1 in
         record {
           desk = record {
-            right = toggled_right before after was.desk.right was.desk.shows its.shows its.changed.beside.controls was.desk.whole.joined controls.joined l x (g x.cells) selects.0 selects.1
+            right = toggled_right before after was.desk.right was.desk.shows its.shows its.changed.beside.controls was.desk.whole.joined controls.joined l x (g x.kept.cells) selects.0 selects.1
                 (with_own l.list its.changed.at before.lists.lists x was.lists.apart there serial)
                 (with_own l.list its.changed.at after.lists.lists (f x) lists.apart there_after serial)
                 window.0 window.1 toggled

@@ -1,10 +1,9 @@
 -- What holds of a desk with lists between calls holds where a list is put behind the others or taken out.
 use Rattle.std.proofs.Common.{◌≡◌, ℕ, ◌<◌, true, false, List, map, Option, Some, None, refl, sym, ap, ◌∙◌, subst}
 use Rattle.std.specs.List.{remove}
-use Rattle.list_records.specs.Lists.{are_before, count_of, lists_of}
-use Rattle.list_records.proofs.LawLemmas.{no_others}
-use Rattle.list_records.proofs.WindowLemmas.{found_in}
-use Rattle.control_list.specs.Lists.{controls_of}
+use Rattle.window_items.specs.Items.{are_before, count_of, items_of}
+use Rattle.window_items.proofs.LawLemmas.{no_others}
+use Rattle.window_items.proofs.WindowLemmas.{found_in}
 use Rattle.def_iface.specs.declared.part.Part.{Part}
 use Rattle.def_iface.specs.declared.part.Part.TheVariants as part
 use Rattle.def_iface.specs.Desk.{IsDesk}
@@ -31,7 +30,7 @@ use Rattle.list_mgr.proofs.ListsStay.{lists_pushed, lists_removed}
 use Rattle.list_mgr.proofs.ListsWhole.{whole_gone, whole_put}
 
 -- controls that are whole are so where a window's layers begin with its controls' still
-controls_laid : (s : ℕ) (ks : List Layer) (ws : List WindowRecord) (state : ControlsState) → AreWholeControls ws state → AreLayersOf (controls_of s state.controls) ks → AreWholeControls (map (with_layers_of s ks) ws) state
+controls_laid : (s : ℕ) (ks : List Layer) (ws : List WindowRecord) (state : ControlsState) → AreWholeControls ws state → AreLayersOf (items_of s state.controls) ks → AreWholeControls (map (with_layers_of s ks) ws) state
 controls_laid s ks ws state whole its = record {
   settled = whole.settled;
   apart = whole.apart;
@@ -56,7 +55,7 @@ module _ (before after : ListDesk) (was : IsRightLists before) where
     controls_are : AreWholeControls e.windows after.controls
     controls_are =
         subst (λ (x : List WindowRecord × ControlsState). AreWholeControls x.0 x.1) (λ i. (sym windows_are i, sym same i))
-        (controls_laid window laid.layers d.windows before.controls was.desk.whole (subst (λ (s : ControlsState). AreLayersOf (controls_of window s.controls) laid.layers) same laid.controls))
+        (controls_laid window laid.layers d.windows before.controls was.desk.whole (subst (λ (s : ControlsState). AreLayersOf (items_of window s.controls) laid.layers) same laid.controls))
 
     distinct_are : AreWholeLists e.windows after.lists → IsDesk (layered_desk e)
     distinct_are lists =
@@ -89,7 +88,7 @@ module _ (before after : ListDesk) (was : IsRightLists before) where
           (λ i. (sym (windows_are n.window (Some (part.List serial)) put.laid put.beside.controls) i, record { lists = sym put.lists i; next = sym put.next i; stock = after.lists.stock }))
           (whole_put one put.loan.definition n.kind put.laid.layers d.windows before.lists after.lists.stock was.lists put.serials
           (no_others one before.lists.lists (subst (λ o. are_before o before.lists.lists ≡ true) put.serials was.lists.given))
-          settled there room put.taken (subst (λ xs. AreListLayers (lists_of n.window xs) put.laid.layers) put.lists put.laid.lists))
+          settled there room put.taken (subst (λ xs. AreListLayers (items_of n.window xs) put.laid.layers) put.lists put.laid.lists))
 
   -- a list was taken out
   pub gone_keeps : (l : ListOf) (x : KeptList) → IsListGone l x before after → IsRightLists after
@@ -113,4 +112,4 @@ module _ (before after : ListDesk) (was : IsRightLists before) where
       lists =
           subst (λ (y : List WindowRecord × ListsState). AreWholeLists y.0 y.1) (λ i. (sym (windows_are l.window None gone.laid gone.beside.controls) i, sym gone.lists i))
           (whole_gone gone.at l.window x gone.laid.layers d.windows before.lists after.lists.stock was.lists gone.there (found_in l.window l.list gone.at before.lists.lists gone.found) gone.shut
-          (subst (λ xs. AreListLayers (lists_of l.window xs) gone.laid.layers) removed gone.laid.lists))
+          (subst (λ xs. AreListLayers (items_of l.window xs) gone.laid.layers) removed gone.laid.lists))

@@ -5,8 +5,8 @@ use Rattle.std.specs.List.{list_any}
 use Rattle.std.proofs.lemmas.Bool.{false≢true}
 use Rattle.std.proofs.lemmas.Bool.Decides.{nat_tests}
 use Rattle.std.proofs.lemmas.List.Elements.{All-cons, All-nil}
-use Rattle.list_records.specs.Lists.{are_before, count_of, has_serial, is_before, is_in, lists_of}
-use Rattle.list_records.proofs.WindowLemmas.{count_of-length}
+use Rattle.window_items.specs.Items.{are_before, count_of, has_serial, is_before, is_in, items_of}
+use Rattle.window_items.proofs.WindowLemmas.{count_of-length}
 use Rattle.vis_update.specs.Records.{WindowRecord}
 use Rattle.window_mgr.specs.FullDesk.{FullState, IsRightState}
 use Rattle.window_mgr.specs.Records.{desk_showing, state_showing}
@@ -25,11 +25,11 @@ use Rattle.list_mgr.proofs.ListsFound.{StaySame, with_among}
 use Rattle.list_mgr.proofs.ListsStay.{AreListsJoined, lists_stay}
 
 -- where a window has no list, each list is in another
-all_elsewhere : (window : ℕ) (ls : List KeptList) → lists_of window ls ≡ [] → All (λ l. is_in window l ≡ false) ls
+all_elsewhere : (window : ℕ) (ls : List KeptList) → items_of window ls ≡ [] → All (λ l. is_in window l ≡ false) ls
 all_elsewhere window [] none = All-nil (λ (l : KeptList). is_in window l ≡ false)
 all_elsewhere window (l ∷ ls) none = by_test (all_elsewhere window ls) (is_in window l) refl none
   where
-    by_test : (lists_of window ls ≡ [] → All (λ x. is_in window x ≡ false) ls) → (b : Bool) → is_in window l ≡ b → cond b (l ∷ lists_of window ls) (lists_of window ls) ≡ [] → All (λ x. is_in window x ≡ false) (l ∷ ls)
+    by_test : (items_of window ls ≡ [] → All (λ x. is_in window x ≡ false) ls) → (b : Bool) → is_in window l ≡ b → cond b (l ∷ items_of window ls) (items_of window ls) ≡ [] → All (λ x. is_in window x ≡ false) (l ∷ ls)
     by_test rest true e none = absurd (cc)
     by_test rest false e none = All-cons (λ (x : KeptList). is_in window x ≡ false) l ls e (rest none)
 
@@ -43,7 +43,7 @@ module _ (window : ℕ) (before after : ListsState) (left : AreListsOfLeft windo
     where
       by_test : (b : Bool) → (window == s) ≡ b → with_serial n after.lists ≡ with_serial n before.lists
       by_test true e =
-          let none : lists_of s after.lists ≡ [] = ap (λ k. lists_of k after.lists) (sym (eqb-true window s e)) ∙ left.gone in
+          let none : items_of s after.lists ≡ [] = ap (λ k. items_of k after.lists) (sym (eqb-true window s e)) ∙ left.gone in
           absurd (false≢true (sym (ap (list_any (has_serial n)) none) ∙ is))
       by_test false e =
           sym (with_among n s after.lists (left.apart apart) is)
@@ -53,7 +53,7 @@ module _ (window : ℕ) (before after : ListsState) (left : AreListsOfLeft windo
   -- the layers of each window that is there behind its controls are its lists
   joined_left : (ws : List WindowRecord) → is_missing window ws ≡ true → AreListsJoined before.lists ws → AreListsJoined after.lists ws
   joined_left ws missing joined =
-      both_all (λ w. (window == w.serial) ≡ false) (λ w. AreListLayers (lists_of w.serial before.lists) w.layers) (λ w. AreListLayers (lists_of w.serial after.lists) w.layers)
+      both_all (λ w. (window == w.serial) ≡ false) (λ w. AreListLayers (items_of w.serial before.lists) w.layers) (λ w. AreListLayers (items_of w.serial after.lists) w.layers)
       (λ w away its. subst (λ ls. AreListLayers ls w.layers) (sym (left.others w.serial (differ window w.serial away))) its)
       ws (no_such_window window ws missing) joined
 
@@ -69,7 +69,7 @@ module _ (window : ℕ) (before after : ListsState) (left : AreListsOfLeft windo
     where
       by_test : (b : Bool) → (window == t) ≡ b → count_of t after.lists ≤ most_lists
       by_test true e =
-          let none : count_of t after.lists ≡ 0 = count_of-length t after.lists ∙ ap length (ap (λ k. lists_of k after.lists) (sym (eqb-true window t e)) ∙ left.gone) in
+          let none : count_of t after.lists ≡ 0 = count_of-length t after.lists ∙ ap length (ap (λ k. items_of k after.lists) (sym (eqb-true window t e)) ∙ left.gone) in
           omega (arith, none)
       by_test false e =
           let same : count_of t after.lists ≡ count_of t before.lists = count_of-length t after.lists ∙ ap length (left.others t (differ window t e)) ∙ sym (count_of-length t before.lists) in

@@ -2,7 +2,8 @@
 -- drawing is turned on or off.
 use Rattle.std.proofs.Common.{◌≡◌, ℕ, ◌<◌, zero, suc, Bool, true, false, ◌==◌, cond, List, [], ◌∷◌, Option, Some, refl, sym, ap, ◌∙◌, subst}
 use Rattle.tb_geom.specs.declared.point.Point.{Point}
-use Rattle.list_records.specs.Lists.{count_of, edit_at, has_serial, with_drawing}
+use Rattle.window_items.specs.Items.{count_of, edit_at, has_serial}
+use Rattle.list_mgr.specs.Fields.{with_drawing}
 use Rattle.def_iface.specs.declared.part.Part.{Part}
 use Rattle.def_iface.specs.declared.part.Part.TheVariants as part
 use Rattle.desk_call.specs.declared.list.ListOf.{ListOf}
@@ -106,4 +107,4 @@ made_keeps n serial before after was there room settled (first, mid, vertical, h
 pub disposed_keeps : (l : ListOf) (before after : ListDesk) → IsRightLists before → IsListDisposed l before after → IsRightLists after
 disposed_keeps l before after was (x, without_list, without_vertical, gone, vertical, horizontal) =
     bar_gone_keeps without_vertical after
-    (bar_gone_keeps without_list without_vertical (gone_keeps before without_list was l x gone) l.window x.vertical vertical) l.window x.horizontal horizontal
+    (bar_gone_keeps without_list without_vertical (gone_keeps before without_list was l x gone) l.window x.kept.vertical vertical) l.window x.kept.horizontal horizontal

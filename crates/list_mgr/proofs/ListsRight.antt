@@ -18,7 +18,7 @@ use Rattle.list_cells.specs.Grids.{Grid}
 use Rattle.list_cells.specs.Selections.{IsSelecting}
 use Rattle.list_paint.specs.Shown.{is_turned, list_shown}
 use Rattle.list_paint.proofs.TurnLemmas.{turned_shows}
-use Rattle.list_records.specs.Lists.{with_cells}
+use Rattle.list_mgr.specs.Fields.{with_cells}
 use Rattle.vis_update.specs.Records.{WindowRecord}
 use Rattle.vis_update.specs.Relayings.{afresh_change, is_part_afresh, with_layers_of}
 use Rattle.window_mgr.specs.FullDesk.{AreSerials, FullDesk, IsRightState, layered_desk, layered_state}
@@ -146,14 +146,14 @@ module _ (before after : ListDesk) (right : IsRightState before.desk.windows) (s
       }
 
   -- what a list highlights otherwise was inverted
-  module _ (l : ListOf) (x : KeptList) (cells : Grid) (selected : Selecting) (selecting : IsSelecting x.cells cells selected)
-      (was_list : lists.with_serial l.list before.lists.lists ≡ Some x) (is_list : lists.with_serial l.list after.lists.lists ≡ Some (with_cells cells x))
+  module _ (l : ListOf) (x : KeptList) (cells : Grid) (selected : Selecting) (selecting : IsSelecting x.kept.cells cells selected)
+      (was_list : lists.with_serial l.list before.lists.lists ≡ Some x) (is_item : lists.with_serial l.list after.lists.lists ≡ Some (with_cells cells x))
       (w : WindowRecord) (found : record_with l.window d.windows ≡ Some w) where
     abbrev its : Owner
     its = Content l.window (part.List l.list)
 
     abbrev toggles : List ℕ → PixelSet
-    toggles font = is_turned font x.definition.definition x.view x.cells cells
+    toggles font = is_turned font x.kept.definition.definition x.kept.view x.kept.cells cells
 
     same_window : (o : Option WindowRecord) (v : WindowRecord) → o ≡ Some v → o ≡ Some w → v ≡ w
     same_window o v e f = cc
@@ -162,7 +162,7 @@ module _ (before after : ListDesk) (right : IsRightState before.desk.windows) (s
       found_after : record_with l.window e.windows ≡ Some w
       found_after = ap (λ (y : FullDesk). record_with l.window y.windows) toggled.desk ∙ found
 
-      value_was : (p : Point) → owner (layered_desk d) p ≡ its → own_bit (layered_desk d) its p ≡ list_shown d.font x.definition.definition x.view x.cells (minus p w.place)
+      value_was : (p : Point) → owner (layered_desk d) p ≡ its → own_bit (layered_desk d) its p ≡ list_shown d.font x.kept.definition.definition x.kept.view x.kept.cells (minus p w.place)
       value_was p here =
           let by = shown_by d l.window (part.List l.list) p right.plain.desk here in
           by.bit_is
@@ -170,14 +170,14 @@ module _ (before after : ListDesk) (right : IsRightState before.desk.windows) (s
           ∙ ap (λ f. f (part.List l.list) (minus p w.place)) shows
           ∙ ap (λ o. list_bit d.font o (minus p w.place)) was_list
 
-      value_is : (p : Point) → owner (layered_desk e) p ≡ its → own_bit (layered_desk e) its p ≡ list_shown d.font x.definition.definition x.view cells (minus p w.place)
+      value_is : (p : Point) → owner (layered_desk e) p ≡ its → own_bit (layered_desk e) its p ≡ list_shown d.font x.kept.definition.definition x.kept.view cells (minus p w.place)
       value_is p here =
           let by = shown_by e l.window (part.List l.list) p (distinct toggled.desk) here in
           by.bit_is
           ∙ ap (λ (v : WindowRecord). e.shows (part.List l.list) (minus p v.place)) (same_window (record_with l.window e.windows) by.window by.found found_after)
           ∙ ap (λ f. f (part.List l.list) (minus p w.place)) showing
-          ∙ ap (λ o. list_bit e.font o (minus p w.place)) is_list
-          ∙ ap (λ (y : FullDesk). list_shown y.font x.definition.definition x.view cells (minus p w.place)) toggled.desk
+          ∙ ap (λ o. list_bit e.font o (minus p w.place)) is_item
+          ∙ ap (λ (y : FullDesk). list_shown y.font x.kept.definition.definition x.kept.view cells (minus p w.place)) toggled.desk
 
       turned : (p : Point) → Stay (λ o. same_owner o its) → owner (layered_desk d) p ≡ owner (layered_desk e) p → is_content (owner (layered_desk e) p) ≡ true → (b : Bool) → same_owner (owner (layered_desk e) p) its ≡ b
           → (if b && toggles d.font (minus p w.place) then not (own_bit (layered_desk d) (owner (layered_desk e) p) p) else own_bit (layered_desk d) (owner (layered_desk e) p) p) ≡ own_bit (layered_desk e) (owner (layered_desk e) p) p
@@ -186,7 +186,7 @@ module _ (before after : ListDesk) (right : IsRightState before.desk.windows) (s
           let is : owner (layered_desk e) p ≡ its = same_owner-true (owner (layered_desk e) p) its same in
           ap (λ o. if toggles d.font (minus p w.place) then not (own_bit (layered_desk d) o p) else own_bit (layered_desk d) o p) is
           ∙ ap (λ v. if toggles d.font (minus p w.place) then not v else v) (value_was p (here ∙ is))
-          ∙ sym (turned_shows d.font x.definition.definition x.view x.cells cells selected (minus p w.place) selecting)
+          ∙ sym (turned_shows d.font x.kept.definition.definition x.kept.view x.kept.cells cells selected (minus p w.place) selecting)
           ∙ sym (value_is p is)
           ∙ ap (λ o. own_bit (layered_desk e) o p) (sym is)
 

@@ -6,10 +6,10 @@ use Rattle.std.proofs.lemmas.Bool.{not-false}
 use Rattle.tb_geom.specs.declared.refusal.Refusal.{Refusal}
 use Rattle.tb_geom.specs.declared.refusal.Refusal.TheVariants.{NoDefinition, NoSuchCell, NoSuchList, NoSuchName, NoSuchWindow, OutOfRange, TooMany}
 use Rattle.tb_geom.specs.Refusals.{first_refusal}
-use Rattle.control_list.specs.Lists as controls
+use Rattle.window_items.specs.Items as controls
 use Rattle.list_cells.specs.Grids.{is_cell, with_bytes}
 use Rattle.list_cells.specs.Runs.{new_refusals}
-use Rattle.list_records.specs.Lists.{count_of}
+use Rattle.window_items.specs.Items.{count_of}
 use Rattle.list_view.specs.Bars.{horizontal_bar, vertical_bar}
 use Rattle.desk_call.specs.declared.list.ListCall.TheVariants.{AddColumns, AddRows, AddToCell, ClearCell, DeleteColumns, DeleteRows, New, SetCell}
 use Rattle.desk_call.specs.declared.list.CellOf.{CellOf}
@@ -40,36 +40,36 @@ module _ (d : ListDesk) where
   -- other data
   pub set_settles : (t : CellText) → first_refusal (list_refusals (SetCell t) d.desk.windows.desk d.controls d.lists) ≡ None → StaysSettled t.cell.list (with_grid (λ g. with_bytes g t.cell.cell t.text)) d
   set_settles t none x named its =
-      grid_stays (λ g. with_bytes g t.cell.cell t.text) x its (set_grid x.cells t.cell.cell t.text its.grid (reasons_of t.cell.list _ d.desk.windows.desk d.lists.lists x named none))
+      grid_stays (λ g. with_bytes g t.cell.cell t.text) x its (set_grid x.kept.cells t.cell.cell t.text its.grid (reasons_of t.cell.list _ d.desk.windows.desk d.lists.lists x named none))
 
   -- data behind what was there
   pub added_settles : (t : CellText) → first_refusal (list_refusals (AddToCell t) d.desk.windows.desk d.controls d.lists) ≡ None → StaysSettled t.cell.list (with_grid (appended t.cell.cell t.text)) d
   added_settles t none x named its =
-      grid_stays (appended t.cell.cell t.text) x its (added_grid x.cells t.cell.cell t.text its.grid (reasons_of t.cell.list _ d.desk.windows.desk d.lists.lists x named none))
+      grid_stays (appended t.cell.cell t.text) x its (added_grid x.kept.cells t.cell.cell t.text its.grid (reasons_of t.cell.list _ d.desk.windows.desk d.lists.lists x named none))
 
   -- none
   pub cleared_settles : (c : CellOf) → first_refusal (list_refusals (ClearCell c) d.desk.windows.desk d.controls d.lists) ≡ None → StaysSettled c.list (with_grid (λ g. with_bytes g c.cell [])) d
   cleared_settles c none x named its =
       grid_stays (λ g. with_bytes g c.cell []) x its
-      (cleared_grid x.cells c.cell its.grid (not-false (is_cell x.cells c.cell) (none_hold (not (is_cell x.cells c.cell)) NoSuchCell [] (reasons_of c.list _ d.desk.windows.desk d.lists.lists x named none)).0))
+      (cleared_grid x.kept.cells c.cell its.grid (not-false (is_cell x.kept.cells c.cell) (none_hold (not (is_cell x.kept.cells c.cell)) NoSuchCell [] (reasons_of c.list _ d.desk.windows.desk d.lists.lists x named none)).0))
 
   -- rows or columns more
   pub rows_added_settle : (n : ListLines) → first_refusal (list_refusals (AddRows n) d.desk.windows.desk d.controls d.lists) ≡ None → StaysSettled n.list (with_rows_more n.count n.at) d
   rows_added_settle n none x named its =
-      rows_more_settles n.count n.at x (may_add x.cells.rows x.cells.columns n.count n.at (reasons_of n.list _ d.desk.windows.desk d.lists.lists x named none)) its
+      rows_more_settles n.count n.at x (may_add x.kept.cells.rows x.kept.cells.columns n.count n.at (reasons_of n.list _ d.desk.windows.desk d.lists.lists x named none)) its
 
   pub columns_added_settle : (n : ListLines) → first_refusal (list_refusals (AddColumns n) d.desk.windows.desk d.controls d.lists) ≡ None → StaysSettled n.list (with_columns_more n.count n.at) d
   columns_added_settle n none x named its =
-      columns_more_settles n.count n.at x (may_add x.cells.columns x.cells.rows n.count n.at (reasons_of n.list _ d.desk.windows.desk d.lists.lists x named none)) its
+      columns_more_settles n.count n.at x (may_add x.kept.cells.columns x.kept.cells.rows n.count n.at (reasons_of n.list _ d.desk.windows.desk d.lists.lists x named none)) its
 
   -- or fewer
   pub rows_deleted_settle : (n : ListLines) → first_refusal (list_refusals (DeleteRows n) d.desk.windows.desk d.controls d.lists) ≡ None → StaysSettled n.list (with_rows_fewer n.count n.at) d
   rows_deleted_settle n none x named its =
-      rows_fewer_settles n.count n.at x (may_delete x.cells.rows n.count n.at (reasons_of n.list _ d.desk.windows.desk d.lists.lists x named none)) its
+      rows_fewer_settles n.count n.at x (may_delete x.kept.cells.rows n.count n.at (reasons_of n.list _ d.desk.windows.desk d.lists.lists x named none)) its
 
   pub columns_deleted_settle : (n : ListLines) → first_refusal (list_refusals (DeleteColumns n) d.desk.windows.desk d.controls d.lists) ≡ None → StaysSettled n.list (with_columns_fewer n.count n.at) d
   columns_deleted_settle n none x named its =
-      columns_fewer_settles n.count n.at x (may_delete x.cells.columns n.count n.at (reasons_of n.list _ d.desk.windows.desk d.lists.lists x named none)) its
+      columns_fewer_settles n.count n.at x (may_delete x.kept.cells.columns n.count n.at (reasons_of n.list _ d.desk.windows.desk d.lists.lists x named none)) its
 
   -- why a list may not be made, where the stocks have such kinds
   abbrev short : NewList → List (Bool × Refusal)

@@ -6,7 +6,7 @@ use Rattle.std.proofs.lemmas.Bool.{false≢true}
 use Rattle.std.proofs.lemmas.Bool.Decides.{nat_tests}
 use Rattle.tb_geom.specs.declared.point.Point.{Point}
 use Rattle.tb_geom.specs.Points.{minus}
-use Rattle.list_records.specs.Lists.{has_serial, lists_of}
+use Rattle.window_items.specs.Items.{has_serial, items_of}
 use Rattle.def_iface.specs.declared.part.Part.TheVariants as part
 use Rattle.def_iface.specs.Owner.{Owner, same_owner}
 use Rattle.def_iface.specs.Owner.Owner.{Content}
@@ -26,7 +26,7 @@ use Rattle.list_mgr.proofs.ListsFound.{StaySame, stay_edited, stay_pushed, stay_
 
 -- the layers of each window behind its controls are its lists
 abbrev pub AreListsJoined : List KeptList → List WindowRecord → Type 0
-AreListsJoined ls ws = All (λ w. AreListLayers (lists_of w.serial ls) w.layers) ws
+AreListsJoined ls ws = All (λ w. AreListLayers (items_of w.serial ls) w.layers) ws
 
 -- ---- whose list it is
 
@@ -55,11 +55,11 @@ named n ls (k ∷ ks) q h e = by_tests (is_of Controls k.part) refl (layer_has k
     by_tests false is false (x ∷ xs) h e rest = further (has_serial n x) (list_any (has_serial n) xs) (rest xs h.1 e)
 
 -- a window with the layer of a list at a point has a list of that serial
-pub named_there : (d : FullDesk) (ls : List KeptList) (s n : ℕ) (p : Point) → AreListsJoined ls d.windows → IsShownBy d s (part.List n) p → list_any (has_serial n) (lists_of s ls) ≡ true
+pub named_there : (d : FullDesk) (ls : List KeptList) (s n : ℕ) (p : Point) → AreListsJoined ls d.windows → IsShownBy d s (part.List n) p → list_any (has_serial n) (items_of s ls) ≡ true
 named_there d ls s n p joined its =
-    let there = at_serial (λ w. AreListLayers (lists_of w.serial ls) w.layers) s d.windows its.window its.found joined in
-    ap (λ k. list_any (has_serial n) (lists_of k ls)) (sym there.1)
-    ∙ named n (lists_of its.window.serial ls) its.window.layers (minus p its.window.place) there.0 its.part_is
+    let there = at_serial (λ w. AreListLayers (items_of w.serial ls) w.layers) s d.windows its.window its.found joined in
+    ap (λ k. list_any (has_serial n) (items_of k ls)) (sym there.1)
+    ∙ named n (items_of its.window.serial ls) its.window.layers (minus p its.window.place) there.0 its.part_is
 
 -- ---- what is shown before and after
 

@@ -7,9 +7,9 @@ use Rattle.std.proofs.lemmas.Bool.{false≢true}
 use Rattle.std.proofs.lemmas.Bool.Decides.{nat_tests}
 use Rattle.std.proofs.lemmas.List.Elements.{All-append, All-cons, All-head, All-map, All-nil, All-tail, All-weaker}
 use Rattle.std.proofs.lemmas.List.Folds.{list_any-append}
-use Rattle.list_records.specs.Lists.{are_before, count_of, has_serial, is_before, is_in_at, lists_of, serial_after}
-use Rattle.list_records.proofs.LawLemmas.{still_before}
-use Rattle.list_records.proofs.WindowLemmas.{count_of-push, count_of-push_other, count_of-remove, count_of-remove_other, is_in_at-other, lists_of-push_other, lists_of-remove_other}
+use Rattle.window_items.specs.Items.{are_before, count_of, has_serial, is_before, is_in_at, items_of, serial_after}
+use Rattle.window_items.proofs.LawLemmas.{still_before}
+use Rattle.window_items.proofs.WindowLemmas.{count_of-push, count_of-push_other, count_of-remove, count_of-remove_other, is_in_at-other, items_of-push_other, items_of-remove_other}
 use Rattle.def_iface.specs.ListMeaning.{ListDefinition}
 use Rattle.def_iface.specs.Slots.{IsTaken}
 use Rattle.layer_list.specs.declared.layer.Layer.{Layer}
@@ -30,6 +30,7 @@ use Rattle.list_mgr.specs.ListSteps.{AreListLayers, IsChangedTo, IsLayerOf, IsLi
 use Rattle.list_mgr.specs.WholeLists.{AreListsApart, AreWholeLists, IsSettledList, slots_of}
 use Rattle.list_mgr.proofs.Edited.{Keeps, whole_edited}
 use Rattle.list_mgr.proofs.ListsStay.{AreListsJoined}
+use Rattle.window_items.proofs.EditLemmas.{All-remove}
 
 -- ---- layers of windows
 
@@ -43,16 +44,16 @@ other_way : (a b : ℕ) → (a == b) ≡ false → (b == a) ≡ false
 other_way a b e = grind (arith, nat_tests)
 
 -- where a window's layers come to be those of its lists as they are now, and the lists of other windows stay
-joined_laid : (s : ℕ) (ks : List Layer) (ls now : List KeptList) (ws : List WindowRecord) → AreListLayers (lists_of s now) ks
-    → ((t : ℕ) → (t ≡ s → ⊥) → lists_of t now ≡ lists_of t ls) → AreListsJoined ls ws → AreListsJoined now (map (with_layers_of s ks) ws)
+joined_laid : (s : ℕ) (ks : List Layer) (ls now : List KeptList) (ws : List WindowRecord) → AreListLayers (items_of s now) ks
+    → ((t : ℕ) → (t ≡ s → ⊥) → items_of t now ≡ items_of t ls) → AreListsJoined ls ws → AreListsJoined now (map (with_layers_of s ks) ws)
 joined_laid s ks ls now ws new others joined =
-    All-map (λ (w : WindowRecord). AreListLayers (lists_of w.serial now) w.layers) (with_layers_of s ks) ws
-    (All-weaker (λ (w : WindowRecord). AreListLayers (lists_of w.serial ls) w.layers) (λ (w : WindowRecord). AreListLayers (lists_of (with_layers_of s ks w).serial now) (with_layers_of s ks w).layers)
+    All-map (λ (w : WindowRecord). AreListLayers (items_of w.serial now) w.layers) (with_layers_of s ks) ws
+    (All-weaker (λ (w : WindowRecord). AreListLayers (items_of w.serial ls) w.layers) (λ (w : WindowRecord). AreListLayers (items_of (with_layers_of s ks w).serial now) (with_layers_of s ks w).layers)
     (λ w h. by_test w h (w.serial == s) refl) ws joined)
   where
-    by_test : (w : WindowRecord) → AreListLayers (lists_of w.serial ls) w.layers → (b : Bool) → (w.serial == s) ≡ b
-        → AreListLayers (lists_of (cond b (record w { layers = ks }) w).serial now) (cond b (record w { layers = ks }) w).layers
-    by_test w h true e = subst (λ t. AreListLayers (lists_of t now) ks) (sym (eqb-true w.serial s e)) new
+    by_test : (w : WindowRecord) → AreListLayers (items_of w.serial ls) w.layers → (b : Bool) → (w.serial == s) ≡ b
+        → AreListLayers (items_of (cond b (record w { layers = ks }) w).serial now) (cond b (record w { layers = ks }) w).layers
+    by_test w h true e = subst (λ t. AreListLayers (items_of t now) ks) (sym (eqb-true w.serial s e)) new
     by_test w h false e = subst (λ xs. AreListLayers xs w.layers) (sym (others w.serial (λ same. false≢true (sym e ∙ same_number w.serial s same)))) h
 
 somewhere_laid : (s : ℕ) (ks : List Layer) (ws : List WindowRecord) (ls : List KeptList) → All (λ l. is_missing l.window ws ≡ false) ls → All (λ l. is_missing l.window (map (with_layers_of s ks) ws) ≡ false) ls
@@ -68,9 +69,9 @@ apart_more l (x ∷ xs) e h =
     let both = or_parts (x.serial == l.serial) (list_any (has_serial l.serial) xs) e in
     (list_any-append (has_serial x.serial) xs (l ∷ []) ∙ (λ i. h.0 i || (other_way x.serial l.serial both.0 i || false)), apart_more l xs both.1 h.1)
 
-slots_more : (l : KeptList) (ls : List KeptList) → slots_of (ls ++ l ∷ []) ≡ slots_of ls ++ l.definition.slot ∷ []
+slots_more : (l : KeptList) (ls : List KeptList) → slots_of (ls ++ l ∷ []) ≡ slots_of ls ++ l.kept.definition.slot ∷ []
 slots_more l [] = refl
-slots_more l (x ∷ xs) = ap (λ ns. x.definition.slot ∷ ns) (slots_more l xs)
+slots_more l (x ∷ xs) = ap (λ ns. x.kept.definition.slot ∷ ns) (slots_more l xs)
 
 pub All-more : (P : KeptList → Type 0) (ls : List KeptList) (l : KeptList) → All P ls → P l → All P (ls ++ l ∷ [])
 All-more P ls l h new = All-append P ls (l ∷ []) h (All-cons P l [] new (All-nil P))
@@ -90,8 +91,8 @@ few_more l ls room few t = by_test (l.window == t) refl
 pub whole_put : (l : KeptList) (old : ListDefinition) (kind : List ℕ) (ks : List Layer) (ws : List WindowRecord) (state : ListsState) (left : List ListSlot)
     → AreWholeLists ws state → state.next ≡ Some l.serial → list_any (has_serial l.serial) state.lists ≡ false → IsSettledList l → is_missing l.window ws ≡ false
     → count_of l.window state.lists < most_lists
-    → IsTaken (λ (d : ListDefinition). d.stage) kind (record { definition = old; slot = l.definition.slot }) state.stock left
-    → AreListLayers (lists_of l.window (state.lists ++ l ∷ [])) ks
+    → IsTaken (λ (d : ListDefinition). d.stage) kind (record { definition = old; slot = l.kept.definition.slot }) state.stock left
+    → AreListLayers (items_of l.window (state.lists ++ l ∷ [])) ks
     → AreWholeLists (map (with_layers_of l.window ks) ws) (record { lists = state.lists ++ l ∷ []; next = serial_after l.serial; stock = left })
 whole_put l old kind ks ws state left whole next unused settled there room took joined = record {
   settled = All-more IsSettledList state.lists l whole.settled settled;
@@ -100,10 +101,10 @@ whole_put l old kind ks ws state left whole next unused settled there room took 
   somewhere = All-more (λ (x : KeptList). is_missing x.window (map (with_layers_of l.window ks) ws) ≡ false) state.lists l (somewhere_laid l.window ks ws state.lists whole.somewhere) (missing-layers l.window l.window ks ws ∙ there);
   few = few_more l state.lists room whole.few;
   joined = joined_laid l.window ks state.lists (state.lists ++ l ∷ []) ws joined
-      (λ t away. lists_of-push_other t state.lists l (other_number l.window t away))
+      (λ t away. items_of-push_other t state.lists l (other_number l.window t away))
       whole.joined;
   stocked = subst (λ ns. AreStocked (λ (d : ListDefinition). d.stage) ns left) (sym (slots_more l state.lists))
-      (stocked_with (λ (d : ListDefinition). d.stage) (slots_of state.lists) kind (record { definition = old; slot = l.definition.slot }) state.stock left took whole.stocked);
+      (stocked_with (λ (d : ListDefinition). d.stage) (slots_of state.lists) kind (record { definition = old; slot = l.kept.definition.slot }) state.stock left took whole.stocked);
 }
 
 -- ---- lists without one
@@ -122,23 +123,16 @@ apart-remove (suc i) [] h = tt
 apart-remove zero (l ∷ ls) h = h.1
 apart-remove (suc i) (l ∷ ls) h = (none-remove l.serial i ls h.0, apart-remove i ls h.1)
 
-pub slot_at : (ls : List KeptList) (i : ℕ) (l : KeptList) → slice_get ls i ≡ Some l → slice_get (slots_of ls) i ≡ Some l.definition.slot
+pub slot_at : (ls : List KeptList) (i : ℕ) (l : KeptList) → slice_get ls i ≡ Some l → slice_get (slots_of ls) i ≡ Some l.kept.definition.slot
 slot_at [] i l e = absurd (cc)
-slot_at (x ∷ xs) zero l e = let same : x ≡ l = cc in ap (λ (y : KeptList). Some y.definition.slot) same
+slot_at (x ∷ xs) zero l e = let same : x ≡ l = cc in ap (λ (y : KeptList). Some y.kept.definition.slot) same
 slot_at (x ∷ xs) (suc i) l e = slot_at xs i l e
 
 pub slots-remove : (i : ℕ) (ls : List KeptList) → slots_of (remove ls i) ≡ remove (slots_of ls) i
 slots-remove zero [] = refl
 slots-remove (suc i) [] = refl
 slots-remove zero (l ∷ ls) = refl
-slots-remove (suc i) (l ∷ ls) = ap (λ ns. l.definition.slot ∷ ns) (slots-remove i ls)
-
-module _ (P : KeptList → Type 0) where
-  pub All-remove : (i : ℕ) (ls : List KeptList) → All P ls → All P (remove ls i)
-  All-remove zero [] h = All-nil P
-  All-remove (suc i) [] h = All-nil P
-  All-remove zero (l ∷ ls) h = All-tail P l ls h
-  All-remove (suc i) (l ∷ ls) h = All-cons P l (remove ls i) (All-head P l ls h) (All-remove i ls (All-tail P l ls h))
+slots-remove (suc i) (l ∷ ls) = ap (λ ns. l.kept.definition.slot ∷ ns) (slots-remove i ls)
 
 -- no window has more lists then
 few_left : (at : ℕ) (ls : List KeptList) → ((t : ℕ) → count_of t ls ≤ most_lists) → (t : ℕ) → count_of t (remove ls at) ≤ most_lists
@@ -150,7 +144,7 @@ few_left at ls few t = by_test (is_in_at t at ls) refl
 
 -- what was whole is whole without one list, over slots into one of which its definition came back, beside the windows without its layer
 pub whole_gone : (at window : ℕ) (l : KeptList) (ks : List Layer) (ws : List WindowRecord) (state : ListsState) (back : List ListSlot) → AreWholeLists ws state
-    → slice_get state.lists at ≡ Some l → is_in_at window at state.lists ≡ true → IsListShut l.definition state.stock back → AreListLayers (lists_of window (remove state.lists at)) ks
+    → slice_get state.lists at ≡ Some l → is_in_at window at state.lists ≡ true → IsListShut l.kept.definition state.stock back → AreListLayers (items_of window (remove state.lists at)) ks
     → AreWholeLists (map (with_layers_of window ks) ws) (record state { lists = remove state.lists at; stock = back })
 whole_gone at window l ks ws state back whole there here shut joined = record {
   settled = All-remove IsSettledList at state.lists whole.settled;
@@ -159,10 +153,10 @@ whole_gone at window l ks ws state back whole there here shut joined = record {
   somewhere = somewhere_laid window ks ws (remove state.lists at) (All-remove (λ (x : KeptList). is_missing x.window ws ≡ false) at state.lists whole.somewhere);
   few = few_left at state.lists whole.few;
   joined = joined_laid window ks state.lists (remove state.lists at) ws joined
-      (λ t away. lists_of-remove_other t at state.lists (is_in_at-other window t at state.lists (λ e. away (sym e)) here))
+      (λ t away. items_of-remove_other t at state.lists (is_in_at-other window t at state.lists (λ e. away (sym e)) here))
       whole.joined;
   stocked = subst (λ ns. AreStocked (λ (d : ListDefinition). d.stage) ns back) (sym (slots-remove at state.lists))
-      (stocked_without (λ (d : ListDefinition). d.stage) at (slots_of state.lists) (record { definition = shut.definition; slot = l.definition.slot }) state.stock back
+      (stocked_without (λ (d : ListDefinition). d.stage) at (slots_of state.lists) (record { definition = shut.definition; slot = l.kept.definition.slot }) state.stock back
       (slot_at state.lists at l there) shut.closed shut.back whole.stocked);
 }
 
@@ -170,20 +164,20 @@ whole_gone at window l ks ws state back whole there here shut joined = record {
 
 -- the layers behind the controls are as they were, and so are the lists
 joined_behind : (ls : List KeptList) (ws vs : List WindowRecord) → map uncontrolled vs ≡ map uncontrolled ws → AreListsJoined ls ws → AreListsJoined ls vs
-joined_behind ls ws [] same joined = All-nil (λ (w : WindowRecord). AreListLayers (lists_of w.serial ls) w.layers)
+joined_behind ls ws [] same joined = All-nil (λ (w : WindowRecord). AreListLayers (items_of w.serial ls) w.layers)
 joined_behind ls [] (v ∷ vs) same joined = absurd (cc)
 joined_behind ls (w ∷ ws) (v ∷ vs) same joined =
     let first : uncontrolled w ≡ uncontrolled v = cc in
     let rest : map uncontrolled vs ≡ map uncontrolled ws = cc in
-    All-cons (λ (x : WindowRecord). AreListLayers (lists_of x.serial ls) x.layers) v vs
-    (first_joined first (All-head (λ (x : WindowRecord). AreListLayers (lists_of x.serial ls) x.layers) w ws joined))
-    (joined_behind ls ws vs rest (All-tail (λ (x : WindowRecord). AreListLayers (lists_of x.serial ls) x.layers) w ws joined))
+    All-cons (λ (x : WindowRecord). AreListLayers (items_of x.serial ls) x.layers) v vs
+    (first_joined first (All-head (λ (x : WindowRecord). AreListLayers (items_of x.serial ls) x.layers) w ws joined))
+    (joined_behind ls ws vs rest (All-tail (λ (x : WindowRecord). AreListLayers (items_of x.serial ls) x.layers) w ws joined))
   where
-    first_joined : uncontrolled w ≡ uncontrolled v → AreListLayers (lists_of w.serial ls) w.layers → AreListLayers (lists_of v.serial ls) v.layers
+    first_joined : uncontrolled w ≡ uncontrolled v → AreListLayers (items_of w.serial ls) w.layers → AreListLayers (items_of v.serial ls) v.layers
     first_joined same its = subst (λ (x : WindowRecord). zipped x) same its
       where
         zipped : WindowRecord → Type 0
-        zipped x = AllZip IsLayerOf (lists_of x.serial ls) x.layers
+        zipped x = AllZip IsLayerOf (items_of x.serial ls) x.layers
 
 -- lists that are whole are so beside windows that are the same but for the layers of controls
 pub whole_behind : (ws vs : List WindowRecord) (state : ListsState) → map bare vs ≡ map bare ws → map uncontrolled vs ≡ map uncontrolled ws → AreWholeLists ws state → AreWholeLists vs state

@@ -13,7 +13,7 @@ use Rattle.def_iface.specs.ControlMeaning.{ControlLoan}
 use Rattle.def_iface.specs.ListMeaning.{ListDefinition, ListLoan}
 use Rattle.def_iface.specs.Meaning.{Loan}
 use Rattle.def_iface.specs.Stocked.{SlotView}
-use Rattle.list_records.specs.Seen.{all_seen}
+use Rattle.list_mgr.specs.Seen.{all_seen}
 use Rattle.desk_call.specs.declared.list.ListCall.TheVariants.{New}
 use Rattle.desk_call.specs.declared.list.ListReply.TheVariants as reply
 use Rattle.desk_call.specs.declared.list.NewList.{NewList}

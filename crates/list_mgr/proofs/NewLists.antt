@@ -27,9 +27,9 @@ use Rattle.vis_update.specs.Records.{WindowRecord}
 use Rattle.window_mgr.specs.Finding.{record_with}
 use Rattle.window_mgr.specs.FullDesk.{FullDesk}
 use Rattle.window_mgr.specs.Refused.{is_missing}
-use Rattle.control_list.specs.Lists as controls
+use Rattle.window_items.specs.Items as controls
 use Rattle.control_mgr.specs.ControlDesks.{ControlRecord}
-use Rattle.list_records.specs.Lists.{count_of}
+use Rattle.window_items.specs.Items.{count_of}
 use Rattle.control_mgr.proofs.Added.{or_parts}
 use Rattle.control_mgr.proofs.Steps.{none_hold}
 use Rattle.list_mgr.specs.ListDesks.{KeptList, ListDesk}

@@ -6,7 +6,7 @@ use Rattle.std.specs.Ordering.{int_eq}
 use Rattle.std.proofs.lemmas.Bool.Decides.{Decides-int_eq}
 use Rattle.tb_geom.specs.declared.refusal.Refusal.TheVariants.{OutOfRange}
 use Rattle.tb_geom.specs.Refusals.{first_refusal}
-use Rattle.control_list.specs.Lists as controls
+use Rattle.window_items.specs.Items as controls
 use Rattle.list_cells.specs.declared.click.SelectionFlags.{SelectionFlags}
 use Rattle.list_cells.specs.Clicks.{flags_number}
 use Rattle.list_cells.specs.Runs.{new_refusals}

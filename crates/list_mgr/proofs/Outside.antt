@@ -30,11 +30,11 @@ nothing_outside font d v g p out =
     ap (λ b. option_map_or (λ c. cell_shown font d v g c p) (if b && is_before g.columns g.rows (any_cell_at v p) then Some (any_cell_at v p) else None) false) out
 
 -- so a list shows there what another one shows with this view
-pub view_outside : (within : Rect) (x y : KeptList) → within ≡ view_rect x.view → view_rect y.view ≡ view_rect x.view → IsSameOutside within x y
+pub view_outside : (within : Rect) (x y : KeptList) → within ≡ view_rect x.kept.view → view_rect y.kept.view ≡ view_rect x.kept.view → IsSameOutside within x y
 view_outside within x y is same font p out =
-    let out_of : rect_holds (view_rect x.view) p ≡ false = ap (λ r. rect_holds r p) (sym is) ∙ out in
-    nothing_outside font y.definition.definition y.view y.cells p (ap (λ r. rect_holds r p) same ∙ out_of)
-    ∙ sym (nothing_outside font x.definition.definition x.view x.cells p out_of)
+    let out_of : rect_holds (view_rect x.kept.view) p ≡ false = ap (λ r. rect_holds r p) (sym is) ∙ out in
+    nothing_outside font y.kept.definition.definition y.kept.view y.kept.cells p (ap (λ r. rect_holds r p) same ∙ out_of)
+    ∙ sym (nothing_outside font x.kept.definition.definition x.kept.view x.kept.cells p out_of)
 
 -- ---- outside of a cell
 
@@ -87,7 +87,7 @@ cell_outside font d v g c text p view has out = by_cell (cell_at g.columns g.row
         ap (λ (x : Content). cell_bit d x.selected font x.bytes (in_cell v k p))
         (others_hold g c k text (λ same. false≢true (sym out ∙ (holder_is_found v g c p view has).0 (e ∙ ap Some (same_cell g k c (found_is_cell v g k p view e) has same)))))
 
-pub bytes_outside : (within : Rect) (x : KeptList) (c : Cell) (text : List ℕ) → within ≡ cell_rect x.view c → is_cell x.cells c ≡ true → IsSettledList x
+pub bytes_outside : (within : Rect) (x : KeptList) (c : Cell) (text : List ℕ) → within ≡ cell_rect x.kept.view c → is_cell x.kept.cells c ≡ true → IsSettledList x
     → IsSameOutside within x (with_grid (λ (g : Grid). with_bytes g c text) x)
 bytes_outside within x c text is has its font p out =
-    cell_outside font x.definition.definition x.view x.cells c text p its.view has (ap (λ r. rect_holds r p) (sym is) ∙ out)
+    cell_outside font x.kept.definition.definition x.kept.view x.kept.cells c text p its.view has (ap (λ r. rect_holds r p) (sym is) ∙ out)

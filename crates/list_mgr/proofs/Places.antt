@@ -13,10 +13,11 @@ use Rattle.def_iface.specs.Meaning.{Loan}
 use Rattle.def_iface.specs.Desk.{same_part}
 use Rattle.def_iface.proofs.Owning.{same_number}
 use Rattle.layer_list.specs.declared.layer.Layer.{Layer}
-use Rattle.list_records.specs.declared.list_record.ListRecord.{ListRecord}
-use Rattle.list_records.specs.Seen.{seen}
-use Rattle.list_records.specs.Lists.{has_serial, is_in, is_in_at, is_list, list_index, lists_of, place_among}
-use Rattle.list_records.proofs.WindowLemmas.{found_in as list_in, position_there, slice_get-lists_of}
+use Rattle.window_items.specs.declared.item.Item.{Item}
+use Rattle.list_mgr.specs.declared.list_record.ListRecord.{ListRecord}
+use Rattle.list_mgr.specs.Seen.{seen}
+use Rattle.window_items.specs.Items.{has_serial, is_in, is_in_at, is_item, item_index, items_of, place_among}
+use Rattle.window_items.proofs.WindowLemmas.{found_in as list_in, position_there, slice_get-items_of}
 use Rattle.desk_call.specs.declared.list.ListOf.{ListOf}
 use Rattle.desk_call.specs.declared.update.Layers.TheVariants.{Controls}
 use Rattle.window_list.specs.declared.window.Window.{Window}
@@ -108,35 +109,35 @@ same_lists : (m n : ℕ) → part.List m ≡ part.List n → m ≡ n
 same_lists m n e = cc
 
 -- the layer of a list's part is the list's own
-own_layer : (ls : List KeptList) (window : ℕ) (ks : List Layer) (i : ℕ) (x : KeptList) (at : ℕ) (k : Layer) → AreListsApart ls → AreListLayers (lists_of window ls) ks
+own_layer : (ls : List KeptList) (window : ℕ) (ks : List Layer) (i : ℕ) (x : KeptList) (at : ℕ) (k : Layer) → AreListsApart ls → AreListLayers (items_of window ls) ks
     → slice_get ls i ≡ Some x → slice_get ks at ≡ Some k → k.part ≡ part.List x.serial → IsLayerOf x k
 own_layer ls window ks i x at k apart joined there layer named =
     let behind = filtered_to (λ (l : Layer). not (is_of Controls l.part)) ks at k layer (ap (λ q. not (is_of Controls q)) named) in
-    let its = with_list (lists_of window ls) (behind_controls ks) behind.0 k joined behind.1 in
+    let its = with_list (items_of window ls) (behind_controls ks) behind.0 k joined behind.1 in
     let among = filtered_from (is_in window) ls behind.0 its.0 its.1 in
     let serial : its.0.serial ≡ x.serial = same_lists its.0.serial x.serial (sym its.2.part ∙ named) in
     subst (λ y. IsLayerOf y k) (sym (one_serial ls i among.0 x its.0 apart there among.1 serial)) its.2
 
 -- it has one
-some_layer : (ls : List KeptList) (window : ℕ) (ks : List Layer) (i : ℕ) (x : KeptList) → AreListLayers (lists_of window ls) ks → is_in_at window i ls ≡ true
+some_layer : (ls : List KeptList) (window : ℕ) (ks : List Layer) (i : ℕ) (x : KeptList) → AreListLayers (items_of window ls) ks → is_in_at window i ls ≡ true
     → slice_get ls i ≡ Some x → (at : ℕ) × (k : Layer) × (slice_get ks at ≡ Some k) × IsLayerOf x k
 some_layer ls window ks i x joined here there =
-    let its = with_layer (lists_of window ls) (behind_controls ks) (place_among i ls) x joined (slice_get-lists_of window i ls here ∙ there) in
+    let its = with_layer (items_of window ls) (behind_controls ks) (place_among i ls) x joined (slice_get-items_of window i ls here ∙ there) in
     let among = filtered_from (λ (l : Layer). not (is_of Controls l.part)) ks (place_among i ls) its.0 its.1 in
     (among.0, its.0, among.1, its.2)
 
 same_list : (n : ℕ) (q : Part) → q ≡ part.List n → same_part q (part.List n) ≡ true
 same_list n q e = ap (λ x. same_part x (part.List n)) e ∙ same_number n
 
-named : (window serial : ℕ) (o : Option KeptList) (x : KeptList) → o ≡ Some x → option_map_or (is_list window serial) o false ≡ true → (x.window ≡ window) × (x.serial ≡ serial)
+named : (window serial : ℕ) (o : Option KeptList) (x : KeptList) → o ≡ Some x → option_map_or (is_item window serial) o false ≡ true → (x.window ≡ window) × (x.serial ≡ serial)
 named window serial o x e h =
-    let both = and_parts (x.window == window) (x.serial == serial) (sym (ap (λ y. option_map_or (is_list window serial) y false) e) ∙ h) in
+    let both = and_parts (x.window == window) (x.serial == serial) (sym (ap (λ y. option_map_or (is_item window serial) y false) e) ∙ h) in
     (eqb-true x.window window both.0, eqb-true x.serial serial both.1)
 
-pub found_names : (window serial at : ℕ) (ls : List KeptList) (x : KeptList) → list_index window serial ls ≡ Some at → slice_get ls at ≡ Some x → (x.window ≡ window) × (x.serial ≡ serial)
+pub found_names : (window serial at : ℕ) (ls : List KeptList) (x : KeptList) → item_index window serial ls ≡ Some at → slice_get ls at ≡ Some x → (x.window ≡ window) × (x.serial ≡ serial)
 found_names window serial at ls x found there =
     named window serial (slice_get ls at) x there
-    (subst (λ o. IfSome o (λ i. option_map_or (is_list window serial) (slice_get ls i) false ≡ true)) found (position_there (is_list window serial) ls))
+    (subst (λ o. IfSome o (λ i. option_map_or (is_item window serial) (slice_get ls i) false ≡ true)) found (position_there (is_item window serial) ls))
 
 -- what is known of a list that stands here
 module _ {V : Type 0} {H : V → Type 0} (loan : Taken V H → Loan) {X : Type 0} {L : X → Type 0} (list_loan : TakenList X L → ListLoan)
@@ -151,9 +152,9 @@ module _ {V : Type 0} {H : V → Type 0} (loan : Taken V H → Loan) {X : Type 0
   names = found_names l.window l.list s.list ls its.item is.list its.there
 
   module _ (w : Window V H) (lies : IsWindowAt t.windows.records.items s.window w) (state : ListsState) (same : state.lists ≡ ls) (whole : AreWholeLists (desk_of loan t []).windows state) where
-    joined : AreListLayers (lists_of w.serial ls) w.layers.layers
-    joined = at_window loan (λ r. AreListLayers (lists_of r.serial ls) r.layers) t.windows.records.items s.window w is.window.0 lies
-        (subst (λ xs. All (λ r. AreListLayers (lists_of r.serial xs) r.layers) (desk_of loan t []).windows) same whole.joined)
+    joined : AreListLayers (items_of w.serial ls) w.layers.layers
+    joined = at_window loan (λ r. AreListLayers (items_of r.serial ls) r.layers) t.windows.records.items s.window w is.window.0 lies
+        (subst (λ xs. All (λ r. AreListLayers (items_of r.serial xs) r.layers) (desk_of loan t []).windows) same whole.joined)
 
     here : is_in_at w.serial s.list ls ≡ true
     here = ap (λ n. is_in_at n s.list ls) (is.window.1 w lies) ∙ list_in l.window l.list s.list ls is.list
@@ -173,14 +174,14 @@ module _ {V : Type 0} {H : V → Type 0} (loan : Taken V H → Loan) {X : Type 0
         false≢true (sym (none has.0 has.1 (within w.layers.layers has.0 has.1 has.2))
         ∙ ap (λ (k : Layer). same_part k.part (part.List its.item.serial)) (sym (read_is w.layers.layers has.0 has.1 has.2)) ∙ same_list its.item.serial has.1.part has.3.part)
 
-    its_serial : (x : ListRecord (TakenList X L)) → x ≡ get_or m.list.lists.items s.list x → part.List x.serial ≡ part.List its.item.serial
+    its_serial : (x : Item (ListRecord (TakenList X L))) → x ≡ get_or m.list.items.items s.list x → part.List x.serial ≡ part.List its.item.serial
     its_serial x read =
         let both : Some (seen list_loan x) ≡ Some its.item = sym (list_read loan list_loan l t m s is x read) ∙ its.there in
         let same : seen list_loan x ≡ its.item = cc in
         ap (λ (y : KeptList). part.List y.serial) same
 
     -- what was found of the part of the list that was read
-    pub found_its : (x : ListRecord (TakenList X L)) → x ≡ get_or m.list.lists.items s.list x → (o : Option ℕ) → IsLayerFound (part.List x.serial) w.layers.layers o
+    pub found_its : (x : Item (ListRecord (TakenList X L))) → x ≡ get_or m.list.items.items s.list x → (o : Option ℕ) → IsLayerFound (part.List x.serial) w.layers.layers o
         → (at : ℕ) × (o ≡ Some at) × IsItsLayer list_loan m s w.layers.layers at
     found_its x read None found = absurd (some_is_found (subst (λ q. IsLayerFound q w.layers.layers None) (its_serial x read) found))
     found_its x read (Some at) found = (at, refl, layer_is_its at (subst (λ q. IsLayerFound q w.layers.layers (Some at)) (its_serial x read) found))

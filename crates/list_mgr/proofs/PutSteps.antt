@@ -9,8 +9,8 @@ use Rattle.def_iface.specs.ListMeaning.{ListLoan}
 use Rattle.def_iface.specs.Meaning.{Loan}
 use Rattle.def_iface.specs.Stocked.{SlotView}
 use Rattle.list_cells.specs.Grids.{empty_grid}
-use Rattle.list_records.specs.Lists.{count_of}
-use Rattle.list_records.specs.Seen.{all_seen}
+use Rattle.window_items.specs.Items.{count_of}
+use Rattle.list_mgr.specs.Seen.{all_seen}
 use Rattle.desk_call.specs.declared.control.ControlCall.TheVariants as control_calls
 use Rattle.desk_call.specs.declared.control.ControlReply.TheVariants as control_reply
 use Rattle.desk_call.specs.declared.control.NewControl.{NewControl}
@@ -59,7 +59,7 @@ place_roomier n k t m m' same place = record {
 -- a list that was planned over the layers that its window has can be put
 pub ready_now : {V : Type 0} {H : V → Type 0} {D : Type 0} (loan : Taken V H → Loan) (n : NewList) (k : ListTicket) (t : WindowManager V H) (m m' : Lists D) → IsKept loan t → AreRoomier m m' → IsPlace n t m k
     → (w : Window V H) → IsWindowAt t.windows.records.items k.window w → (a : Area) → a ≡ get_or t.areas.items k.window a → (p : Planned) → p.cells ≡ empty_grid (nat_abs n.columns) (nat_abs n.rows)
-    → ((u : WindowManager V H) → IsLaidSo loan k.window w.layers a.update t u → IsPlanOfList loan k w.layers u p.laid) → length m'.list.lists.items < vec_capacity m'.list.lists → IsReadyToPut loan n k t m' p
+    → ((u : WindowManager V H) → IsLaidSo loan k.window w.layers a.update t u → IsPlanOfList loan k w.layers u p.laid) → length m'.list.items.items < vec_capacity m'.list.items → IsReadyToPut loan n k t m' p
 ready_now loan n k t m m' kept same place w lies a read p cells planned room =
     let laid = laid_now loan t kept k.window place.window.0 a read w lies in
     record { place = place_roomier n k t m m' same place; cells = cells; layers = w.layers; lies = laid.layers; planned = planned t laid; room = room }

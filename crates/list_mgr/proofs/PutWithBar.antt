@@ -2,7 +2,7 @@
 use Rattle.std.proofs.Common.{◌≡◌, ℕ, ◌+◌, ◌<◌, ◌≤◌, Bool, true, false, not, cond, if◌then◌else◌, List, [], length, get_or, nat_abs, Option, Some, None, refl, sym, ap, ◌∙◌, subst, arith}
 use Rattle.std.specs.Prelude.{vec_capacity}
 use Rattle.std.proofs.lemmas.Option.{same_Some}
-use Rattle.control_list.specs.Lists.{count_of}
+use Rattle.window_items.specs.Items.{count_of}
 use Rattle.def_iface.specs.declared.taken.Taken.{Taken}
 use Rattle.def_iface.specs.declared.taken_control.TakenControl.{TakenControl}
 use Rattle.def_iface.specs.declared.taken_list.TakenList.{TakenList}
@@ -133,7 +133,7 @@ module _ {V : Type 0} {H : V → Type 0} (loan : Taken V H → Loan) {W : Type 0
           subst (λ (x : NewControl × Ticket). MayGrow x.0 d.definition x.1 w.layers)
           (λ i. (sym (control_is ∙ ap (bar_control n.window) b_is) i, sym (j_is ∙ (λ q. bar_ticket k.window (serial_is q) k.controls (b_is q))) i)) (its_may w lies)
 
-      pub so_planned : (c1 : Controls (TakenControl W K)) (m1 : Lists (TakenList X L)) → IsRoomier c c1 → length c1.list.controls.items + 1 ≤ vec_capacity c1.list.controls → length m1.list.lists.items < vec_capacity m1.list.lists
+      pub so_planned : (c1 : Controls (TakenControl W K)) (m1 : Lists (TakenList X L)) → IsRoomier c c1 → length c1.list.items.items + 1 ≤ vec_capacity c1.list.items → length m1.list.items.items < vec_capacity m1.list.items
           → (w : Window V H) → IsWindowAt t.windows.records.items k.window w → (a : Area) → a ≡ get_or t.areas.items k.window a → (one : Addition) → IsGrown control d.definition j w.layers one
           → ((u : WindowManager V H) (e : Controls (TakenControl W K)) → IsReadyToAdd loan control_loan control d.definition j w.layers a.update t u e → IsAddition loan control_loan control d.definition u e one)
           → (p : Planned) → p.cells ≡ empty_grid (nat_abs n.columns) (nat_abs n.rows) → ((u : WindowManager V H) → IsLaidSo loan k.window one.layers one.relaying.update t u → IsPlanOfList loan k one.layers u p.laid)

@@ -128,7 +128,7 @@ module _ {V : Type 0} {H : V → Type 0} (loan : Taken V H → Loan) {W : Type 0
         → control_records.LeavesOver control_loan loan before left (IsControlMade control serial) t o c1 u o c2
 
     module _ (u : WindowManager V H) (c2 : Controls (TakenControl W K)) (control : NewControl) (control_is : control ≡ bar_control n.window p.first) (leaves : Leaves d p.vertical.ticket.serial t c1 control u c2)
-        (put : AreLayersPut p.vertical.ticket.window p.vertical.layers p.vertical.relaying.update t u) (more : vec_capacity c1.list.controls ≤ vec_capacity c2.list.controls) where
+        (put : AreLayersPut p.vertical.ticket.window p.vertical.layers p.vertical.relaying.update t u) (more : vec_capacity c1.list.items ≤ vec_capacity c2.list.items) where
       done : Leaves d p.vertical.ticket.serial t c1 new u c2
       done = subst (λ x. Leaves d p.vertical.ticket.serial t c1 x u c2) (control_is ∙ ap (bar_control n.window) planned.first) leaves
 

@@ -13,7 +13,7 @@ use Rattle.def_iface.specs.ControlMeaning.{ControlLoan}
 use Rattle.def_iface.specs.ListMeaning.{ListLoan}
 use Rattle.def_iface.specs.Meaning.{Loan}
 use Rattle.def_iface.specs.Stocked.{SlotView}
-use Rattle.list_records.specs.Lists.{edit_at}
+use Rattle.window_items.specs.Items.{edit_at}
 use Rattle.desk_call.specs.declared.list.ListOf.{ListOf}
 use Rattle.vis_update.specs.Records.{WindowRecord, record_of}
 use Rattle.window_list.specs.declared.window.Window.{Window}
@@ -116,7 +116,7 @@ module _ {V : Type 0} {H : V → Type 0} (loan : Taken V H → Loan) {X : Type 0
   pub record IsChange (l : ListOf) (t : WindowManager V H) (m n : Lists (TakenList X L)) (s : Spot) (f : KeptList → KeptList) : Type 0 where
     pub is : IsSpotOf loan list_loan l t m s
     pub keeps : Keeps f
-    pub draws : (x : KeptList) → (f x).drawing ≡ x.drawing
+    pub draws : (x : KeptList) → (f x).kept.drawing ≡ x.kept.drawing
     pub edited : records_of list_loan n ≡ edit_at f s.list (records_of list_loan m)
     pub next : n.list.next ≡ m.list.next
     pub stays : (x : KeptList) → slice_get (records_of list_loan m) s.list ≡ Some x → IsSettledList x → IsSettledList (f x)

@@ -3,23 +3,25 @@ use Rattle.std.specs.Prelude.{slice_get, IfSome}
 use Rattle.std.specs.Bool.{Decides}
 use Rattle.std.specs.Ordering.{int_eq}
 use Rattle.std.proofs.lemmas.Bool.Decides.{Decides-and, Decides-int_eq}
-use Rattle.std.proofs.Common.{◌≡◌, ℕ, ℤ, ◌&&◌, not, Bool, true, false, Some, sym, ap, ◌∙◌, subst}
+use Rattle.std.proofs.Common.{◌≡◌, ℕ, ℤ, ◌&&◌, not, Bool, true, false, Some, refl, sym, ap, ◌∙◌, subst}
 use Rattle.std.proofs.lemmas.Bool.{not-false, true≢false}
 use Rattle.list_cells.specs.declared.cell.Cell.{Cell}
 use Rattle.list_view.specs.declared.axis.Axis.{Axis}
 use Rattle.list_view.specs.Views.{View, scrolled}
 use Rattle.def_iface.specs.declared.taken_list.TakenList.{TakenList}
 use Rattle.def_iface.specs.ListMeaning.{ListLoan}
-use Rattle.list_records.specs.declared.list_record.ListRecord.{ListRecord}
-use Rattle.list_records.specs.Lists.{edit_at, with_view}
-use Rattle.list_records.specs.Seen.{all_seen, seen}
-use Rattle.list_records.proofs.SeenLemmas.{with_view-seen}
+use Rattle.window_items.specs.declared.item.Item.{Item}
+use Rattle.list_mgr.specs.declared.list_record.ListRecord.{ListRecord}
+use Rattle.window_items.specs.Items.{edit_at}
+use Rattle.list_mgr.specs.Fields.{with_view}
+use Rattle.list_mgr.specs.Seen.{all_seen, seen, kept_seen}
+use Rattle.window_items.proofs.SeenLemmas.{edit_at-seen}
 use Rattle.list_mgr.specs.declared.lists.Lists.{Lists}
 use Rattle.list_mgr.specs.ListDesks.{KeptList}
 use Rattle.list_mgr.specs.ListSteps.{with_scroll}
 use Rattle.list_mgr.specs.Changing.{IsSameOrNot}
 use Rattle.list_mgr.specs.WholeLists.{records_of}
-use Rattle.list_mgr.proofs.Edited.{edit_alike}
+use Rattle.window_items.proofs.EditLemmas.{edit_alike}
 
 -- what `==` answers
 abbrev pub same_axes : Axis → Axis → Bool
@@ -56,26 +58,26 @@ other_by true x y e = λ same. true≢false (e ∙ ap not ((views_decide x y).1 
 other_by false x y e = sym ((views_decide x y).0 (not-false (same_views x y) (sym e)))
 
 -- a list with another view is another list
-other_record : (b : Bool) (x : KeptList) (v w : View) → v ≡ w → IsSameOrNot b v x.view → IsSameOrNot b (with_view w x) x
-other_record true x v w is other = λ same. other (is ∙ ap (λ (y : KeptList). y.view) same)
+other_record : (b : Bool) (x : KeptList) (v w : View) → v ≡ w → IsSameOrNot b v x.kept.view → IsSameOrNot b (with_view w x) x
+other_record true x v w is other = λ same. other (is ∙ ap (λ (y : KeptList). y.kept.view) same)
 other_record false x v w is other = ap (λ view. with_view view x) (sym is ∙ other)
 
 some_same : {Y : Type 0} {a b : Y} → Some a ≡ Some b → a ≡ b
 some_same e = cc
 
 module _ {X : Type 0} {L : X → Type 0} (list_loan : TakenList X L → ListLoan) (m n : Lists (TakenList X L)) (at : ℕ) (columns rows : ℤ)
-    (x : ListRecord (TakenList X L)) (read : slice_get (records_of list_loan m) at ≡ Some (seen list_loan x)) (view : View)
-    (is : view ≡ scrolled x.cells.columns x.cells.rows columns rows x.view) where
+    (x : Item (ListRecord (TakenList X L))) (read : slice_get (records_of list_loan m) at ≡ Some (seen list_loan x)) (view : View)
+    (is : view ≡ scrolled x.kept.cells.columns x.kept.cells.rows columns rows x.kept.view) where
   -- the lists, once one of them is scrolled
-  pub lists_scrolled : n.list.lists.items ≡ edit_at (with_view view) at m.list.lists.items
+  pub lists_scrolled : n.list.items.items ≡ edit_at (with_view view) at m.list.items.items
       → records_of list_loan n ≡ edit_at (with_scroll columns rows) at (records_of list_loan m)
   lists_scrolled edited =
-      ap (all_seen list_loan) edited ∙ with_view-seen list_loan view at m.list.lists.items
+      ap (all_seen list_loan) edited ∙ edit_at-seen (kept_seen list_loan) (with_view view) (with_view view) (λ l. refl) at m.list.items.items
       ∙ edit_alike (with_view view) (with_scroll columns rows) at (records_of list_loan m)
       (λ y there. subst (λ z. with_view view z ≡ with_scroll columns rows z) (some_same (sym read ∙ there)) (ap (λ v. with_view v (seen list_loan x)) is))
 
   -- whether it is another list then
-  pub other_list : (b : Bool) → IsSameOrNot b view x.view
+  pub other_list : (b : Bool) → IsSameOrNot b view x.kept.view
       → IfSome (slice_get (records_of list_loan m) at) (λ y. IsSameOrNot b (with_scroll columns rows y) y)
   other_list b other = subst (λ o. IfSome o (λ y. IsSameOrNot b (with_scroll columns rows y) y)) (sym read)
-      (other_record b (seen list_loan x) view (scrolled x.cells.columns x.cells.rows columns rows x.view) is other)
+      (other_record b (seen list_loan x) view (scrolled x.kept.cells.columns x.kept.cells.rows columns rows x.kept.view) is other)

@@ -19,8 +19,9 @@ use Rattle.list_cells.specs.Grids.{Grid, IsGrid}
 use Rattle.list_cells.specs.Selections.{IsChange, IsSelecting, selected_by}
 use Rattle.list_cells.proofs.SelectionLemmas.{selected_grid, selecting_by}
 use Rattle.list_paint.specs.Shown.{is_turned}
-use Rattle.list_records.specs.declared.list_record.ListRecord.{ListRecord}
-use Rattle.list_records.specs.Seen.{seen}
+use Rattle.window_items.specs.declared.item.Item.{Item}
+use Rattle.list_mgr.specs.declared.list_record.ListRecord.{ListRecord}
+use Rattle.list_mgr.specs.Seen.{seen}
 use Rattle.desk_call.specs.declared.list.ListOf.{ListOf}
 use Rattle.vis_update.specs.Records.{WindowRecord, record_of}
 use Rattle.window_list.specs.declared.window.Window.{Window}
@@ -42,10 +43,10 @@ use Rattle.list_mgr.specs.Spots.{IsSpotOf}
 use Rattle.list_mgr.specs.WholeLists.{IsChangedOver, count_selected, list_desk, lists_state, records_of, AreWholeLists}
 use Rattle.list_mgr.proofs.Becoming.{MayBecomeWider}
 use Rattle.list_mgr.proofs.Changed.{changed_as, changed_to, grid_keeps, grid_or_not, marked_over, same_item, whole_after}
-use Rattle.list_mgr.proofs.Edited.{there_edited}
 use Rattle.list_mgr.proofs.Given.{edited, of_read, stays, with_cells_there}
 use Rattle.list_mgr.proofs.Places.{found_names}
 use Rattle.list_mgr.proofs.Steps.{list_named, list_read}
+use Rattle.window_items.proofs.EditLemmas.{there_edited}
 
 -- what a call makes of a selection is one list
 pub one_after : (g a b : Grid) (s : Selecting) → IsSelecting g a s → IsSelecting g b s → a ≡ b
@@ -75,11 +76,11 @@ unseen false l g x before after off h = h
 
 module _ {V : Type 0} {H : V → Type 0} (loan : Taken V H → Loan) {X : Type 0} {L : X → Type 0} (list_loan : TakenList X L → ListLoan)
     (l : ListOf) (t : WindowManager V H) (m : Lists (TakenList X L)) (s : Spot) (is : IsSpotOf loan list_loan l t m s)
-    (x : ListRecord (TakenList X L)) (read : x ≡ get_or m.list.lists.items s.list x)
-    (h : SelectionFlags → Grid → Grid) (cells : Grid) (now : cells ≡ h x.flags x.cells) (selecting : Selecting) (chosen : IsSelecting x.cells (h x.flags x.cells) selecting)
-    (single : x.flags.only_one ≡ true → count_selected x.cells ≤ 1 → count_selected (h x.flags x.cells) ≤ 1) where
+    (x : Item (ListRecord (TakenList X L))) (read : x ≡ get_or m.list.items.items s.list x)
+    (h : SelectionFlags → Grid → Grid) (cells : Grid) (now : cells ≡ h x.kept.flags x.kept.cells) (selecting : Selecting) (chosen : IsSelecting x.kept.cells (h x.kept.flags x.kept.cells) selecting)
+    (single : x.kept.flags.only_one ≡ true → count_selected x.kept.cells ≤ 1 → count_selected (h x.kept.flags x.kept.cells) ≤ 1) where
   abbrev g : Grid → Grid
-  g = h x.flags
+  g = h x.kept.flags
 
   abbrev n : Lists (TakenList X L)
   n = with_cells_there loan list_loan l t m s is x read cells
@@ -90,13 +91,13 @@ module _ {V : Type 0} {H : V → Type 0} (loan : Taken V H → Loan) {X : Type 0
   y_there : slice_get (records_of list_loan m) s.list ≡ Some y
   y_there = list_read loan list_loan l t m s is x read
 
-  good : IsGrid x.cells → MayBecomeWider x.flags x.cells (g x.cells)
-  good is = selecting_wider x.flags x.cells (g x.cells) selecting chosen single is
+  good : IsGrid x.kept.cells → MayBecomeWider x.kept.flags x.kept.cells (g x.kept.cells)
+  good is = selecting_wider x.kept.flags x.kept.cells (g x.kept.cells) selecting chosen single is
 
-  said : selected_by selecting x.cells ≡ g x.cells
-  said = one_after x.cells (selected_by selecting x.cells) (g x.cells) selecting (selecting_by x.cells selecting) chosen
+  said : selected_by selecting x.kept.cells ≡ g x.kept.cells
+  said = one_after x.kept.cells (selected_by selecting x.kept.cells) (g x.kept.cells) selecting (selecting_by x.kept.cells selecting) chosen
 
-  either : (changes : Bool) → IsChange changes x.cells (selected_by selecting x.cells) → IsSameOrNot changes (g x.cells) x.cells
+  either : (changes : Bool) → IsChange changes x.kept.cells (selected_by selecting x.kept.cells) → IsSameOrNot changes (g x.kept.cells) x.kept.cells
   either true other = λ same. other (sym same ∙ sym said)
   either false same = sym said ∙ sym same
 
@@ -123,12 +124,12 @@ module _ {V : Type 0} {H : V → Type 0} (loan : Taken V H → Loan) {X : Type 0
       let left = toggled y y_there w lies was after slots whole in
       let names = found_names l.window l.list s.list (records_of list_loan m) y is.list y_there in
       let windows : (desk_of loan u []).windows ≡ (desk_of loan t []).windows = ap (λ (d : FullDesk). d.windows) left.1.desk in
-      let drawn : y.drawing ≡ true = ap (λ (k : KeptList). k.drawing) (same_item (records_of list_loan m) s.list y z y_there there) ∙ on in
-      let turned = λ (cells : Grid) (font : List ℕ). is_turned font y.definition.definition y.view y.cells cells in
-      let its : IsLayerToggled l.window w.place (part.List l.list) (turned (g y.cells)) (state_showing was (state_of loan t slots)) (state_showing after (state_of loan u slots)) =
+      let drawn : y.kept.drawing ≡ true = ap (λ (k : KeptList). k.kept.drawing) (same_item (records_of list_loan m) s.list y z y_there there) ∙ on in
+      let turned = λ (cells : Grid) (font : List ℕ). is_turned font y.kept.definition.definition y.kept.view y.kept.cells cells in
+      let its : IsLayerToggled l.window w.place (part.List l.list) (turned (g y.kept.cells)) (state_showing was (state_of loan t slots)) (state_showing after (state_of loan u slots)) =
       subst (λ cells. IsLayerToggled l.window w.place (part.List l.list) (turned cells) (state_showing was (state_of loan t slots)) (state_showing after (state_of loan u slots))) said
-      (subst (λ k. IsLayerToggled k w.place (part.List l.list) (turned (selected_by selecting y.cells)) (state_showing was (state_of loan t slots)) (state_showing after (state_of loan u slots))) names.0
-      (subst (λ k. IsLayerToggled y.window w.place (part.List k) (turned (selected_by selecting y.cells)) (state_showing was (state_of loan t slots)) (state_showing after (state_of loan u slots))) names.1 left.1)) in
+      (subst (λ k. IsLayerToggled k w.place (part.List l.list) (turned (selected_by selecting y.kept.cells)) (state_showing was (state_of loan t slots)) (state_showing after (state_of loan u slots))) names.0
+      (subst (λ k. IsLayerToggled y.window w.place (part.List k) (turned (selected_by selecting y.kept.cells)) (state_showing was (state_of loan t slots)) (state_showing after (state_of loan u slots))) names.1 left.1)) in
       let kept_so = stays loan list_loan l t m s is x read g cells now good in
       let edit = edited loan list_loan l t m s is x read g cells now in (
         left.0,
@@ -144,15 +145,15 @@ module _ {V : Type 0} {H : V → Type 0} (loan : Taken V H → Loan) {X : Type 0
                 toggled = λ r r_is.
                     let both : Some (record_of loan w) ≡ Some r = sym (found loan t t slots whole s.window l.window w is.window.0 lies (is.window.1 w lies)) ∙ r_is in
                     let same : record_of loan w ≡ r = cc in
-                    subst (λ (k : WindowRecord). IsLayerToggled l.window k.place (part.List l.list) (turned (g y.cells)) (state_showing was (state_of loan t slots)) (state_showing after (state_of loan u slots))) same its;
+                    subst (λ (k : WindowRecord). IsLayerToggled l.window k.place (part.List l.list) (turned (g y.kept.cells)) (state_showing was (state_of loan t slots)) (state_showing after (state_of loan u slots))) same its;
                 shows = refl;
               }),
         ),
       )
   selected_so (Some update) ((z, there, off), region) u toggled = by_change (toggled y y_there)
     where
-      drawn : y.drawing ≡ false
-      drawn = ap (λ (k : KeptList). k.drawing) (same_item (records_of list_loan m) s.list y z y_there there) ∙ off
+      drawn : y.kept.drawing ≡ false
+      drawn = ap (λ (k : KeptList). k.kept.drawing) (same_item (records_of list_loan m) s.list y z y_there there) ∙ off
 
       convert : (o : Opened) (slots : List SlotView) (cs : ControlsState) (kept : List ListSlot) → IsListChanged l (with_grid g) (list_desk list_loan loan t o slots cs m kept) (list_desk list_loan loan u o slots cs n kept)
           → IsSelectionChanged l h (list_desk list_loan loan t o slots cs m kept) (list_desk list_loan loan u o slots cs n kept)
@@ -161,11 +162,11 @@ module _ {V : Type 0} {H : V → Type 0} (loan : Taken V H → Loan) {X : Type 0
           let same : k ≡ y = cc in (
             y,
             list_named loan list_loan l t m s is y y_there,
-            unseen y.drawing l g y (list_desk list_loan loan t o slots cs m kept) (list_desk list_loan loan u o slots cs n kept) drawn
+            unseen y.kept.drawing l g y (list_desk list_loan loan t o slots cs m kept) (list_desk list_loan loan u o slots cs n kept) drawn
                 (subst (λ k. IsSeenOrNot k.drawing l (with_grid g) k (list_desk list_loan loan t o slots cs m kept) (list_desk list_loan loan u o slots cs n kept)) same changed),
           )
 
-      by_change : (changes : Bool) × IsChange changes x.cells (selected_by selecting x.cells) × IsMarkedIf list_loan loan changes y t u → IsChangedOver list_loan loan (IsSelectionChanged l h) t m u n
+      by_change : (changes : Bool) × IsChange changes x.kept.cells (selected_by selecting x.kept.cells) × IsMarkedIf list_loan loan changes y t u → IsChangedOver list_loan loan (IsSelectionChanged l h) t m u n
       by_change (changes, change, marked) =
           changed_as loan list_loan t u m n (IsListChanged l (with_grid g)) (IsSelectionChanged l h) convert
           (marked_over loan list_loan l t m n s is (with_grid g) (grid_keeps g) (edited loan list_loan l t m s is x read g cells now) refl (stays loan list_loan l t m s is x read g cells now good)

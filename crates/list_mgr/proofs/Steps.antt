@@ -12,9 +12,10 @@ use Rattle.def_iface.specs.Meaning.{Loan}
 use Rattle.def_iface.specs.Stocked.{SlotView}
 use Rattle.list_cells.specs.declared.cell.Cell.{Cell}
 use Rattle.list_cells.specs.Grids.{is_cell}
-use Rattle.list_records.specs.declared.list_record.ListRecord.{ListRecord}
-use Rattle.list_records.specs.Seen.{seen}
-use Rattle.list_records.proofs.SeenLemmas.{length-seen, slice_get-seen}
+use Rattle.window_items.specs.declared.item.Item.{Item}
+use Rattle.list_mgr.specs.declared.list_record.ListRecord.{ListRecord}
+use Rattle.list_mgr.specs.Seen.{seen, kept_seen}
+use Rattle.window_items.proofs.SeenLemmas.{length-seen, slice_get-seen}
 use Rattle.desk_call.specs.declared.list.ListCall.{ListCall}
 use Rattle.desk_call.specs.declared.list.ListOf.{ListOf}
 use Rattle.desk_call.specs.declared.list.ListReply.{ListReply}
@@ -60,10 +61,10 @@ module _ {V : Type 0} {H : V → Type 0} (loan : Taken V H → Loan) {X : Type 0
     ls = records_of list_loan m
 
     pub list_there : IsThere ls s.list
-    list_there = there_is ls s.list (subst (λ n. s.list < n) (sym (length-seen list_loan m.list.lists.items)) is.low)
+    list_there = there_is ls s.list (subst (λ n. s.list < n) (sym (length-seen (kept_seen list_loan) m.list.items.items)) is.low)
 
-    pub list_read : (x : ListRecord (TakenList X L)) → x ≡ get_or m.list.lists.items s.list x → slice_get ls s.list ≡ Some (seen list_loan x)
-    list_read x read = slice_get-seen list_loan m.list.lists.items s.list ∙ ap (option_map (seen list_loan)) (get_is m.list.lists.items s.list x is.low read)
+    pub list_read : (x : Item (ListRecord (TakenList X L))) → x ≡ get_or m.list.items.items s.list x → slice_get ls s.list ≡ Some (seen list_loan x)
+    list_read x read = slice_get-seen (kept_seen list_loan) m.list.items.items s.list ∙ ap (option_map (seen list_loan)) (get_is m.list.items.items s.list x is.low read)
 
     pub list_named : (x : KeptList) → slice_get ls s.list ≡ Some x → list_of l ls ≡ Some x
     list_named x there = ap (option_and_then (slice_get ls)) is.list ∙ there
@@ -80,6 +81,6 @@ module _ {V : Type 0} {H : V → Type 0} (loan : Taken V H → Loan) {X : Type 0
     its_reasons f x there = other_reasons (of_list f (list_of l ls)) ∙ ap (λ o. first_refusal (of_list f o)) (list_named x there)
 
     -- and it has the cell
-    pub cell_there : (c : Cell) (x : KeptList) → slice_get ls s.list ≡ Some x → is_cell x.cells c ≡ true
+    pub cell_there : (c : Cell) (x : KeptList) → slice_get ls s.list ≡ Some x → is_cell x.kept.cells c ≡ true
         → first_refusal (list_reasons l (cell_refusals c) (desk_of loan t []) ls) ≡ None
-    cell_there c x there has = its_reasons (cell_refusals c) x there ∙ one_fails (not (is_cell x.cells c)) NoSuchCell (ap not has)
+    cell_there c x there has = its_reasons (cell_refusals c) x there ∙ one_fails (not (is_cell x.kept.cells c)) NoSuchCell (ap not has)

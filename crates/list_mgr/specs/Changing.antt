@@ -52,7 +52,7 @@ module _ {X : Type 0} {L : X → Type 0} (list_loan : TakenList X L → ListLoan
 
   -- the list that stands here is drawn
   abbrev pub IsDrawing : Bool → Lists (TakenList X L) → Spot → Type 0
-  IsDrawing drawing m s = (x : KeptList) × (slice_get (records_of list_loan m) s.list ≡ Some x) × (x.drawing ≡ drawing)
+  IsDrawing drawing m s = (x : KeptList) × (slice_get (records_of list_loan m) s.list ≡ Some x) × (x.kept.drawing ≡ drawing)
 
   module _ {V : Type 0} {H : V → Type 0} (loan : Taken V H → Loan) where
     -- the region is the update region of the window that the list stands in, with all that the list owns
@@ -93,7 +93,7 @@ module _ {X : Type 0} {L : X → Type 0} (list_loan : TakenList X L → ListLoan
     abbrev pub IsToggledBy : Selecting → Spot → KeptList → WindowManager V H → WindowManager V H → Type 0
     IsToggledBy selecting s x t u = (w : Window V H) → IsWindowAt t.windows.records.items s.window w → (was is : List ℕ → Part → PixelSet)
         → LeavesShown (IsLayerToggled x.window w.place (part.List x.serial)
-        (λ font. is_turned font x.definition.definition x.view x.cells (selected_by selecting x.cells))) was is t u
+        (λ font. is_turned font x.kept.definition.definition x.kept.view x.kept.cells (selected_by selecting x.kept.cells))) was is t u
 
     -- it was marked where something of it changes
     abbrev pub IsMarkedIf : Bool → KeptList → WindowManager V H → WindowManager V H → Type 0
@@ -104,7 +104,7 @@ module _ {X : Type 0} {L : X → Type 0} (list_loan : TakenList X L → ListLoan
     abbrev pub IsToggledAs : Option Pixels → Selecting → Spot → KeptList → WindowManager V H → WindowManager V H → Type 0
     IsToggledAs None selecting s x t u = IsToggledBy selecting s x t u
     IsToggledAs (Some update) selecting s x t u =
-        (changes : Bool) × IsChange changes x.cells (selected_by selecting x.cells) × IsMarkedIf changes x t u
+        (changes : Bool) × IsChange changes x.kept.cells (selected_by selecting x.kept.cells) × IsMarkedIf changes x t u
 
     -- so was the list that stands here
     abbrev pub IsToggledOrMarked : Option Pixels → Selecting → Spot → Lists (TakenList X L) → WindowManager V H → WindowManager V H → Type 0

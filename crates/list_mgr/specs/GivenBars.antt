@@ -1,6 +1,6 @@
 -- That the scroll bars of a list have serials which controls were given.
 use Rattle.std.specs.Prelude.{◌≡◌, ℕ, ◌≤◌, true, List, All, Option, IfSome}
-use Rattle.control_list.specs.Lists.{is_before}
+use Rattle.window_items.specs.Items.{is_before}
 use Rattle.list_mgr.specs.ListDesks.{KeptList}
 
 -- serials are given from 1 on: the next one, if one is left, is 1 at least
@@ -18,9 +18,9 @@ AreBarsApart vertical horizontal = IfSome vertical (λ v. IfSome horizontal (λ 
 -- the scroll bars that the list was made with have serials that controls were given, and two of them have two, also once such a
 -- bar was disposed of by itself; the next control gets the serial `next`, if one is left
 pub record HasGivenBars (next : Option ℕ) (l : KeptList) : Type 0 where
-  pub vertical : IsBarGiven next l.vertical
-  pub horizontal : IsBarGiven next l.horizontal
-  pub apart : AreBarsApart l.vertical l.horizontal
+  pub vertical : IsBarGiven next l.kept.vertical
+  pub horizontal : IsBarGiven next l.kept.horizontal
+  pub apart : AreBarsApart l.kept.vertical l.kept.horizontal
 
 -- so have those of each of these lists
 abbrev pub AreBarsGiven : Option ℕ → List KeptList → Type 0

@@ -3,7 +3,7 @@ use Rattle.std.specs.Prelude.{◌≡◌, ℕ, List, [], map, All, Contains, Some
 use Rattle.def_iface.specs.declared.window_def.Stage.TheVariants.{Closed}
 use Rattle.def_iface.specs.ListMeaning.{ListDefinition, SameListLook}
 use Rattle.def_iface.specs.Slots.{IsFull}
-use Rattle.list_records.specs.Lists.{lists_of}
+use Rattle.window_items.specs.Items.{items_of}
 use Rattle.control_mgr.specs.InUse.{AreStocked}
 use Rattle.list_mgr.specs.ListDesks.{KeptList, ListSlot, ListsState}
 use Rattle.list_mgr.specs.WholeLists.{AreListsApart, slots_of}
@@ -15,8 +15,8 @@ IsListFull s = IsFull (λ (d : ListDefinition). d.stage) s
 -- the list's slot is there, with its definition, which is closed
 abbrev pub IsListClosedAt : List ListSlot → KeptList → Type 0
 IsListClosedAt slots l =
-    (s : ListSlot) × (slice_get slots l.definition.slot ≡ Some s)
-    × ((d : ListDefinition) × (s.held ≡ Some d) × (d.stage ≡ Closed) × SameListLook l.definition.definition d)
+    (s : ListSlot) × (slice_get slots l.kept.definition.slot ≡ Some s)
+    × ((d : ListDefinition) × (s.held ≡ Some d) × (d.stage ≡ Closed) × SameListLook l.kept.definition.definition d)
 
 -- the definitions of these lists were closed and put into their slots, and every other slot is as it was
 pub record AreListsClosed (ls : List KeptList) (old new : List ListSlot) : Type 0 where
@@ -34,11 +34,11 @@ pub record AreAllListsClosed (ls : List KeptList) (old new : List ListSlot) : Ty
 
 -- the lists of a window were disposed of, and those of other windows stay
 pub record AreListsOfLeft (window : ℕ) (before after : ListsState) : Type 0 where
-  pub gone : lists_of window after.lists ≡ []
-  pub others : (other : ℕ) → (window ≡ other → ⊥) → lists_of other after.lists ≡ lists_of other before.lists
+  pub gone : items_of window after.lists ≡ []
+  pub others : (other : ℕ) → (window ≡ other → ⊥) → items_of other after.lists ≡ items_of other before.lists
   -- each that stays was there
   pub within : All (Contains before.lists) after.lists
   pub apart : AreListsApart before.lists → AreListsApart after.lists
   pub next : after.next ≡ before.next
-  pub closed : AreListsClosed (lists_of window before.lists) before.stock after.stock
+  pub closed : AreListsClosed (items_of window before.lists) before.stock after.stock
   pub stocked : AreStocked (λ (d : ListDefinition). d.stage) (slots_of after.lists) after.stock

@@ -7,8 +7,9 @@ use Rattle.def_iface.specs.declared.part.Part.{Part}
 use Rattle.def_iface.specs.declared.part.Part.TheVariants as part
 use Rattle.def_iface.specs.ListMeaning.{ListDefinition, ListLoan}
 use Rattle.def_iface.specs.Slots.{SlotOf}
-use Rattle.list_records.specs.declared.list_record.ListRecord.{ListRecord}
-use Rattle.list_records.specs.Lists.{has_serial, list_index}
+use Rattle.window_items.specs.declared.item.Item.{Item}
+use Rattle.list_mgr.specs.declared.list_record.ListRecord.{ListRecord}
+use Rattle.window_items.specs.Items.{has_serial, item_index}
 use Rattle.list_paint.specs.Shown.{list_shown}
 use Rattle.desk_call.specs.declared.list.ListOf.{ListOf}
 use Rattle.window_mgr.specs.DeskStates.{DeskState, IsDeskUnchanged}
@@ -18,7 +19,7 @@ use Rattle.control_mgr.specs.ControlDesks.{ControlDesk, ControlsState}
 
 -- a list, and its definition with the number of its slot
 abbrev pub KeptList : Type 0
-KeptList = ListRecord ListLoan
+KeptList = Item (ListRecord ListLoan)
 
 -- the slots of the lists' definitions, as the stock holds them
 abbrev pub ListSlot : Type 0
@@ -32,7 +33,7 @@ pub record ListsState : Type 0 where
 
 -- where the window's list of this serial stands, and the list
 abbrev pub index_of : ListOf → List KeptList → Option ℕ
-index_of l ls = list_index l.window l.list ls
+index_of l ls = item_index l.window l.list ls
 
 abbrev pub list_of : ListOf → List KeptList → Option KeptList
 list_of l ls = option_and_then (slice_get ls) (index_of l ls)
@@ -45,7 +46,7 @@ with_serial n ls = option_and_then (slice_get ls) (position (has_serial n) ls)
 
 -- what a list shows in a font, in its window's coordinates; where there is none it is white
 abbrev pub list_bit : List ℕ → Option KeptList → PixelSet
-list_bit font l p = option_map_or (λ x. list_shown font x.definition.definition x.view x.cells p) l false
+list_bit font l p = option_map_or (λ x. list_shown font x.kept.definition.definition x.kept.view x.kept.cells p) l false
 
 -- what these lists show in a font
 abbrev pub lists_show : List KeptList → List ℕ → Part → PixelSet

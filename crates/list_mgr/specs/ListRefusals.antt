@@ -8,13 +8,13 @@ use Rattle.tb_geom.specs.declared.rect.Rect.{Rect}
 use Rattle.tb_geom.specs.declared.refusal.Refusal.{Refusal}
 use Rattle.tb_geom.specs.declared.refusal.Refusal.TheVariants.{NoDefinition, NoSuchCell, NoSuchList, NoSuchName, NoSuchWindow, OutOfRange, TooMany}
 use Rattle.tb_geom.specs.Rects.{in_plane, is_in_range, moved_rect}
-use Rattle.control_list.specs.Lists as controls
+use Rattle.window_items.specs.Items as controls
 use Rattle.list_cells.specs.declared.cell.Cell.{Cell}
 use Rattle.list_cells.specs.declared.click.SelectionFlags.{SelectionFlags}
 use Rattle.list_cells.specs.Clicks.{flags_number}
 use Rattle.list_cells.specs.Grids.{content_of, data_refusals, is_cell, search_refusals}
 use Rattle.list_cells.specs.Runs.{add_refusals, delete_refusals, new_refusals}
-use Rattle.list_records.specs.Lists.{count_of}
+use Rattle.window_items.specs.Items.{count_of}
 use Rattle.list_view.specs.declared.axis.Axis.{Axis}
 use Rattle.list_view.specs.Axes.{is_axis}
 use Rattle.list_view.specs.Bars.{horizontal_bar, vertical_bar}
@@ -61,7 +61,7 @@ list_reasons l f desk ls = missing_refusals l desk ls ++ of_list f (list_of l ls
 
 -- the list has no such cell
 abbrev pub cell_refusals : Cell → KeptList → List (Bool × Refusal)
-cell_refusals c l = (not (is_cell l.cells c), NoSuchCell) ∷ []
+cell_refusals c l = (not (is_cell l.kept.cells c), NoSuchCell) ∷ []
 
 -- ---- a new list
 
@@ -172,21 +172,21 @@ abbrev pub list_refusals : ListCall → FullDesk → ControlsState → ListsStat
 list_refusals (New n) desk controls s = new_list_refusals n desk controls s
 list_refusals (Dispose l) desk controls s = missing_refusals l desk s.lists
 list_refusals (AddRows n) desk controls s =
-    list_reasons n.list (λ l. add_refusals l.cells.rows l.cells.columns n.count n.at) desk s.lists
+    list_reasons n.list (λ l. add_refusals l.kept.cells.rows l.kept.cells.columns n.count n.at) desk s.lists
 list_refusals (AddColumns n) desk controls s =
-    list_reasons n.list (λ l. add_refusals l.cells.columns l.cells.rows n.count n.at) desk s.lists
-list_refusals (DeleteRows n) desk controls s = list_reasons n.list (λ l. delete_refusals l.cells.rows n.count n.at) desk s.lists
-list_refusals (DeleteColumns n) desk controls s = list_reasons n.list (λ l. delete_refusals l.cells.columns n.count n.at) desk s.lists
+    list_reasons n.list (λ l. add_refusals l.kept.cells.columns l.kept.cells.rows n.count n.at) desk s.lists
+list_refusals (DeleteRows n) desk controls s = list_reasons n.list (λ l. delete_refusals l.kept.cells.rows n.count n.at) desk s.lists
+list_refusals (DeleteColumns n) desk controls s = list_reasons n.list (λ l. delete_refusals l.kept.cells.columns n.count n.at) desk s.lists
 list_refusals (SetCell t) desk controls s = list_reasons t.cell.list
-    (λ l. data_refusals l.cells t.cell.cell (length (content_of l.cells t.cell.cell).bytes) (length t.text)) desk s.lists
-list_refusals (AddToCell t) desk controls s = list_reasons t.cell.list (λ l. data_refusals l.cells t.cell.cell 0 (length t.text)) desk s.lists
+    (λ l. data_refusals l.kept.cells t.cell.cell (length (content_of l.kept.cells t.cell.cell).bytes) (length t.text)) desk s.lists
+list_refusals (AddToCell t) desk controls s = list_reasons t.cell.list (λ l. data_refusals l.kept.cells t.cell.cell 0 (length t.text)) desk s.lists
 list_refusals (ClearCell c) desk controls s = list_reasons c.list (cell_refusals c.cell) desk s.lists
 list_refusals (GetCell c) desk controls s = list_reasons c.list (cell_refusals c.cell) desk s.lists
 list_refusals (Select k) desk controls s = list_reasons k.cell.list (cell_refusals k.cell.cell) desk s.lists
 list_refusals (IsSelected c) desk controls s = list_reasons c.list (cell_refusals c.cell) desk s.lists
 list_refusals (FirstSelected c) desk controls s = list_reasons c.list (cell_refusals c.cell) desk s.lists
 list_refusals (NextCell n) desk controls s = list_reasons n.cell.list (cell_refusals n.cell.cell) desk s.lists
-list_refusals (Search t) desk controls s = list_reasons t.cell.list (λ l. search_refusals l.cells t.cell.cell (length t.text)) desk s.lists
+list_refusals (Search t) desk controls s = list_reasons t.cell.list (λ l. search_refusals l.kept.cells t.cell.cell (length t.text)) desk s.lists
 list_refusals (Click k) desk controls s = missing_refusals k.list desk s.lists
     ++ (not (in_plane k.point), OutOfRange) ∷ (not (is_word k.modifiers), OutOfRange) ∷ []
 list_refusals (Scroll m) desk controls s = missing_refusals m.list desk s.lists
@@ -194,7 +194,7 @@ list_refusals (SetDrawing d) desk controls s = missing_refusals d.list desk s.li
 
 -- the list is there, and its drawing is off
 abbrev pub is_drawing_off : ListOf → ListsState → Bool
-is_drawing_off l s = option_map_or (λ x. not x.drawing) (list_of l s.lists) false
+is_drawing_off l s = option_map_or (λ x. not x.kept.drawing) (list_of l s.lists) false
 
 -- whether a call may ask for memory: what only draws or inverts does not, unless the list's drawing is off
 abbrev pub may_list_grow : ListCall → ListsState → Bool

@@ -8,7 +8,7 @@ use Rattle.tb_geom.specs.Pixels.{holds}
 use Rattle.tb_geom.specs.Rects.{rect_holds}
 use Rattle.tb_geom.specs.Refusals.{first_refusal}
 use Rattle.control_values.specs.Settings.{Setting}
-use Rattle.control_list.specs.Lists.{controls_of}
+use Rattle.window_items.specs.Items.{items_of, edit_at, serial_after}
 use Rattle.list_cells.specs.declared.cell.Cell.{Cell}
 use Rattle.list_cells.specs.declared.click.SelectionFlags.{SelectionFlags}
 use Rattle.list_cells.specs.Blocks.{clicked_cell}
@@ -17,7 +17,7 @@ use Rattle.list_cells.specs.Grids.{Grid, columns_added, columns_deleted, content
 use Rattle.list_cells.specs.Runs.{count_to_delete, place_to_add}
 use Rattle.list_cells.specs.Selections.{chosen_cell}
 use Rattle.std.specs.Str.{bytes_eq}
-use Rattle.list_records.specs.Lists.{edit_at, lists_of, serial_after, with_cells, with_drawing, with_view}
+use Rattle.list_mgr.specs.Fields.{with_cells, with_drawing, with_view}
 use Rattle.list_view.specs.Bars.{horizontal_bar, horizontal_setting, vertical_bar, vertical_setting}
 use Rattle.list_view.specs.Views.{cell_at, scrolled, view_rect}
 use Rattle.list_paint.specs.Shown.{is_turned}
@@ -59,8 +59,8 @@ use Rattle.list_mgr.specs.ListRefusals.{corner_of, list_refusals, may_list_grow,
 pub record IsLayerOf (l : KeptList) (k : Layer) : Type 0 where
   pub part : k.part ≡ part.List l.serial
   pub shown : k.shown ≡ true
-  pub region : (p : Point) → holds k.region p ≡ rect_holds (view_rect l.view) p
-  pub bounds : k.bounds ≡ view_rect l.view
+  pub region : (p : Point) → holds k.region p ≡ rect_holds (view_rect l.kept.view) p
+  pub bounds : k.bounds ≡ view_rect l.kept.view
 
 -- the layers behind the controls are these lists, from front to back the oldest first
 abbrev pub AreListLayers : List KeptList → List Layer → Type 0
@@ -83,8 +83,8 @@ pub record IsChangedTo (l : ListOf) (f : KeptList → KeptList) (before after : 
 -- the window's layers are its controls and its lists, as they are now, and one of them was drawn afresh, if one is named
 pub record AreLaid (window : ℕ) (afresh : Option Part) (before after : ListDesk) : Type 0 where
   pub layers : List Layer
-  pub controls : AreLayersOf (controls_of window after.controls.controls) layers
-  pub lists : AreListLayers (lists_of window after.lists.lists) layers
+  pub controls : AreLayersOf (items_of window after.controls.controls) layers
+  pub lists : AreListLayers (items_of window after.lists.lists) layers
   pub set : AreLayersSet window layers afresh before.desk.windows after.desk.windows
   pub shows : ShowsControls (with_controls after)
 
@@ -126,27 +126,27 @@ OfList l d P = (x : KeptList) × (list_of l d.lists.lists ≡ Some x) × P x
 
 -- a list changed so
 abbrev pub IsListChanged : ListOf → (KeptList → KeptList) → ListDesk → ListDesk → Type 0
-IsListChanged l f before after = OfList l before (λ x. IsSeenOrNot x.drawing l f x before after)
+IsListChanged l f before after = OfList l before (λ x. IsSeenOrNot x.kept.drawing l f x before after)
 
 -- ---- selections
 
 -- the cells of the list became these, which differ in selections alone, and what that highlights otherwise was inverted, also
 -- where it is to be redrawn
 pub record IsToggled (l : ListOf) (g : Grid → Grid) (x : KeptList) (before after : ListDesk) : Type 0 where
-  pub changed : IsChangedTo l (λ y. with_cells (g y.cells) y) before after
+  pub changed : IsChangedTo l (λ y. with_cells (g y.kept.cells) y) before after
   pub toggled : (w : WindowRecord) → record_with l.window before.desk.windows.desk.windows ≡ Some w
-      → IsLayerToggled l.window w.place (part.List l.list) (λ font. is_turned font x.definition.definition x.view x.cells (g x.cells))
+      → IsLayerToggled l.window w.place (part.List l.list) (λ font. is_turned font x.kept.definition.definition x.kept.view x.kept.cells (g x.kept.cells))
       before.desk.windows after.desk.windows
   pub shows : ShowsControls (with_controls after)
 
 -- the selection of the list x changed so, as its drawing is on or off
 abbrev pub IsToggledOrNot : Bool → ListOf → (Grid → Grid) → KeptList → ListDesk → ListDesk → Type 0
 IsToggledOrNot true l g x before after = IsToggled l g x before after
-IsToggledOrNot false l g x before after = IsUnseen l (λ y. with_cells (g y.cells) y) x before after
+IsToggledOrNot false l g x before after = IsUnseen l (λ y. with_cells (g y.kept.cells) y) x before after
 
 -- the selection of a list changed so, which may go by the list's flags
 abbrev pub IsSelectionChanged : ListOf → (SelectionFlags → Grid → Grid) → ListDesk → ListDesk → Type 0
-IsSelectionChanged l g before after = OfList l before (λ x. IsToggledOrNot x.drawing l (g x.flags) x before after)
+IsSelectionChanged l g before after = OfList l before (λ x. IsToggledOrNot x.kept.drawing l (g x.kept.flags) x before after)
 
 -- ---- scroll bars
 
@@ -164,8 +164,8 @@ IsBarSet window (Some n) setting before after =
 -- the scroll bars of a list were set as its view is now, the vertical one first
 abbrev pub AreBarsSet : ListOf → ListDesk → ListDesk → Type 0
 AreBarsSet l before after = OfList l before (λ x. (mid : ListDesk)
-    × IsBarSet l.window x.vertical (vertical_setting x.cells.rows x.view) before mid
-    × IsBarSet l.window x.horizontal (horizontal_setting x.cells.columns x.view) mid after)
+    × IsBarSet l.window x.kept.vertical (vertical_setting x.kept.cells.rows x.kept.view) before mid
+    × IsBarSet l.window x.kept.horizontal (horizontal_setting x.kept.cells.columns x.kept.view) mid after)
 
 -- a list changed so, and its scroll bars were set
 abbrev pub IsRelined : ListOf → (KeptList → KeptList) → ListDesk → ListDesk → Type 0
@@ -212,13 +212,15 @@ abbrev pub new_list : NewList → ℕ → SelectionFlags → Option ℕ → Opti
 new_list n serial flags vertical horizontal loan = record {
   serial = serial;
   window = n.window;
-  view = view_of n;
-  cells = empty_grid (nat_abs n.columns) (nat_abs n.rows);
-  flags = flags;
-  drawing = true;
-  vertical = vertical;
-  horizontal = horizontal;
-  definition = loan;
+  kept = record {
+    view = view_of n;
+    cells = empty_grid (nat_abs n.columns) (nat_abs n.rows);
+    flags = flags;
+    drawing = true;
+    vertical = vertical;
+    horizontal = horizontal;
+    definition = loan;
+  };
 }
 
 -- a list of this serial was put behind the others, with a definition that was taken out of the stock and begun, and drawn
@@ -256,7 +258,7 @@ pub record IsListGone (l : ListOf) (x : KeptList) (before after : ListDesk) : Ty
   pub at : ℕ
   pub found : index_of l before.lists.lists ≡ Some at
   pub there : slice_get before.lists.lists at ≡ Some x
-  pub shut : IsListShut x.definition before.lists.stock after.lists.stock
+  pub shut : IsListShut x.kept.definition before.lists.stock after.lists.stock
   pub lists : after.lists ≡ record before.lists { lists = remove before.lists.lists at; stock = after.lists.stock }
   pub laid : AreLaid l.window None before after
   pub beside : IsBesideLists before after
@@ -276,8 +278,8 @@ IsBarGone window (Some n) before after = let c : ControlOf = record { window = w
 abbrev pub IsListDisposed : ListOf → ListDesk → ListDesk → Type 0
 IsListDisposed l before after = (x : KeptList) × (without_list without_vertical : ListDesk)
     × IsListGone l x before without_list
-    × IsBarGone l.window x.vertical without_list without_vertical
-    × IsBarGone l.window x.horizontal without_vertical after
+    × IsBarGone l.window x.kept.vertical without_list without_vertical
+    × IsBarGone l.window x.kept.horizontal without_vertical after
 
 -- ---- what is asked
 
@@ -298,26 +300,26 @@ Tells told answer before after = (answer ≡ told) × IsListDeskUnchanged before
 
 -- the list with other cells, by a change of its cells
 abbrev pub with_grid : (Grid → Grid) → KeptList → KeptList
-with_grid g l = with_cells (g l.cells) l
+with_grid g l = with_cells (g l.kept.cells) l
 
 -- the list scrolled by so much, which brings it back where cells are gone
 abbrev pub with_scroll : (columns rows : ℤ) → KeptList → KeptList
-with_scroll columns rows l = with_view (scrolled l.cells.columns l.cells.rows columns rows l.view) l
+with_scroll columns rows l = with_view (scrolled l.kept.cells.columns l.kept.cells.rows columns rows l.kept.view) l
 
 -- the list with rows or columns more or fewer
 abbrev pub with_rows_more : ℤ → ℤ → KeptList → KeptList
-with_rows_more n before l = with_grid (rows_added (place_to_add l.cells.rows before) (nat_abs n)) l
+with_rows_more n before l = with_grid (rows_added (place_to_add l.kept.cells.rows before) (nat_abs n)) l
 
 abbrev pub with_columns_more : ℤ → ℤ → KeptList → KeptList
-with_columns_more n before l = with_grid (columns_added (place_to_add l.cells.columns before) (nat_abs n)) l
+with_columns_more n before l = with_grid (columns_added (place_to_add l.kept.cells.columns before) (nat_abs n)) l
 
 abbrev pub with_rows_fewer : ℤ → ℤ → KeptList → KeptList
 with_rows_fewer n first l =
-    with_scroll (pos 0) (pos 0) (with_grid (rows_deleted (nat_abs first) (count_to_delete l.cells.rows n first)) l)
+    with_scroll (pos 0) (pos 0) (with_grid (rows_deleted (nat_abs first) (count_to_delete l.kept.cells.rows n first)) l)
 
 abbrev pub with_columns_fewer : ℤ → ℤ → KeptList → KeptList
 with_columns_fewer n first l =
-    with_scroll (pos 0) (pos 0) (with_grid (columns_deleted (nat_abs first) (count_to_delete l.cells.columns n first)) l)
+    with_scroll (pos 0) (pos 0) (with_grid (columns_deleted (nat_abs first) (count_to_delete l.kept.cells.columns n first)) l)
 
 -- the list with bytes more in a cell
 abbrev pub appended : Cell → List ℕ → Grid → Grid
@@ -325,7 +327,7 @@ appended c text g = with_bytes g c ((content_of g c).bytes ++ text)
 
 -- the cell of the list that a click finds
 abbrev pub clicked_at : ListClick → KeptList → Option Cell
-clicked_at k l = cell_at l.cells.columns l.cells.rows l.view k.point
+clicked_at k l = cell_at l.kept.cells.columns l.kept.cells.rows l.kept.view k.point
 
 -- a click on this cell, or on none
 abbrev pub IsClickOn : ListClick → Option Cell → ListReply → ListDesk → ListDesk → Type 0
@@ -338,10 +340,10 @@ abbrev pub IsListEffect : ListCall → ListReply → ListDesk → ListDesk → T
 IsListEffect (New n) answer before after = (serial : ℕ) × (answer ≡ reply.Made serial) × IsListMade n serial before after
 IsListEffect (Dispose l) answer before after = (answer ≡ reply.Done) × IsListDisposed l before after
 IsListEffect (AddRows n) answer before after =
-    (answer ≡ told_of n.list (λ l. reply.Added (place_to_add l.cells.rows n.at)) before.lists.lists)
+    (answer ≡ told_of n.list (λ l. reply.Added (place_to_add l.kept.cells.rows n.at)) before.lists.lists)
     × IsRelined n.list (with_rows_more n.count n.at) before after
 IsListEffect (AddColumns n) answer before after =
-    (answer ≡ told_of n.list (λ l. reply.Added (place_to_add l.cells.columns n.at)) before.lists.lists)
+    (answer ≡ told_of n.list (λ l. reply.Added (place_to_add l.kept.cells.columns n.at)) before.lists.lists)
     × IsRelined n.list (with_columns_more n.count n.at) before after
 IsListEffect (DeleteRows n) answer before after = (answer ≡ reply.Done) × IsRelined n.list (with_rows_fewer n.count n.at) before after
 IsListEffect (DeleteColumns n) answer before after = (answer ≡ reply.Done) × IsRelined n.list (with_columns_fewer n.count n.at) before after
@@ -352,17 +354,17 @@ IsListEffect (AddToCell t) answer before after = (answer ≡ reply.Done)
 IsListEffect (ClearCell c) answer before after = (answer ≡ reply.Done)
     × IsListChanged c.list (with_grid (λ g. with_bytes g c.cell [])) before after
 IsListEffect (GetCell c) answer before after =
-    OfList c.list before (λ l. IsDataOf (content_of l.cells c.cell).bytes answer) × IsListDeskUnchanged before after
+    OfList c.list before (λ l. IsDataOf (content_of l.kept.cells c.cell).bytes answer) × IsListDeskUnchanged before after
 IsListEffect (Select k) answer before after = (answer ≡ reply.Done)
     × IsSelectionChanged k.cell.list (λ flags. chosen_cell k.cell.cell k.selected flags.only_one) before after
 IsListEffect (IsSelected c) answer before after =
-    Tells (told_of c.list (λ l. reply.Selected (content_of l.cells c.cell).selected) before.lists.lists) answer before after
+    Tells (told_of c.list (λ l. reply.Selected (content_of l.kept.cells c.cell).selected) before.lists.lists) answer before after
 IsListEffect (FirstSelected c) answer before after =
-    Tells (told_of c.list (λ l. reply.Cell (first_from (λ x. x.selected) l.cells c.cell)) before.lists.lists) answer before after
+    Tells (told_of c.list (λ l. reply.Cell (first_from (λ x. x.selected) l.kept.cells c.cell)) before.lists.lists) answer before after
 IsListEffect (NextCell n) answer before after =
-    Tells (told_of n.cell.list (λ l. reply.Cell (next_cell l.cells n.across n.down n.cell.cell)) before.lists.lists) answer before after
+    Tells (told_of n.cell.list (λ l. reply.Cell (next_cell l.kept.cells n.across n.down n.cell.cell)) before.lists.lists) answer before after
 IsListEffect (Search t) answer before after =
-    Tells (told_of t.cell.list (λ l. reply.Cell (first_from (λ x. bytes_eq x.bytes t.text) l.cells t.cell.cell)) before.lists.lists) answer before after
+    Tells (told_of t.cell.list (λ l. reply.Cell (first_from (λ x. bytes_eq x.bytes t.text) l.kept.cells t.cell.cell)) before.lists.lists) answer before after
 IsListEffect (Click k) answer before after = OfList k.list before (λ l. IsClickOn k (clicked_at k l) answer before after)
 IsListEffect (Scroll m) answer before after = (answer ≡ reply.Done) × IsRelined m.list (with_scroll m.columns m.rows) before after
 IsListEffect (SetDrawing d) answer before after = (answer ≡ reply.Done) × IsChangedTo d.list (with_drawing d.drawing) before after

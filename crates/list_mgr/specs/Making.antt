@@ -9,10 +9,10 @@ use Rattle.def_iface.specs.declared.taken_list.TakenList.{TakenList}
 use Rattle.def_iface.specs.ControlMeaning.{ControlDefinition, ControlLoan}
 use Rattle.def_iface.specs.ListMeaning.{ListLoan}
 use Rattle.def_iface.specs.Meaning.{Loan}
-use Rattle.control_list.specs.Lists as controls
+use Rattle.window_items.specs.Items as controls
 use Rattle.list_cells.specs.Clicks.{flags_number}
 use Rattle.list_cells.specs.Runs.{new_refusals}
-use Rattle.list_records.specs.Lists.{count_of}
+use Rattle.window_items.specs.Items.{count_of}
 use Rattle.list_view.specs.Bars.{horizontal_bar, vertical_bar}
 use Rattle.desk_call.specs.declared.list.NewList.{NewList}
 use Rattle.vis_update.specs.Records.{WindowRecord}

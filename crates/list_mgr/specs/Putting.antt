@@ -17,7 +17,7 @@ use Rattle.layer_list.specs.declared.layer.Layer.{Layer}
 use Rattle.layer_list.specs.Holders.{ArePartsApart, PlacedLayers}
 use Rattle.list_cells.specs.Clicks.{flags_number}
 use Rattle.list_cells.specs.Grids.{IsGrid, empty_grid}
-use Rattle.list_records.specs.Lists.{count_of}
+use Rattle.window_items.specs.Items.{count_of}
 use Rattle.list_view.specs.Views.{IsView, view_rect}
 use Rattle.desk_call.specs.declared.list.NewList.{NewList}
 use Rattle.vis_update.specs.declared.area.Area.{Area}
@@ -51,10 +51,10 @@ use Rattle.list_mgr.specs.WholeLists.{AreWholeLists, list_desk, lists_state}
 
 -- nothing but the room for lists is another, and there is no less of it
 pub record AreRoomier {D : Type 0} (old new : Lists D) : Type 0 where
-  pub lists : new.list.lists.items ≡ old.list.lists.items
+  pub lists : new.list.items.items ≡ old.list.items.items
   pub next : new.list.next ≡ old.list.next
   pub alloc : new.alloc ≡ old.alloc
-  pub room : vec_capacity old.list.lists ≤ vec_capacity new.list.lists
+  pub room : vec_capacity old.list.items ≤ vec_capacity new.list.items
 
 -- the view and the cells of a new list are such
 pub record IsGoodList (n : NewList) : Type 0 where
@@ -76,7 +76,7 @@ module _ {V : Type 0} {H : V → Type 0} (loan : Taken V H → Loan) where
   pub record IsPlanOfList (k : ListTicket) (ls : PlacedLayers) (u : WindowManager V H) (l : Laid) : Type 0 where
     pub layer : Layer
     pub part_is : layer.part ≡ part.List k.serial
-    pub is : (x : KeptList) → x.serial ≡ k.serial → x.view ≡ k.view → IsLayerOf x layer
+    pub is : (x : KeptList) → x.serial ≡ k.serial → x.kept.view ≡ k.view → IsLayerOf x layer
     pub index : l.at ≡ length ls.layers
     pub layers : l.layers ≡ record ls { layers = insert ls.layers l.at layer }
     pub low : l.at < length l.layers.layers
@@ -92,7 +92,7 @@ pub record IsPlace {V : Type 0} {H : V → Type 0} {D : Type 0} (n : NewList) (t
   pub view : k.view ≡ view_of n
   pub good : IsGoodList n
   pub fits : (w : Window V H) → IsWindowAt t.windows.records.items k.window w → is_in_range (moved_rect (view_rect (view_of n)) w.place.h w.place.v) ≡ true
-  pub few : count_of n.window m.list.lists.items < most_lists
+  pub few : count_of n.window m.list.items.items < most_lists
 
 -- windows and lists among which the list of this ticket can be put as it was planned
 pub record IsReadyToPut {V : Type 0} {H : V → Type 0} {D : Type 0} (loan : Taken V H → Loan) (n : NewList) (k : ListTicket) (t : WindowManager V H) (m : Lists D) (p : Planned) : Type 0 where
@@ -101,7 +101,7 @@ pub record IsReadyToPut {V : Type 0} {H : V → Type 0} {D : Type 0} (loan : Tak
   pub layers : PlacedLayers
   pub lies : (w : Window V H) → IsWindowAt t.windows.records.items k.window w → w.layers ≡ layers
   pub planned : IsPlanOfList loan k layers t p.laid
-  pub room : length m.list.lists.items < vec_capacity m.list.lists
+  pub room : length m.list.items.items < vec_capacity m.list.items
 
 -- ---- lists that are put
 
@@ -140,10 +140,10 @@ module _ {V : Type 0} {H : V → Type 0} (loan : Taken V H → Loan) {W : Type 0
     pub bar : p.bar ≡ (if n.vertical_bar then vertical_of n else horizontal_of n)
     pub added : (w : Window V H) (a : Area) → IsWindowAt t.windows.records.items k.window w → a ≡ slice_index_or t.areas.items k.window a
         → IsBarPlanned n.window p.bar d (bar_ticket k.window serial k.controls p.bar) w.layers a.update t p.addition
-    pub room : length c.list.controls.items + 1 ≤ vec_capacity c.list.controls
+    pub room : length c.list.items.items + 1 ≤ vec_capacity c.list.items
     pub cells : p.list.cells ≡ empty_grid (nat_abs n.columns) (nat_abs n.rows)
     pub laid : (u : WindowManager V H) → IsLaidSo loan k.window p.addition.layers p.addition.relaying.update t u → IsPlanOfList loan k p.addition.layers u p.list.laid
-    pub list_room : length m.list.lists.items < vec_capacity m.list.lists
+    pub list_room : length m.list.items.items < vec_capacity m.list.items
 
   -- a list of this ticket may be made with one scroll bar, whichever is wanted, with this definition
   pub record IsOneBarTicket {X : Type 0} {L : X → Type 0} (list_loan : TakenList X L → ListLoan) (n : NewList) (d : ControlDefinition) (t : WindowManager V H) (c : Controls (TakenControl W K)) (m : Lists (TakenList X L)) (k : ListTicket) : Type 0 where
@@ -170,10 +170,10 @@ module _ {V : Type 0} {H : V → Type 0} (loan : Taken V H → Loan) {W : Type 0
     pub vertical : (w : Window V H) (a : Area) → IsWindowAt t.windows.records.items k.window w → a ≡ slice_index_or t.areas.items k.window a
         → IsBarPlanned n.window p.first d (bar_ticket k.window serial k.controls p.first) w.layers a.update t p.vertical
     pub horizontal : IsBarPlanned n.window p.second e (bar_ticket k.window (serial + 1) (k.controls + 1) p.second) p.vertical.layers p.vertical.relaying.update t p.horizontal
-    pub room : length c.list.controls.items + 2 ≤ vec_capacity c.list.controls
+    pub room : length c.list.items.items + 2 ≤ vec_capacity c.list.items
     pub cells : p.list.cells ≡ empty_grid (nat_abs n.columns) (nat_abs n.rows)
     pub laid : (u : WindowManager V H) → IsLaidSo loan k.window p.horizontal.layers p.horizontal.relaying.update t u → IsPlanOfList loan k p.horizontal.layers u p.list.laid
-    pub list_room : length m.list.lists.items < vec_capacity m.list.lists
+    pub list_room : length m.list.items.items < vec_capacity m.list.items
 
   -- a list of this ticket may be made with both scroll bars, with these definitions
   pub record IsTwoBarTicket {X : Type 0} {L : X → Type 0} (list_loan : TakenList X L → ListLoan) (n : NewList) (d e : ControlDefinition) (t : WindowManager V H) (c : Controls (TakenControl W K)) (m : Lists (TakenList X L)) (k : ListTicket) : Type 0 where

@@ -20,7 +20,7 @@ module _ {V : Type 0} {H : V → Type 0} (loan : Taken V H → Loan) {X : Type 0
     pub window : StandsAt t.windows.records.items l.window s.window
     pub there : is_missing l.window (desk_of loan t []).windows ≡ false
     pub list : index_of l (records_of list_loan m) ≡ Some s.list
-    pub low : s.list < length m.list.lists.items
+    pub low : s.list < length m.list.items.items
 
   -- some list stands here, and its window
   pub record IsSpot (t : WindowManager V H) (m : Lists (TakenList X L)) (s : Spot) : Type 0 where

@@ -12,8 +12,8 @@ use Rattle.def_iface.specs.Meaning.{Loan}
 use Rattle.def_iface.specs.Stocked.{SlotView}
 use Rattle.list_cells.specs.Contents.{bytes_held}
 use Rattle.list_cells.specs.Grids.{Grid, IsGrid}
-use Rattle.list_records.specs.Lists.{are_before, count_of, has_serial, lists_of}
-use Rattle.list_records.specs.Seen.{all_seen}
+use Rattle.window_items.specs.Items.{are_before, count_of, has_serial, items_of}
+use Rattle.list_mgr.specs.Seen.{all_seen}
 use Rattle.list_view.specs.Axes.{bound}
 use Rattle.list_view.specs.Views.{IsView, View}
 use Rattle.vis_update.specs.Records.{WindowRecord}
@@ -48,14 +48,14 @@ count_selected g = length (filter (λ c. c.selected) g.contents)
 -- by that; its view and its cells are such, and these hold no more bytes than may be; it is scrolled no further than it may be; and
 -- with lOnlyOne no two of its cells are selected
 pub record IsSettledList (l : KeptList) : Type 0 where
-  pub live : l.definition.definition.stage ≡ Live
-  pub told : l.definition.definition.size ≡ cell_size l.view
-  pub goes_by : ListGoesBy (cell_size l.view) (not l.flags.no_nil_hilite) l.definition.definition
-  pub view : IsView l.view
-  pub grid : IsGrid l.cells
-  pub short : bytes_held l.cells.contents ≤ 32000
-  pub scrolled : IsWithinBounds l.cells l.view
-  pub single : l.flags.only_one ≡ true → count_selected l.cells ≤ 1
+  pub live : l.kept.definition.definition.stage ≡ Live
+  pub told : l.kept.definition.definition.size ≡ cell_size l.kept.view
+  pub goes_by : ListGoesBy (cell_size l.kept.view) (not l.kept.flags.no_nil_hilite) l.kept.definition.definition
+  pub view : IsView l.kept.view
+  pub grid : IsGrid l.kept.cells
+  pub short : bytes_held l.kept.cells.contents ≤ 32000
+  pub scrolled : IsWithinBounds l.kept.cells l.kept.view
+  pub single : l.kept.flags.only_one ≡ true → count_selected l.kept.cells ≤ 1
 
 abbrev pub AreSettled : List KeptList → Type 0
 AreSettled ls = All IsSettledList ls
@@ -66,11 +66,11 @@ AreListsApart [] = Unit {0}
 AreListsApart (l ∷ ls) = (list_any (has_serial l.serial) ls ≡ false) × AreListsApart ls
 
 abbrev pub AreLiveLists : List KeptList → Type 0
-AreLiveLists ls = All (λ l. l.definition.definition.stage ≡ Live) ls
+AreLiveLists ls = All (λ l. l.kept.definition.definition.stage ≡ Live) ls
 
 -- the slots of the lists' definitions
 abbrev pub slots_of : List KeptList → List ℕ
-slots_of ls = map (λ l. l.definition.slot) ls
+slots_of ls = map (λ l. l.kept.definition.slot) ls
 
 -- the lists of these windows, between calls: settled, each of another serial that was given before, in a window that is there,
 -- and no window has more than it may have; the layers of each window behind its controls are its lists; and the empty slots of the
@@ -81,14 +81,14 @@ pub record AreWholeLists (windows : List WindowRecord) (s : ListsState) : Type 0
   pub given : are_before s.next s.lists ≡ true
   pub somewhere : All (λ l. is_missing l.window windows ≡ false) s.lists
   pub few : (window : ℕ) → count_of window s.lists ≤ most_lists
-  pub joined : All (λ w. AreListLayers (lists_of w.serial s.lists) w.layers) windows
+  pub joined : All (λ w. AreListLayers (items_of w.serial s.lists) w.layers) windows
   pub stocked : AreStocked (λ (d : ListDefinition). d.stage) (slots_of s.lists) s.stock
 
 -- `list_loan` says what a list's definition that was taken means
 module _ {X : Type 0} {L : X → Type 0} (list_loan : TakenList X L → ListLoan) where
   -- the lists as plain data
   abbrev pub records_of : Lists (TakenList X L) → List KeptList
-  records_of m = all_seen list_loan m.list.lists.items
+  records_of m = all_seen list_loan m.list.items.items
 
   abbrev pub lists_state : Lists (TakenList X L) → List ListSlot → ListsState
   lists_state m slots = record { lists = records_of m; next = m.list.next; stock = slots }

@@ -18,7 +18,7 @@ impl Lists<TakenList> {
             (IsListStep (asks.GetCell asked) result) windows.now self.now }
     {
         let spot = self.spot(windows, asked.list)?;
-        let bytes = self.list.lists[spot.list].cells.cell(asked.cell)?;
+        let bytes = self.list.items[spot.list].kept.cells.cell(asked.cell)?;
         let mut data = Vec::new(self.alloc);
         data.extend_from_slice(bytes)?;
         Ok(ListReply::Data(data))
@@ -35,7 +35,10 @@ impl Lists<TakenList> {
             (IsListStep (asks.IsSelected asked) result) windows.now self.now }
     {
         let spot = self.spot(windows, asked.list)?;
-        let selected = self.list.lists[spot.list].cells.is_selected(asked.cell)?;
+        let selected = self.list.items[spot.list]
+            .kept
+            .cells
+            .is_selected(asked.cell)?;
         Ok(ListReply::Selected(selected))
     }
 
@@ -50,7 +53,10 @@ impl Lists<TakenList> {
             (IsListStep (asks.FirstSelected asked) result) windows.now self.now }
     {
         let spot = self.spot(windows, asked.list)?;
-        let found = self.list.lists[spot.list].cells.first_selected(asked.cell)?;
+        let found = self.list.items[spot.list]
+            .kept
+            .cells
+            .first_selected(asked.cell)?;
         Ok(ListReply::Cell(found))
     }
 
@@ -65,7 +71,7 @@ impl Lists<TakenList> {
             (IsListStep (asks.NextCell asked) result) windows.now self.now }
     {
         let spot = self.spot(windows, asked.cell.list)?;
-        let cells = &self.list.lists[spot.list].cells;
+        let cells = &self.list.items[spot.list].kept.cells;
         let found = cells.next_cell(asked.cell.cell, asked.across, asked.down)?;
         Ok(ListReply::Cell(found))
     }
@@ -81,7 +87,7 @@ impl Lists<TakenList> {
             (IsListStep (asks.Search asked.now) result) windows.now self.now }
     {
         let spot = self.spot(windows, asked.cell.list)?;
-        let cells = &self.list.lists[spot.list].cells;
+        let cells = &self.list.items[spot.list].kept.cells;
         let found = cells.search(asked.cell.cell, asked.text.as_slice())?;
         Ok(ListReply::Cell(found))
     }

@@ -48,10 +48,10 @@ impl Lists<TakenList> {
         ensures { (l : Named) → IsSpotOf ⟦<Taken as Defined>⟧.loan ⟦<TakenList as DefinedList>⟧.list_loan l windows.old self.now spot
             → LeavesLists ⟦<TakenList as DefinedList>⟧.list_loan ⟦<Taken as Defined>⟧.loan ⟦<TakenControl as DefinedControl>⟧.control_loan (IsWhereRight (AreBarsSet l)) windows.old controls.old self.now windows.new controls.new self.now }
     {
-        let list = &self.list.lists[spot.list];
-        let down = list.view.vertical_values(list.cells.rows());
-        set_bar(windows, controls, list.window, list.vertical, down);
-        let across = list.view.horizontal_values(list.cells.columns());
-        set_bar(windows, controls, list.window, list.horizontal, across);
+        let list = &self.list.items[spot.list];
+        let down = list.kept.view.vertical_values(list.kept.cells.rows());
+        set_bar(windows, controls, list.window, list.kept.vertical, down);
+        let across = list.kept.view.horizontal_values(list.kept.cells.columns());
+        set_bar(windows, controls, list.window, list.kept.horizontal, across);
     }
 }

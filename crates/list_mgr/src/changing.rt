@@ -48,7 +48,7 @@ impl Lists<TakenList> {
         ensures { (w : _) → IsWindowAt windows.now.windows.records.items spot.window w
             → IsItsLayer ⟦<TakenList as DefinedList>⟧.list_loan self.now spot w.layers.layers result }
     {
-        let serial = self.list.lists[spot.list].serial;
+        let serial = self.list.items[spot.list].serial;
         layer_of(&windows.list().at(spot.window).layers, serial).unwrap()
     }
 
@@ -65,7 +65,7 @@ impl Lists<TakenList> {
         ensures { MatchResult result (IsMark ⟦<TakenList as DefinedList>⟧.list_loan ⟦<Taken as Defined>⟧.loan windows.now self.now spot)
             (λ _. IsDrawing ⟦<TakenList as DefinedList>⟧.list_loan false self.now spot) }
     {
-        if self.list.lists[spot.list].drawing {
+        if self.list.items[spot.list].kept.drawing {
             return Ok(None);
         }
         let layer = self.layer(windows, spot);
@@ -118,13 +118,17 @@ impl Lists<TakenList> {
     {
         let spot = self.spot(windows, set.cell.list)?;
         let (cell, text) = (set.cell.cell, set.text.as_slice());
-        if let Some(refusal) = self.list.lists[spot.list].cells.set_refusal(cell, text) {
+        if let Some(refusal) = self.list.items[spot.list]
+            .kept
+            .cells
+            .set_refusal(cell, text)
+        {
             return Err(refusal);
         }
-        let changes = differ(self.list.lists[spot.list].cells.cell(cell)?, text);
-        let within = self.list.lists[spot.list].view.cell_rect(cell);
+        let changes = differ(self.list.items[spot.list].kept.cells.cell(cell)?, text);
+        let within = self.list.items[spot.list].kept.view.cell_rect(cell);
         let mark = self.mark(windows, spot)?;
-        self.list.lists[spot.list].cells.set_cell(cell, text)?;
+        self.list.items[spot.list].kept.cells.set_cell(cell, text)?;
         self.show(windows, spot, within, mark, changes);
         Ok(ListReply::Done)
     }
@@ -142,13 +146,20 @@ impl Lists<TakenList> {
     {
         let spot = self.spot(windows, added.cell.list)?;
         let (cell, text) = (added.cell.cell, added.text.as_slice());
-        if let Some(refusal) = self.list.lists[spot.list].cells.append_refusal(cell, text) {
+        if let Some(refusal) = self.list.items[spot.list]
+            .kept
+            .cells
+            .append_refusal(cell, text)
+        {
             return Err(refusal);
         }
         let changes = !text.is_empty();
-        let within = self.list.lists[spot.list].view.cell_rect(cell);
+        let within = self.list.items[spot.list].kept.view.cell_rect(cell);
         let mark = self.mark(windows, spot)?;
-        self.list.lists[spot.list].cells.add_to_cell(cell, text)?;
+        self.list.items[spot.list]
+            .kept
+            .cells
+            .add_to_cell(cell, text)?;
         self.show(windows, spot, within, mark, changes);
         Ok(ListReply::Done)
     }
@@ -165,13 +176,17 @@ impl Lists<TakenList> {
             (IsWhereRight (IsListStep (asks.ClearCell cleared) result)) windows.old self.old windows.new self.new }
     {
         let spot = self.spot(windows, cleared.list)?;
-        let changes = !self.list.lists[spot.list]
+        let changes = !self.list.items[spot.list]
+            .kept
             .cells
             .cell(cleared.cell)?
             .is_empty();
-        let within = self.list.lists[spot.list].view.cell_rect(cleared.cell);
+        let within = self.list.items[spot.list].kept.view.cell_rect(cleared.cell);
         let mark = self.mark(windows, spot)?;
-        self.list.lists[spot.list].cells.clear_cell(cleared.cell)?;
+        self.list.items[spot.list]
+            .kept
+            .cells
+            .clear_cell(cleared.cell)?;
         self.show(windows, spot, within, mark, changes);
         Ok(ListReply::Done)
     }
@@ -188,7 +203,7 @@ impl Lists<TakenList> {
             (IsListStep (asks.SetDrawing set) result) windows.now self.old windows.now self.new }
     {
         let spot = self.spot(windows, set.list)?;
-        self.list.set_drawing(spot.list, set.drawing);
+        self.list.at_mut(spot.list).drawing = set.drawing;
         Ok(ListReply::Done)
     }
 }

@@ -4,9 +4,9 @@ ghost use Rattle.std.specs.List.{position};
 ghost use Rattle.tb_geom.specs.Rects.{in_plane};
 ghost use Rattle.bit_blit.specs.Draws.{Draws};
 ghost use Rattle.draw_port.specs.Canvases.{canvas_holds, canvas_point, SameFrame};
-ghost use Rattle.control_list.specs.Seen.{all_seen as all_controls_seen};
-ghost use Rattle.list_records.specs.Lists.{has_serial};
-ghost use Rattle.list_records.specs.Seen.{all_seen};
+ghost use Rattle.control_mgr.specs.Seen.{all_seen as all_controls_seen};
+ghost use Rattle.window_items.specs.Items.{has_serial};
+ghost use Rattle.list_mgr.specs.Seen.{all_seen};
 ghost use Rattle.control_mgr.specs.ControlDesks.{controls_show};
 ghost use Rattle.control_mgr.specs.Settled.{AreSettled as AreControlsSettled};
 ghost use Rattle.list_mgr.specs.ListDesks.{list_bit, lists_show};
@@ -21,9 +21,9 @@ use list_paint::{DrawnList, paint_list};
 use window_paint::Showing;
 
 impl<D: DrawnList> Showing for Lists<D> {
-    ghost is_whole = { λ m. AreSettled (all_seen D.list_loan m.list.lists.items) };
+    ghost is_whole = { λ m. AreSettled (all_seen D.list_loan m.list.items.items) };
 
-    ghost shows = { λ m. lists_show (all_seen D.list_loan m.list.lists.items) };
+    ghost shows = { λ m. lists_show (all_seen D.list_loan m.list.items.items) };
 
     fn draw(&self, part: Part, canvas: &mut Canvas<'_>) {
         match part {
@@ -39,11 +39,11 @@ impl<D: DrawnList> Showing for Lists<D> {
 impl<D> Lists<D> {
     /// Where the list of this serial stands among all, if there is one.
     fn with_serial(&self, serial: u64) -> Option<usize>
-        ensures first { result ≡ position (has_serial serial) self.now.list.lists.items }
-        ensures within { IfSome result (λ at. at < length self.now.list.lists.items) }
+        ensures first { result ≡ position (has_serial serial) self.now.list.items.items }
+        ensures within { IfSome result (λ at. at < length self.now.list.items.items) }
     {
         self.list
-            .lists
+            .items
             .iter()
             .position(|list| list.serial == serial)
     }
@@ -52,18 +52,23 @@ impl<D> Lists<D> {
 impl<D: DrawnList> Lists<D> {
     /// Draws the list at this index on a canvas whose origin is the 0 0 of the list's window.
     fn draw_at(&self, at: usize, canvas: &mut Canvas<'_>)
-        requires at { at < length self.now.list.lists.items }
-        requires settled { AreSettled (all_seen D.list_loan self.now.list.lists.items) }
+        requires at { at < length self.now.list.items.items }
+        requires settled { AreSettled (all_seen D.list_loan self.now.list.items.items) }
         requires origin { in_plane canvas.old.origin ≡ true }
         ensures same_map { canvas.new.map.ghost_name ≡ canvas.old.map.ghost_name }
         ensures same_frame { SameFrame canvas.old canvas.new }
         ensures drawn { Draws (canvas_holds canvas.old)
             (λ p _. list_bit canvas.old.font.now
-            (slice_get (all_seen D.list_loan self.now.list.lists.items) at) (canvas_point canvas.old p))
+            (slice_get (all_seen D.list_loan self.now.list.items.items) at) (canvas_point canvas.old p))
             canvas.old.map.now canvas.new.map.now }
     {
-        let list = &self.list.lists[at];
-        paint_list(&list.definition, list.view, &list.cells, canvas);
+        let list = &self.list.items[at];
+        paint_list(
+            &list.kept.definition,
+            list.kept.view,
+            &list.kept.cells,
+            canvas,
+        );
     }
 }
 
@@ -75,11 +80,11 @@ pub struct Contents<'a, D, E> {
 }
 
 impl<'a, D: DrawnControl, E: DrawnList> Showing for Contents<'a, D, E> {
-    ghost is_whole = { λ m. AreControlsSettled (all_controls_seen D.control_loan m.controls.now.list.controls.items)
-        × AreSettled (all_seen E.list_loan m.lists.now.list.lists.items) };
+    ghost is_whole = { λ m. AreControlsSettled (all_controls_seen D.control_loan m.controls.now.list.items.items)
+        × AreSettled (all_seen E.list_loan m.lists.now.list.items.items) };
 
-    ghost shows = { λ m. controls_show (lists_show (all_seen E.list_loan m.lists.now.list.lists.items))
-        (all_controls_seen D.control_loan m.controls.now.list.controls.items) };
+    ghost shows = { λ m. controls_show (lists_show (all_seen E.list_loan m.lists.now.list.items.items))
+        (all_controls_seen D.control_loan m.controls.now.list.items.items) };
 
     fn draw(&self, part: Part, canvas: &mut Canvas<'_>) {
         match part {

@@ -21,10 +21,10 @@ use def_iface::{
 };
 use desk_call::{ControlOf, ListOf, ListReply};
 use layer_list::Layers;
-use list_records::ListRecords;
 use scan_region::Region;
 use std::alloc::AllocError;
 use tb_geom::Refusal;
+use window_items::Items;
 use window_mgr::WindowManager;
 
 /// Ends the use of a list's definition.
@@ -111,8 +111,8 @@ impl Lists<TakenList> {
         let spot = self.spot(windows, list)?;
         let layer = self.layer(windows, spot);
         let (at, window) = (spot.window, list.window);
-        let list = &self.list.lists[spot.list];
-        let (vertical, horizontal) = (list.vertical, list.horizontal);
+        let list = &self.list.items[spot.list];
+        let (vertical, horizontal) = (list.kept.vertical, list.kept.horizontal);
         let relaid = windows.list().at(at).layers.without(self.alloc, layer)?;
         let update = &windows.area(at).update;
         let relaying = windows.plan_layers(at, update, &relaid, None)?;
@@ -131,7 +131,7 @@ impl Lists<TakenList> {
         let two = plan_bar(controls, windows, at, window, horizontal, layers, update)?;
         let ended = self.list.remove(spot.list);
         windows.commit_layers(at, relaid.layers, relaying, None, &*self);
-        put_away(ended.definition, stock);
+        put_away(ended.kept.definition, stock);
         end_bar(controls, windows, window, vertical, one, bars);
         end_bar(controls, windows, window, horizontal, two, bars);
         Ok(ListReply::Done)
@@ -146,7 +146,7 @@ impl Lists<TakenList> {
             (lists_state ⟦<TakenList as DefinedList>⟧.list_loan self.new (⟦<ListStock as StockedLists>⟧.list_slots stock.new)) }
     {
         while let Some(list) = self.list.take_of(window) {
-            put_away(list.definition, stock);
+            put_away(list.kept.definition, stock);
         }
     }
 
@@ -158,10 +158,10 @@ impl Lists<TakenList> {
         ensures { AreAllListsClosed (records_of ⟦<TakenList as DefinedList>⟧.list_loan self) (⟦<ListStock as StockedLists>⟧.list_slots stock.old) (⟦<ListStock as StockedLists>⟧.list_slots stock.new) }
     {
         let Lists { list, .. } = self;
-        let ListRecords { lists, .. } = list;
-        let mut lists = lists;
+        let Items { items, .. } = list;
+        let mut lists = items;
         while let Some(list) = lists.pop() {
-            put_away(list.definition, stock);
+            put_away(list.kept.definition, stock);
         }
     }
 }

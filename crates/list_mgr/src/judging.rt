@@ -3,7 +3,7 @@ ghost use Rattle.std.specs.Prelude.{◌≡◌, None, Some, IfOk, IfErr, MatchRes
 ghost use Rattle.tb_geom.specs.Refusals.{first_refusal};
 ghost use Rattle.def_iface.specs.ControlMeaning.{is_control_size};
 ghost use Rattle.list_cells.specs.Clicks.{flags_number};
-ghost use Rattle.list_records.specs.Lists.{serial_after};
+ghost use Rattle.window_items.specs.Items.{serial_after};
 ghost use Rattle.list_view.specs.Views.{IsView};
 ghost use Rattle.vis_update.specs.Records.{WindowRecord};
 ghost use Rattle.window_mgr.specs.Kept.{IsKept};

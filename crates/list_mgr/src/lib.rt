@@ -22,6 +22,7 @@ mod ending;
 mod judging;
 mod lines;
 mod lines_from;
+mod list_record;
 mod lists;
 mod making;
 mod new_bars;
@@ -33,4 +34,5 @@ mod spots;
 
 pub use drawing::Contents;
 pub use judging::{MOST_LISTS, form_refusal};
+pub use list_record::ListRecord;
 pub use lists::Lists;

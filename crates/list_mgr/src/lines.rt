@@ -1,7 +1,7 @@
 //! Rows and columns of a list, and how far it is scrolled; its scroll bars with them.
 ghost use Rattle.std.specs.Prelude.{◌≡◌, ◌<◌, length, slice_get, IfSome};
 ghost use Rattle.desk_call.specs.declared.list.ListCall.TheVariants as asks;
-ghost use Rattle.list_records.specs.Lists.{edit_at};
+ghost use Rattle.window_items.specs.Items.{edit_at};
 ghost use Rattle.window_mgr.specs.Kept.{IsKept};
 ghost use Rattle.control_mgr.specs.WholeControls.{AreBeside as AreControlsBeside};
 ghost use Rattle.list_mgr.specs.Changing.{IsMark, IsSameOrNot};
@@ -32,15 +32,20 @@ fn differ(old: ListView, new: ListView) -> bool
 impl Lists<TakenList> {
     /// Scrolls the list that stands here, as far as there are cells to be seen, and says whether it is scrolled otherwise then.
     fn scroll_by(&mut self, spot: Spot, columns: i32, rows: i32) -> bool
-        requires { spot.list < length self.old.list.lists.items }
+        requires { spot.list < length self.old.list.items.items }
         ensures lists { records_of ⟦<TakenList as DefinedList>⟧.list_loan self.new ≡ edit_at (with_scroll columns rows) spot.list (records_of ⟦<TakenList as DefinedList>⟧.list_loan self.old) }
         ensures next { self.new.list.next ≡ self.old.list.next }
         ensures changes { IfSome (slice_get (records_of ⟦<TakenList as DefinedList>⟧.list_loan self.old) spot.list) (λ x. IsSameOrNot result (with_scroll columns rows x) x) }
     {
-        let list = &self.list.lists[spot.list];
-        let old = list.view;
-        let new = old.scrolled(list.cells.columns(), list.cells.rows(), columns, rows);
-        self.list.set_view(spot.list, new);
+        let list = &self.list.items[spot.list];
+        let old = list.kept.view;
+        let new = old.scrolled(
+            list.kept.cells.columns(),
+            list.kept.cells.rows(),
+            columns,
+            rows,
+        );
+        self.list.at_mut(spot.list).view = new;
         differ(old, new)
     }
 
@@ -81,15 +86,17 @@ impl Lists<TakenList> {
             (IsWhereRight (IsListStep (asks.AddRows lines) result)) windows.old controls.old self.old windows.new controls.new self.new }
     {
         let spot = self.spot(windows, lines.list)?;
-        if let Some(refusal) = self.list.lists[spot.list]
+        if let Some(refusal) = self.list.items[spot.list]
+            .kept
             .cells
             .add_rows_refusal(lines.count, lines.at)
         {
             return Err(refusal);
         }
-        let view = self.list.lists[spot.list].view;
+        let view = self.list.items[spot.list].kept.view;
         let mark = self.mark(windows, spot)?;
-        let first = self.list.lists[spot.list]
+        let first = self.list.items[spot.list]
+            .kept
             .cells
             .add_rows(lines.count, lines.at)?;
         let within = rows_from(view, line_number(first), false);
@@ -111,15 +118,17 @@ impl Lists<TakenList> {
             (IsWhereRight (IsListStep (asks.AddColumns lines) result)) windows.old controls.old self.old windows.new controls.new self.new }
     {
         let spot = self.spot(windows, lines.list)?;
-        if let Some(refusal) = self.list.lists[spot.list]
+        if let Some(refusal) = self.list.items[spot.list]
+            .kept
             .cells
             .add_columns_refusal(lines.count, lines.at)
         {
             return Err(refusal);
         }
-        let view = self.list.lists[spot.list].view;
+        let view = self.list.items[spot.list].kept.view;
         let mark = self.mark(windows, spot)?;
-        let first = self.list.lists[spot.list]
+        let first = self.list.items[spot.list]
+            .kept
             .cells
             .add_columns(lines.count, lines.at)?;
         let within = columns_from(view, line_number(first), false);
@@ -141,15 +150,17 @@ impl Lists<TakenList> {
             (IsWhereRight (IsListStep (asks.DeleteRows lines) result)) windows.old controls.old self.old windows.new controls.new self.new }
     {
         let spot = self.spot(windows, lines.list)?;
-        if let Some(refusal) = self.list.lists[spot.list]
+        if let Some(refusal) = self.list.items[spot.list]
+            .kept
             .cells
             .delete_rows_refusal(lines.count, lines.at)
         {
             return Err(refusal);
         }
-        let view = self.list.lists[spot.list].view;
+        let view = self.list.items[spot.list].kept.view;
         let mark = self.mark(windows, spot)?;
-        self.list.lists[spot.list]
+        self.list.items[spot.list]
+            .kept
             .cells
             .delete_rows(lines.count, lines.at)?;
         let scrolled = self.scroll_by(spot, 0, 0);
@@ -172,15 +183,17 @@ impl Lists<TakenList> {
             (IsWhereRight (IsListStep (asks.DeleteColumns lines) result)) windows.old controls.old self.old windows.new controls.new self.new }
     {
         let spot = self.spot(windows, lines.list)?;
-        if let Some(refusal) = self.list.lists[spot.list]
+        if let Some(refusal) = self.list.items[spot.list]
+            .kept
             .cells
             .delete_columns_refusal(lines.count, lines.at)
         {
             return Err(refusal);
         }
-        let view = self.list.lists[spot.list].view;
+        let view = self.list.items[spot.list].kept.view;
         let mark = self.mark(windows, spot)?;
-        self.list.lists[spot.list]
+        self.list.items[spot.list]
+            .kept
             .cells
             .delete_columns(lines.count, lines.at)?;
         let scrolled = self.scroll_by(spot, 0, 0);
@@ -203,7 +216,7 @@ impl Lists<TakenList> {
             (IsWhereRight (IsListStep (asks.Scroll scrolled) result)) windows.old controls.old self.old windows.new controls.new self.new }
     {
         let spot = self.spot(windows, scrolled.list)?;
-        let within = self.list.lists[spot.list].view.rect();
+        let within = self.list.items[spot.list].kept.view.rect();
         let mark = self.mark(windows, spot)?;
         let changes = self.scroll_by(spot, scrolled.columns, scrolled.rows);
         self.show_with_bars(windows, controls, spot, within, mark, changes);

@@ -102,7 +102,7 @@ impl Lists<TakenList> {
         ensures same { AreRoomier self.old self.new }
         ensures planned { IfOk result (IsReadyToPut ⟦<Taken as Defined>⟧.loan new.now ticket.now windows.now self.new) }
     {
-        self.list.reserve()?;
+        self.list.reserve(1)?;
         let cells = ListCells::new(self.alloc, new.columns, new.rows)?;
         let layers = &windows.list().at(ticket.window).layers;
         let update = &windows.area(ticket.window).update;
@@ -131,7 +131,7 @@ impl Lists<TakenList> {
             new.now ticket.now (⟦<TakenControl as DefinedControl>⟧.control_loan taken.now).definition windows.now controls.new self.new) }
     {
         controls.reserve(1)?;
-        self.list.reserve()?;
+        self.list.reserve(1)?;
         let cells = ListCells::new(self.alloc, new.columns, new.rows)?;
         let bar = wanted_bar(new, ticket.view, &cells);
         let given = bar.ticket(ticket.window, ticket.bar.unwrap(), ticket.controls);
@@ -178,7 +178,7 @@ impl Lists<TakenList> {
             windows.now controls.new self.new) }
     {
         controls.reserve(2)?;
-        self.list.reserve()?;
+        self.list.reserve(1)?;
         let cells = ListCells::new(self.alloc, new.columns, new.rows)?;
         let serial = ticket.bar.unwrap();
         let layers = &windows.list().at(ticket.window).layers;

@@ -10,13 +10,13 @@ ghost use Rattle.list_mgr.specs.Making.{IsListTicket};
 ghost use Rattle.list_mgr.specs.Putting.{AreBarsTaken, AreRoomier, IsBarTaken, IsOneBarTicket, IsReadyToPut, IsTwoBarTicket, LeavesBeside};
 ghost use Rattle.list_mgr.specs.WholeLists.{AreBeside, LeavesOver};
 
-use crate::Lists;
 use crate::judging::ListTicket;
 use crate::planning::Planned;
+use crate::{ListRecord, Lists};
 use control_mgr::Controls;
 use def_iface::{Defined, DefinedControl, DefinedList, Stage, Taken, TakenControl, TakenList};
 use desk_call::NewList;
-use list_records::ListRecord;
+use window_items::Item;
 use window_mgr::WindowManager;
 
 /// The serials of a list's scroll bars, of those that it has.
@@ -80,16 +80,18 @@ impl Lists<TakenList> {
         let mut taken = taken;
         let Planned { cells, laid } = planned;
         taken.begin(new.cell_size, !ticket.flags.no_nil_hilite);
-        self.list.push(ListRecord {
+        self.list.push(Item {
             serial: ticket.serial,
             window: new.window,
-            view: ticket.view,
-            cells,
-            flags: ticket.flags,
-            drawing: true,
-            vertical: bars.vertical,
-            horizontal: bars.horizontal,
-            definition: taken,
+            kept: ListRecord {
+                view: ticket.view,
+                cells,
+                flags: ticket.flags,
+                drawing: true,
+                vertical: bars.vertical,
+                horizontal: bars.horizontal,
+                definition: taken,
+            },
         });
         windows.commit_layers(
             ticket.window,

@@ -5,43 +5,43 @@ ghost use Rattle.window_mgr.specs.Kept.{IsKept};
 ghost use Rattle.list_mgr.specs.ListSteps.{IsListStep};
 ghost use Rattle.list_cells.specs.Selections.{selected_by};
 ghost use Rattle.list_paint.specs.Shown.{is_turned};
-ghost use Rattle.list_records.specs.Seen.{seen};
+ghost use Rattle.list_mgr.specs.Seen.{seen};
 ghost use Rattle.list_mgr.specs.Changing.{IsMark, IsToggledOrMarked};
 ghost use Rattle.list_mgr.specs.Spots.{IsSpot};
 ghost use Rattle.list_mgr.specs.WholeLists.{AreBeside, IsChangedOver, IsSettledList, records_of};
 
-use crate::Lists;
 use crate::spots::Spot;
+use crate::{ListRecord, Lists};
 use def_iface::{Defined, DefinedList, Taken, TakenList};
 use desk_call::{ListClick, ListReply, SelectCell};
 use draw_port::Canvas;
 use list_cells::{Cell, ClickKeys, Selecting};
 use list_paint::{DrawnList, toggle_cells};
-use list_records::ListRecord;
 use scan_region::Region;
 use tb_geom::Refusal;
+use window_items::Item;
 use window_mgr::WindowManager;
 use window_paint::Toggling;
 
 /// A list, and what a call is about to make of its selection.
 #[derive(Drop)]
 struct Toggled<'a, D> {
-    list: &'a ListRecord<D>,
+    list: &'a Item<ListRecord<D>>,
     selecting: Selecting,
 }
 
 impl<'a, D: DrawnList> Toggling for Toggled<'a, D> {
     ghost is_ready = { λ t. IsSettledList (seen D.list_loan t.list.now) };
 
-    ghost toggles = { λ t font. is_turned font (D.list_loan t.list.now.definition).definition t.list.now.view t.list.now.cells
-        (selected_by t.selecting t.list.now.cells) };
+    ghost toggles = { λ t font. is_turned font (D.list_loan t.list.now.kept.definition).definition t.list.now.kept.view t.list.now.kept.cells
+        (selected_by t.selecting t.list.now.kept.cells) };
 
     fn invert(&self, canvas: &mut Canvas<'_>) {
         let list = self.list;
         toggle_cells(
-            &list.definition,
-            list.view,
-            &list.cells,
+            &list.kept.definition,
+            list.kept.view,
+            &list.kept.cells,
             self.selecting,
             canvas,
         );
@@ -64,14 +64,14 @@ impl Lists<TakenList> {
         requires mark { IsMark ⟦<TakenList as DefinedList>⟧.list_loan ⟦<Taken as Defined>⟧.loan windows.old self.now spot mark }
         ensures { IsToggledOrMarked ⟦<TakenList as DefinedList>⟧.list_loan ⟦<Taken as Defined>⟧.loan mark selecting spot self.now windows.old windows.new }
     {
-        let list = &self.list.lists[spot.list];
+        let list = &self.list.items[spot.list];
         match mark {
             None => {
                 let layer = self.layer(windows, spot);
                 windows.toggle_layer(spot.window, layer, &Toggled { list, selecting });
             }
             Some(update) => {
-                if list.cells.changes_by(selecting) {
+                if list.kept.cells.changes_by(selecting) {
                     windows.set_update(spot.window, update);
                 }
             }
@@ -90,9 +90,10 @@ impl Lists<TakenList> {
             (IsListStep (asks.Select chosen) result) windows.old self.old windows.new self.new }
     {
         let spot = self.spot(windows, chosen.cell.list)?;
-        let list = &self.list.lists[spot.list];
-        let alone = list.flags.only_one;
+        let list = &self.list.items[spot.list];
+        let alone = list.kept.flags.only_one;
         let Some(selecting) = list
+            .kept
             .cells
             .choosing(chosen.cell.cell, chosen.selected, alone)
         else {
@@ -100,7 +101,8 @@ impl Lists<TakenList> {
         };
         let mark = self.mark(windows, spot)?;
         self.toggle(windows, spot, mark, selecting);
-        self.list.lists[spot.list]
+        self.list.items[spot.list]
+            .kept
             .cells
             .select(chosen.cell.cell, chosen.selected, alone)?;
         Ok(ListReply::Done)
@@ -125,18 +127,23 @@ impl Lists<TakenList> {
             return Err(Refusal::OutOfRange);
         };
         let keys = ClickKeys::of_modifiers(modifiers);
-        let list = &self.list.lists[spot.list];
-        let Some(cell) = list
-            .view
-            .cell_at(clicked.point, list.cells.columns(), list.cells.rows())
+        let list = &self.list.items[spot.list];
+        let Some(cell) = list.kept.view.cell_at(
+            clicked.point,
+            list.kept.cells.columns(),
+            list.kept.cells.rows(),
+        )
         else {
             return Ok(ListReply::Clicked(false));
         };
-        let flags = list.flags;
-        let selecting = list.cells.clicking(cell, flags, keys).unwrap();
+        let flags = list.kept.flags;
+        let selecting = list.kept.cells.clicking(cell, flags, keys).unwrap();
         let mark = self.mark(windows, spot)?;
         self.toggle(windows, spot, mark, selecting);
-        let _clicked = self.list.lists[spot.list].cells.click(cell, flags, keys);
+        let _clicked = self.list.items[spot.list]
+            .kept
+            .cells
+            .click(cell, flags, keys);
         Ok(ListReply::Clicked(true))
     }
 }

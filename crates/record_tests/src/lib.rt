@@ -3,8 +3,8 @@
 //! the List Manager. Expected values are tables written by hand, and never come from the libraries.
 //!
 //! `menus` tests `menu_record`, `menu_lists` tests `menu_list`, and `outlines` the outlines of `menu_overlay`. `controls` tests
-//! `control_values`, and `control_lists` tests `control_list`. `cells` tests `list_cells`, `views` tests `list_view`, and `records`
-//! tests `list_records`.
+//! `control_values`, `cells` tests `list_cells`, and `views` tests `list_view`. `items` tests `window_items`, in which the controls
+//! and the lists of windows lie.
 #![tactic(auto)]
 
 /// A cell, by its column and its row.
@@ -21,16 +21,14 @@ macro_rules! cell {
 #[cfg(test)]
 mod cells;
 #[cfg(test)]
-mod control_lists;
-#[cfg(test)]
 mod controls;
+#[cfg(test)]
+mod items;
 #[cfg(test)]
 mod menu_lists;
 #[cfg(test)]
 mod menus;
 #[cfg(test)]
 mod outlines;
-#[cfg(test)]
-mod records;
 #[cfg(test)]
 mod views;

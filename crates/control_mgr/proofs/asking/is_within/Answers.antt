@@ -8,4 +8,4 @@ use Rattle.control_mgr.proofs.asking.is_within.Goals as goal
 pub returns : goal.returns
 returns g c =
     c.contains.ensures
-    ∙ ap₂ rect_holds (widened_is c.args.margin c.from-margin.result c.args.control.now.size c.ranges.margin.fits (and_parts _ _ c.requires.settled.fits).0 c.from-margin.ensures) c.local.ensures
+    ∙ ap₂ rect_holds (widened_is c.args.margin c.from-margin.result c.args.control.now.kept.size c.ranges.margin.fits (and_parts _ _ c.requires.settled.fits).0 c.from-margin.ensures) c.local.ensures

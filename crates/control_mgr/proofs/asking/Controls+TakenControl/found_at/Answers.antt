@@ -44,7 +44,7 @@ returns-in_err-there-in-Control g c =
 
 pub found_in-requires-clause-settled : goal.found_in-requires-clause-settled
 found_in-requires-clause-settled g c =
-    settled_at (control.control_loan-value g.dyn-1).it c.args.self.now.list.controls.items c.in_ok-there-in-Control.there c.index.result.now
+    settled_at (control.control_loan-value g.dyn-1).it c.args.self.now.list.items.items c.in_ok-there-in-Control.there c.index.result.now
     c.in_ok-there-in-Control.ensures.within c.index.ensures c.requires.settled
 
 pub returns-in_ok-there-in-Control : goal.returns-in_ok-there-in-Control

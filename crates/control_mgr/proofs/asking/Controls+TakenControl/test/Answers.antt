@@ -6,7 +6,7 @@ use Rattle.control_mgr.proofs.asking.Controls+TakenControl.test.Goals as goal
 
 pub part_tested-requires-clause-settled : goal.part_tested-requires-clause-settled
 part_tested-requires-clause-settled g c =
-    settled_at (control.control_loan-value g.dyn-1).it c.args.self.now.list.controls.items c.in_ok-spot.spot.control c.index-control.result.now
+    settled_at (control.control_loan-value g.dyn-1).it c.args.self.now.list.items.items c.in_ok-spot.spot.control c.index-control.result.now
     c.in_ok-spot.ensures.low c.index-control.ensures c.requires.beside.whole.settled
 
 pub returns : goal.returns

@@ -9,27 +9,27 @@ loop-control-init g c = leaving_begins c.args.window _ c.requires.live c.require
 pub put_away-requires-clause-live : goal.put_away-requires-clause-live
 put_away-requires-clause-live g c =
     youngest_is_live c.args.window _ _ _ c.loop-control.invariant
-    (youngest_seen (control.control_loan-value g.dyn-1).it c.args.window c.loop-control.self.list.controls.items c.in-Some.control c.in-Some.ensures.value)
+    (youngest_seen (control.control_loan-value g.dyn-1).it c.args.window c.loop-control.self.list.items.items c.in-Some.control c.in-Some.ensures.value)
 
 pub put_away-requires-clause-left : goal.put_away-requires-clause-left
 put_away-requires-clause-left g c =
     youngest_is_left c.args.window _ _ _ c.loop-control.invariant
-    (youngest_seen (control.control_loan-value g.dyn-1).it c.args.window c.loop-control.self.list.controls.items c.in-Some.control c.in-Some.ensures.value)
+    (youngest_seen (control.control_loan-value g.dyn-1).it c.args.window c.loop-control.self.list.items.items c.in-Some.control c.in-Some.ensures.value)
 
 pub loop-control-smaller : goal.loop-control-smaller
 loop-control-smaller g c =
-    fewer (control.control_loan-value g.dyn-1).it c.args.window c.loop-control.self.list.controls.items c.in-Some.control c.take_of.new.self.controls.items c.in-Some.ensures.value c.in-Some.ensures.controls
+    fewer (control.control_loan-value g.dyn-1).it c.args.window c.loop-control.self.list.items.items c.in-Some.control c.take_of.new.self.items.items c.in-Some.ensures.value c.in-Some.ensures.items
 
 pub loop-control-preserved : goal.loop-control-preserved
 loop-control-preserved g c =
     let loan = (control.control_loan-value g.dyn-1).it in
-    let items = c.loop-control.self.list.controls.items in
+    let items = c.loop-control.self.list.items.items in
     leaving_goes_on c.args.window _ _ _ c.loop-control.invariant (youngest_seen loan c.args.window items c.in-Some.control c.in-Some.ensures.value)
-    _ (rest_seen loan c.args.window items c.take_of.new.self.controls.items c.in-Some.ensures.controls) c.in-Some.ensures.next c.put_away.ensures
+    _ (rest_seen loan c.args.window items c.take_of.new.self.items.items c.in-Some.ensures.items) c.in-Some.ensures.next c.put_away.ensures
 
 pub returns : goal.returns
 returns g c =
     let loan = (control.control_loan-value g.dyn-1).it in
-    let items = c.loop-control.self.list.controls.items in
+    let items = c.loop-control.self.list.items.items in
     all_left c.args.window _ _ _ c.loop-control.invariant (none_seen loan c.args.window items c.in_default.ensures.value)
-    (rest_seen loan c.args.window items c.take_of.new.self.controls.items c.in_default.ensures.controls) c.in_default.ensures.next refl
+    (rest_seen loan c.args.window items c.take_of.new.self.items.items c.in_default.ensures.items) c.in_default.ensures.next refl

@@ -1,6 +1,6 @@
 use Rattle.def_iface.specs.contracts.taken_control.TakenControlDefinedControl.TheImpl as control
 use Rattle.def_iface.specs.contracts.control_stock.ControlStockStockedControls.TheImpl as stock
-use Rattle.control_list.specs.Lists.{count_of}
+use Rattle.window_items.specs.Items.{count_of}
 use Rattle.control_mgr.specs.WholeControls.{controls_state}
 use Rattle.control_mgr.proofs.Ended.{IsBeingLeft}
 use Rattle.control_mgr.proofs.closing.Controls+TakenControl.end_of.Given as goal
@@ -12,4 +12,4 @@ invariant-loop-control g l =
     IsBeingLeft l.fn.window (controls_state loan l.fn.self (slots l.fn.stock)) (controls_state loan l.self (slots l.stock))
 
 abbrev pub decreases-loop-control : goal.decreases-loop-control
-decreases-loop-control g l = count_of l.window l.self.list.controls.items
+decreases-loop-control g l = count_of l.window l.self.list.items.items

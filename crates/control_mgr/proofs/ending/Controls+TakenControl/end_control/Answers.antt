@@ -15,7 +15,7 @@ commit_layers-requires-clause-planned g c part is =
 
 pub commit_layers-requires-clause-whole : goal.commit_layers-requires-clause-whole
 commit_layers-requires-clause-whole g c =
-    ending.settled_left (control.control_loan-value g.dyn-1).it c.args.self.now c.unwrap-at.result _ c.remove-ended.ensures.controls c.requires.whole.settled
+    ending.settled_left (control.control_loan-value g.dyn-1).it c.args.self.now c.unwrap-at.result _ c.remove-ended.ensures.items c.requires.whole.settled
 
 pub put_away-requires-clause-live : goal.put_away-requires-clause-live
 put_away-requires-clause-live g c =
@@ -34,4 +34,4 @@ returns-clause-step g c =
     (spot_at _ control_loan c.args.control c.args.windows.now c.args.self.now c.args.ending c.requires.ending c.unwrap-at.result at) c.requires.kept _ refl c.args.ending.layers
     (layers_at _ control_loan c.args.control c.args.windows.now c.args.self.now c.args.ending c.requires.ending c.unwrap-at.result at)
     c.commit_layers.new.self (record { alloc = c.args.self.now.alloc; list = c.remove-ended.new.self }) c.remove-ended.result
-    c.remove-ended.ensures.value c.remove-ended.ensures.controls c.remove-ended.ensures.next _ _ c.put_away.ensures c.commit_layers.ensures.set
+    c.remove-ended.ensures.value c.remove-ended.ensures.items c.remove-ended.ensures.next _ _ c.put_away.ensures c.commit_layers.ensures.set

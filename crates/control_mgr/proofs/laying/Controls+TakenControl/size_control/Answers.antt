@@ -1,5 +1,5 @@
 use Rattle.std.proofs.Common.{refl, ◌∙◌}
-use Rattle.control_list.specs.Lists.{with_size}
+use Rattle.control_mgr.specs.Fields.{with_size}
 use Rattle.desk_call.specs.declared.control.ControlCall.TheVariants as asks
 use Rattle.control_mgr.proofs.Moves.{size_judged, laid_step, size_agrees}
 use Rattle.control_mgr.proofs.Places.{read_is, there_is}

@@ -2,11 +2,12 @@ use Rattle.std.proofs.Common.{rules, ◌≡◌, ◌<◌, ◌≤◌, length, true
 use Rattle.std.proofs.lemmas.Int.{to_z-of_z}
 use Rattle.control_mgr.specs.ControlRefusals.{is_setting}
 use Rattle.def_iface.specs.contracts.taken_control.TakenControlDefinedControl.TheImpl as control
-use Rattle.control_list.proofs.SeenLemmas.{count_of-seen}
+use Rattle.window_items.proofs.SeenLemmas.{count_of-seen}
 use Rattle.control_mgr.specs.Laying.{definition_if}
 use Rattle.control_mgr.proofs.Judging.{bad_setting, is_given, long_title, many, no_serial, out_of_place, placed_where, refused_so}
 use Rattle.control_mgr.proofs.making.Controls+TakenControl.judge.Goals.{in_default-next-via-in-Some-next+else-layer-lt-MOST_CONTROLS, in_default-next-via-in_default-next}
 use Rattle.control_mgr.proofs.making.Controls+TakenControl.judge.Goals as goal
+use Rattle.control_mgr.specs.Seen.{kept_seen}
 
 pub returns-then-not-may_be_placed : goal.returns-then-not-may_be_placed
 returns-then-not-may_be_placed g c =
@@ -63,7 +64,7 @@ returns-in-Some-next g c =
         serial = c.in-Some-next.is;
         values = made;
         title = c.in_ok-title.ensures.0 ∙ c.as_slice.ensures;
-        layer = c.count-layer.ensures ∙ sym (count_of-seen control_loan c.args.new.now.window c.args.self.now.list.controls.items);
+        layer = c.count-layer.ensures ∙ sym (count_of-seen (kept_seen control_loan) c.args.new.now.window c.args.self.now.list.items.items);
         few = search rules;
       },
     )

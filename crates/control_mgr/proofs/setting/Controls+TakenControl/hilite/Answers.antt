@@ -4,7 +4,7 @@ use Rattle.std.proofs.lemmas.Result.{err_from_is_err_and}
 use Rattle.std.proofs.lemmas.Int.{to_z-of_z}
 use Rattle.control_values.specs.Highlights.{is_highlight}
 use Rattle.tb_geom.specs.declared.refusal.Refusal.TheVariants.{OutOfRange}
-use Rattle.control_list.specs.Lists.{with_highlight}
+use Rattle.control_mgr.specs.Fields.{with_highlight}
 use Rattle.desk_call.specs.declared.control.ControlCall.TheVariants as asks
 use Rattle.control_mgr.proofs.Sets.{highlight_agrees, number_fits, set_done, state_read}
 use Rattle.control_mgr.proofs.Steps.{named_missing, refused_where}

@@ -1,7 +1,7 @@
 use Rattle.std.proofs.Common.{◌≡◌, false, ◌≤◌, length, ◌∙◌, ap, refl, subst}
 use Rattle.std.specs.Prelude.{nat_lt}
 use Rattle.std.proofs.lemmas.Bool.{le-ltb}
-use Rattle.control_list.specs.Lists.{with_title}
+use Rattle.control_mgr.specs.Fields.{with_title}
 use Rattle.desk_call.specs.declared.control.ControlCall.TheVariants as asks
 use Rattle.control_mgr.proofs.Sets.{set_done, state_read, title_agrees, title_fits}
 use Rattle.control_mgr.proofs.setting.Controls+TakenControl.set_title.Goals as goal

@@ -3,8 +3,8 @@ use Rattle.std.specs.Prelude.{is_none}
 use Rattle.std.proofs.lemmas.Bool.{eq-eqb}
 use Rattle.tb_geom.specs.declared.refusal.Refusal.TheVariants.{NoSuchControl, NoSuchWindow}
 use Rattle.tb_geom.specs.Refusals.{first_refusal}
-use Rattle.control_list.specs.Lists.{control_index}
-use Rattle.control_list.proofs.SeenLemmas.{control_index-seen}
+use Rattle.window_items.specs.Items.{item_index}
+use Rattle.window_items.proofs.SeenLemmas.{item_index-seen}
 use Rattle.def_iface.specs.declared.taken.Taken.{Taken}
 use Rattle.def_iface.specs.declared.taken_control.TakenControl.{TakenControl}
 use Rattle.def_iface.specs.ControlMeaning.{ControlLoan}
@@ -26,6 +26,7 @@ use Rattle.control_mgr.specs.WholeControls.{records_of}
 use Rattle.def_iface.specs.contracts.taken.TakenDefined.TheImpl as window
 use Rattle.def_iface.specs.contracts.taken_control.TakenControlDefinedControl.TheImpl as control
 use Rattle.control_mgr.proofs.spots.Controls+TakenControl.spot.Goals as goal
+use Rattle.control_mgr.specs.Seen.{kept_seen}
 
 module _ {V : Type 0} {H : V → Type 0} (loan : Taken V H → Loan) where
   -- a window that stands somewhere is not missing
@@ -39,11 +40,11 @@ module _ {V : Type 0} {H : V → Type 0} (loan : Taken V H → Loan) where
       by_test false rest = rest
 
   module _ {W : Type 0} {K : W → Type 0} (control_loan : TakenControl W K → ControlLoan) (c : ControlOf) (t : WindowManager V H) (m : Controls (TakenControl W K)) where
-    seen_there : (o : Option ℕ) → o ≡ control_index c.window c.control m.list.controls.items → index_of c (records_of control_loan m) ≡ o
-    seen_there o found = control_index-seen control_loan c.window c.control m.list.controls.items ∙ sym found
+    seen_there : (o : Option ℕ) → o ≡ item_index c.window c.control m.list.items.items → index_of c (records_of control_loan m) ≡ o
+    seen_there o found = item_index-seen (kept_seen control_loan) c.window c.control m.list.items.items ∙ sym found
 
     -- both were found
-    spot_of : (s : Spot) → StandsAt t.windows.records.items c.window s.window → Some s.control ≡ control_index c.window c.control m.list.controls.items → s.control < length m.list.controls.items
+    spot_of : (s : Spot) → StandsAt t.windows.records.items c.window s.window → Some s.control ≡ item_index c.window c.control m.list.items.items → s.control < length m.list.items.items
         → IsSpotOf loan control_loan c t m s
     spot_of s window found low = record {
       window = window;
@@ -53,7 +54,7 @@ module _ {V : Type 0} {H : V → Type 0} (loan : Taken V H → Loan) where
     }
 
     -- the window has no such control
-    no_control : (i : ℕ) → StandsAt t.windows.records.items c.window i → None ≡ control_index c.window c.control m.list.controls.items
+    no_control : (i : ℕ) → StandsAt t.windows.records.items c.window i → None ≡ item_index c.window c.control m.list.items.items
         → first_refusal (missing_refusals c (desk_of loan t []) (records_of control_loan m)) ≡ Some NoSuchControl
     no_control i window found =
         (λ j. if stands_there t.windows.records.items c.window i window j then Some NoSuchWindow else first_refusal ((is_none (index_of c (records_of control_loan m)), NoSuchControl) ∷ []))

@@ -31,4 +31,4 @@ returns g c =
     let judged = simp to_z-of_z at c.set_value.ensures.in_range in
     let fits : is_in_range c.from.result ≡ true = sym judged ∙ unwrap-requires g c.before in
     dragged_there _ c.args.self.now c.args.at x c.requires.at c.index-control.ensures c.args.tracked c.args.point c.set_value.new.self
-    (chosen (is_in_range c.from.result) _ _ c.set_value.new.self setting fits ∙ ap (settled x.values.minimum x.values.maximum) (search (from, c.thumb_value.ensures, c.local-from.ensures, c.local-to.ensures)))
+    (chosen (is_in_range c.from.result) _ _ c.set_value.new.self setting fits ∙ ap (settled x.kept.values.minimum x.kept.values.maximum) (search (from, c.thumb_value.ensures, c.local-from.ensures, c.local-to.ensures)))

@@ -68,12 +68,12 @@ returns-in-Some-clause-economy g c informed = economical_untouched _ c.args.call
 
 pub forget-requires-clause-live : goal.forget-requires-clause-live
 forget-requires-clause-live g c =
-    All-weaker IsSettledControl (λ (k : ControlRecord). k.definition.definition.stage ≡ Live) (λ k settled. settled.live)
+    All-weaker IsSettledControl (λ (k : ControlRecord). k.kept.definition.definition.stage ≡ Live) (λ k settled. settled.live)
     (records_of (taken_control.control_loan-value g.dyn-2).it c.args.self.now.controls) c.requires.whole.managers.controls.settled
 
 pub forget-requires-clause-live_lists : goal.forget-requires-clause-live_lists
 forget-requires-clause-live_lists g c =
-    All-weaker IsSettledList (λ (k : KeptList). k.definition.definition.stage ≡ Live) (λ k settled. settled.live)
+    All-weaker IsSettledList (λ (k : KeptList). k.kept.definition.definition.stage ≡ Live) (λ k settled. settled.live)
     (lists.records_of (taken_list.list_loan-value g.dyn-4).it c.args.self.now.lists) c.requires.whole.managers.lists.settled
 
 pub returns-in-Ok-clause-step : goal.returns-in-Ok-clause-step

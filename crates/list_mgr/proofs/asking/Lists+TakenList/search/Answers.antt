@@ -7,7 +7,7 @@ use Rattle.list_mgr.proofs.asking.Lists+TakenList.search.Goals as goal
 
 pub returns : goal.returns
 returns g c =
-    let cells = c.index.result.now.cells in
+    let cells = c.index.result.now.kept.cells in
     let from = c.args.asked.now.cell.cell in
     search_told _ _ c.args.windows.now c.args.self.now c.args.asked.now c.in_ok-spot.spot c.index.result.now c.in_ok-spot.ensures c.index.ensures
     (subst (λ (x : List ℕ). first_refusal (search_refusals cells from (length x)) ≡ None) c.as_slice.ensures c.in_ok-found.ensures.allowed) c.in_ok-found.found

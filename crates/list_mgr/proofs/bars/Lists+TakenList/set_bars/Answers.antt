@@ -3,11 +3,11 @@ use Rattle.list_mgr.proofs.bars.Lists+TakenList.set_bars.Goals as goal
 
 pub set_bar-requires-2-clause-kept : goal.set_bar-requires-2-clause-kept
 set_bar-requires-2-clause-kept g c =
-    (kept_then _ _ c.index-list.result.now.window c.index-list.result.now.vertical c.vertical_values-down.result c.args.windows.now c.set_bar.new.windows c.args.controls.now c.set_bar.new.controls c.set_bar.ensures c.requires.kept c.requires.beside).0
+    (kept_then _ _ c.index-list.result.now.window c.index-list.result.now.kept.vertical c.vertical_values-down.result c.args.windows.now c.set_bar.new.windows c.args.controls.now c.set_bar.new.controls c.set_bar.ensures c.requires.kept c.requires.beside).0
 
 pub set_bar-requires-2-clause-beside : goal.set_bar-requires-2-clause-beside
 set_bar-requires-2-clause-beside g c =
-    (kept_then _ _ c.index-list.result.now.window c.index-list.result.now.vertical c.vertical_values-down.result c.args.windows.now c.set_bar.new.windows c.args.controls.now c.set_bar.new.controls c.set_bar.ensures c.requires.kept c.requires.beside).1
+    (kept_then _ _ c.index-list.result.now.window c.index-list.result.now.kept.vertical c.vertical_values-down.result c.args.windows.now c.set_bar.new.windows c.args.controls.now c.set_bar.new.controls c.set_bar.ensures c.requires.kept c.requires.beside).1
 
 pub returns : goal.returns
 returns g c l is =

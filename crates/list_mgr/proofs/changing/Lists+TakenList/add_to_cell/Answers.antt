@@ -5,7 +5,7 @@ use Rattle.tb_geom.specs.declared.refusal.Refusal.TheVariants.{NoMemory}
 use Rattle.tb_geom.specs.Refusals.{first_refusal}
 use Rattle.def_iface.specs.contracts.taken_list.TakenListDefinedList.TheImpl as list
 use Rattle.list_cells.specs.Grids.{content_of, data_refusals}
-use Rattle.list_records.specs.Seen.{seen}
+use Rattle.list_mgr.specs.Seen.{seen}
 use Rattle.desk_call.specs.declared.list.ListCall.TheVariants as asks
 use Rattle.desk_call.specs.declared.list.ListReply.TheVariants as reply
 use Rattle.control_mgr.proofs.Lays.{one_item}
@@ -26,53 +26,53 @@ returns-in_err-add_to_cell g c =
     let cell = set.cell.cell in
     let x = c.index.result.now in
     let y = c.index_mut.result.now in
-    let same : x ≡ y = one_item c.args.self.now.list.lists.items c.in_ok-spot.spot.list x y c.in_ok-spot.ensures.low c.index.ensures c.index_mut.ensures.value in
-    let free : first_refusal (data_refusals x.cells cell 0 (length c.as_slice-text.result.now)) ≡ None = sym c.in_default.ensures in
+    let same : x ≡ y = one_item c.args.self.now.list.items.items c.in_ok-spot.spot.list x y c.in_ok-spot.ensures.low c.index.ensures c.index_mut.ensures.value in
+    let free : first_refusal (data_refusals x.kept.cells cell 0 (length c.as_slice-text.result.now)) ≡ None = sym c.in_default.ensures in
     let e = err_from_is_err_and c.from_residual-in_err-add_to_cell.result c.from_residual-in_err-add_to_cell.ensures.1 in
     let memory : e.0 ≡ NoMemory =
     e.2 ∙ c.in_err-add_to_cell.ensures.refused
-    ∙ ap (λ o. unwrap_or o NoMemory) (subst (λ z. first_refusal (data_refusals z.cells cell 0 (length c.as_slice-text.result.now)) ≡ None) same free) in
+    ∙ ap (λ o. unwrap_or o NoMemory) (subst (λ z. first_refusal (data_refusals z.kept.cells cell 0 (length c.as_slice-text.result.now)) ≡ None) same free) in
     short_over_right _ (list.list_loan-value g.dyn-1).it c.args.windows.now c.args.self.now (with_cells_there _ (list.list_loan-value g.dyn-1).it set.cell.list c.args.windows.now c.args.self.now c.in_ok-spot.spot c.in_ok-spot.ensures y c.index_mut.ensures.value c.add_to_cell.new.self)
     (kept_there _ (list.list_loan-value g.dyn-1).it set.cell.list c.args.windows.now c.args.self.now c.in_ok-spot.spot c.in_ok-spot.ensures y c.index_mut.ensures.value c.add_to_cell.new.self c.in_err-add_to_cell.ensures.cells)
     refl (asks.AddToCell set) c.from_residual-in_err-add_to_cell.result e.0 e.1 memory (λ kept. refl)
     (λ o slots cs kept.
-    its_reasons _ _ set.cell.list c.args.windows.now c.args.self.now c.in_ok-spot.spot c.in_ok-spot.ensures (λ z. data_refusals z.cells cell 0 (length set.text))
+    its_reasons _ _ set.cell.list c.args.windows.now c.args.self.now c.in_ok-spot.spot c.in_ok-spot.ensures (λ z. data_refusals z.kept.cells cell 0 (length set.text))
     (seen (list.list_loan-value g.dyn-1).it x) (list_read _ _ set.cell.list c.args.windows.now c.args.self.now c.in_ok-spot.spot c.in_ok-spot.ensures x c.index.ensures)
-    ∙ subst (λ (text : List ℕ). first_refusal (data_refusals x.cells cell 0 (length text)) ≡ None) c.as_slice-text.ensures free)
+    ∙ subst (λ (text : List ℕ). first_refusal (data_refusals x.kept.cells cell 0 (length text)) ≡ None) c.as_slice-text.ensures free)
 
 pub cell_rect-within-requires : goal.cell_rect-within-requires
 cell_rect-within-requires g c =
     let set = c.args.added.now in
     let x = c.index.result.now in
-    cell_of_list x.cells set.cell.cell (read_grid _ (list.list_loan-value g.dyn-1).it set.cell.list c.args.windows.now c.args.self.now c.in_ok-spot.spot c.in_ok-spot.ensures x c.index.ensures c.requires.beside)
-    (cell_of_allowed x.cells set.cell.cell 0 (length c.as_slice-text.result.now) (sym c.in_default.ensures))
+    cell_of_list x.kept.cells set.cell.cell (read_grid _ (list.list_loan-value g.dyn-1).it set.cell.list c.args.windows.now c.args.self.now c.in_ok-spot.spot c.in_ok-spot.ensures x c.index.ensures c.requires.beside)
+    (cell_of_allowed x.kept.cells set.cell.cell 0 (length c.as_slice-text.result.now) (sym c.in_default.ensures))
 
 pub show-requires-clause-beside : goal.show-requires-clause-beside
 show-requires-clause-beside g c =
     let set = c.args.added.now in
     let cell = set.cell.cell in
     let x = c.index_mut.result.now in
-    let allowed = subst (λ (text : List ℕ). first_refusal (data_refusals x.cells cell 0 (length text)) ≡ None) c.as_slice-text.ensures c.in_ok-add_to_cell.ensures.allowed in
+    let allowed = subst (λ (text : List ℕ). first_refusal (data_refusals x.kept.cells cell 0 (length text)) ≡ None) c.as_slice-text.ensures c.in_ok-add_to_cell.ensures.allowed in
     beside_so _ _ set.cell.list c.args.windows.now c.args.self.now c.in_ok-spot.spot c.in_ok-spot.ensures x c.index_mut.ensures.value (appended cell set.text) c.add_to_cell.new.self
-    (c.in_ok-add_to_cell.ensures.cells ∙ ap (λ (text : List ℕ). appended cell text x.cells) c.as_slice-text.ensures) (λ is. added_grid x.cells cell set.text is allowed) c.requires.beside
+    (c.in_ok-add_to_cell.ensures.cells ∙ ap (λ (text : List ℕ). appended cell text x.kept.cells) c.as_slice-text.ensures) (λ is. added_grid x.kept.cells cell set.text is allowed) c.requires.beside
 
 pub show-requires-clause-spot : goal.show-requires-clause-spot
 show-requires-clause-spot g c =
     let set = c.args.added.now in
     let cell = set.cell.cell in
     let x = c.index_mut.result.now in
-    let allowed = subst (λ (text : List ℕ). first_refusal (data_refusals x.cells cell 0 (length text)) ≡ None) c.as_slice-text.ensures c.in_ok-add_to_cell.ensures.allowed in
+    let allowed = subst (λ (text : List ℕ). first_refusal (data_refusals x.kept.cells cell 0 (length text)) ≡ None) c.as_slice-text.ensures c.in_ok-add_to_cell.ensures.allowed in
     spot_so _ _ set.cell.list c.args.windows.now c.args.self.now c.in_ok-spot.spot c.in_ok-spot.ensures x c.index_mut.ensures.value (appended cell set.text) c.add_to_cell.new.self
-    (c.in_ok-add_to_cell.ensures.cells ∙ ap (λ (text : List ℕ). appended cell text x.cells) c.as_slice-text.ensures) (λ is. added_grid x.cells cell set.text is allowed)
+    (c.in_ok-add_to_cell.ensures.cells ∙ ap (λ (text : List ℕ). appended cell text x.kept.cells) c.as_slice-text.ensures) (λ is. added_grid x.kept.cells cell set.text is allowed)
 
 pub show-requires-clause-mark : goal.show-requires-clause-mark
 show-requires-clause-mark g c =
     let set = c.args.added.now in
     let cell = set.cell.cell in
     let x = c.index_mut.result.now in
-    let allowed = subst (λ (text : List ℕ). first_refusal (data_refusals x.cells cell 0 (length text)) ≡ None) c.as_slice-text.ensures c.in_ok-add_to_cell.ensures.allowed in
+    let allowed = subst (λ (text : List ℕ). first_refusal (data_refusals x.kept.cells cell 0 (length text)) ≡ None) c.as_slice-text.ensures c.in_ok-add_to_cell.ensures.allowed in
     mark_so _ _ set.cell.list c.args.windows.now c.args.self.now c.in_ok-spot.spot c.in_ok-spot.ensures x c.index_mut.ensures.value (appended cell set.text) c.add_to_cell.new.self
-    (c.in_ok-add_to_cell.ensures.cells ∙ ap (λ (text : List ℕ). appended cell text x.cells) c.as_slice-text.ensures) (λ is. added_grid x.cells cell set.text is allowed) c.in_ok-mark.mark c.in_ok-mark.ensures
+    (c.in_ok-add_to_cell.ensures.cells ∙ ap (λ (text : List ℕ). appended cell text x.kept.cells) c.as_slice-text.ensures) (λ is. added_grid x.kept.cells cell set.text is allowed) c.in_ok-mark.mark c.in_ok-mark.ensures
 
 pub returns : goal.returns
 returns g c =
@@ -84,18 +84,18 @@ returns g c =
     let is = c.in_ok-spot.ensures in
     let x = c.index_mut.result.now in
     let read = c.index_mut.ensures.value in
-    let allowed : first_refusal (data_refusals x.cells cell 0 (length set.text)) ≡ None =
-    subst (λ (text : List ℕ). first_refusal (data_refusals x.cells cell 0 (length text)) ≡ None) c.as_slice-text.ensures c.in_ok-add_to_cell.ensures.allowed in
+    let allowed : first_refusal (data_refusals x.kept.cells cell 0 (length set.text)) ≡ None =
+    subst (λ (text : List ℕ). first_refusal (data_refusals x.kept.cells cell 0 (length text)) ≡ None) c.as_slice-text.ensures c.in_ok-add_to_cell.ensures.allowed in
     let changes : not (length set.text == 0) ≡ not c.is_empty-changes.result =
     ap not (sym (c.is_empty-changes.ensures ∙ ap (λ (text : List ℕ). length text == 0) c.as_slice-text.ensures)) in
     right_as _ (list.list_loan-value g.dyn-1).it t c.show.new.windows m (with_cells_there _ (list.list_loan-value g.dyn-1).it set.cell.list t m spot is x read c.add_to_cell.new.self) (IsListChanged set.cell.list (with_grid (appended cell set.text))) (IsListStep (asks.AddToCell set) (Ok reply.Done))
     (λ o slots cs kept done. (
-      its_reasons _ _ set.cell.list t m spot is (λ y. data_refusals y.cells cell 0 (length set.text)) (seen (list.list_loan-value g.dyn-1).it x) (list_read _ _ set.cell.list t m spot is x read) ∙ allowed,
+      its_reasons _ _ set.cell.list t m spot is (λ y. data_refusals y.kept.cells cell 0 (length set.text)) (seen (list.list_loan-value g.dyn-1).it x) (list_read _ _ set.cell.list t m spot is x read) ∙ allowed,
       (refl, done),
     ))
     (changed_so _ (list.list_loan-value g.dyn-1).it set.cell.list t m spot is x read (appended cell set.text) c.add_to_cell.new.self
-    (c.in_ok-add_to_cell.ensures.cells ∙ ap (λ (text : List ℕ). appended cell text x.cells) c.as_slice-text.ensures) (λ good. added_grid x.cells cell set.text good allowed) c.cell_rect-within.result (λ settled. bytes_outside c.cell_rect-within.result (seen (list.list_loan-value g.dyn-1).it x) cell ((content_of x.cells cell).bytes ++ set.text)
-    (c.cell_rect-within.ensures.sides ∙ ap (λ y. cell_rect y.view cell) (one_item m.list.lists.items spot.list c.index-2.result.now x is.low c.index-2.ensures read)) (cell_of_allowed x.cells cell 0 (length set.text) allowed) settled) c.in_ok-mark.mark (not c.is_empty-changes.result) c.in_ok-mark.ensures
-    (subst (λ b. IsSameOrNot b (appended cell set.text x.cells) x.cells) changes
-    (added_or_not x.cells cell set.text (read_grid _ (list.list_loan-value g.dyn-1).it set.cell.list t m spot is x read c.requires.beside) (cell_of_allowed x.cells cell 0 (length set.text) allowed)))
+    (c.in_ok-add_to_cell.ensures.cells ∙ ap (λ (text : List ℕ). appended cell text x.kept.cells) c.as_slice-text.ensures) (λ good. added_grid x.kept.cells cell set.text good allowed) c.cell_rect-within.result (λ settled. bytes_outside c.cell_rect-within.result (seen (list.list_loan-value g.dyn-1).it x) cell ((content_of x.kept.cells cell).bytes ++ set.text)
+    (c.cell_rect-within.ensures.sides ∙ ap (λ y. cell_rect y.kept.view cell) (one_item m.list.items.items spot.list c.index-2.result.now x is.low c.index-2.ensures read)) (cell_of_allowed x.kept.cells cell 0 (length set.text) allowed) settled) c.in_ok-mark.mark (not c.is_empty-changes.result) c.in_ok-mark.ensures
+    (subst (λ b. IsSameOrNot b (appended cell set.text x.kept.cells) x.kept.cells) changes
+    (added_or_not x.kept.cells cell set.text (read_grid _ (list.list_loan-value g.dyn-1).it set.cell.list t m spot is x read c.requires.beside) (cell_of_allowed x.kept.cells cell 0 (length set.text) allowed)))
     c.show.new.windows c.show.ensures)

@@ -3,7 +3,7 @@ use Rattle.std.specs.Prelude.{is_ok}
 use Rattle.std.proofs.lemmas.Result.{err_from_is_err_and}
 use Rattle.def_iface.specs.contracts.taken_list.TakenListDefinedList.TheImpl as list
 use Rattle.list_cells.specs.Grids.{Grid, content_of, is_cell, with_bytes}
-use Rattle.list_records.specs.Seen.{seen}
+use Rattle.list_mgr.specs.Seen.{seen}
 use Rattle.desk_call.specs.declared.list.ListCall.TheVariants as asks
 use Rattle.desk_call.specs.declared.list.ListReply.TheVariants as reply
 use Rattle.control_mgr.proofs.Lays.{one_item}
@@ -33,31 +33,31 @@ pub cell_rect-within-requires : goal.cell_rect-within-requires
 cell_rect-within-requires g c =
     let named = c.args.cleared in
     let x = c.index.result.now in
-    cell_of_list x.cells named.cell (read_grid _ (list.list_loan-value g.dyn-1).it named.list c.args.windows.now c.args.self.now c.in_ok-spot.spot c.in_ok-spot.ensures x c.index.ensures c.requires.beside) (sym c.in_ok-cell.ensures.found)
+    cell_of_list x.kept.cells named.cell (read_grid _ (list.list_loan-value g.dyn-1).it named.list c.args.windows.now c.args.self.now c.in_ok-spot.spot c.in_ok-spot.ensures x c.index.ensures c.requires.beside) (sym c.in_ok-cell.ensures.found)
 
 pub show-requires-clause-beside : goal.show-requires-clause-beside
 show-requires-clause-beside g c =
     let cell = c.args.cleared.cell in
     let x = c.index_mut.result.now in
-    let has : is_cell x.cells cell ≡ true = sym c.in_ok-clear_cell.ensures.found in
+    let has : is_cell x.kept.cells cell ≡ true = sym c.in_ok-clear_cell.ensures.found in
     beside_so _ _ c.args.cleared.list c.args.windows.now c.args.self.now c.in_ok-spot.spot c.in_ok-spot.ensures x c.index_mut.ensures.value (λ (y : Grid). with_bytes y cell []) c.clear_cell.new.self
-    (c.in_ok-clear_cell.ensures.cells ∙ ap (λ b. if b then with_bytes x.cells cell [] else x.cells) has) (λ is. cleared_grid x.cells cell is has) c.requires.beside
+    (c.in_ok-clear_cell.ensures.cells ∙ ap (λ b. if b then with_bytes x.kept.cells cell [] else x.kept.cells) has) (λ is. cleared_grid x.kept.cells cell is has) c.requires.beside
 
 pub show-requires-clause-spot : goal.show-requires-clause-spot
 show-requires-clause-spot g c =
     let cell = c.args.cleared.cell in
     let x = c.index_mut.result.now in
-    let has : is_cell x.cells cell ≡ true = sym c.in_ok-clear_cell.ensures.found in
+    let has : is_cell x.kept.cells cell ≡ true = sym c.in_ok-clear_cell.ensures.found in
     spot_so _ _ c.args.cleared.list c.args.windows.now c.args.self.now c.in_ok-spot.spot c.in_ok-spot.ensures x c.index_mut.ensures.value (λ (y : Grid). with_bytes y cell []) c.clear_cell.new.self
-    (c.in_ok-clear_cell.ensures.cells ∙ ap (λ b. if b then with_bytes x.cells cell [] else x.cells) has) (λ is. cleared_grid x.cells cell is has)
+    (c.in_ok-clear_cell.ensures.cells ∙ ap (λ b. if b then with_bytes x.kept.cells cell [] else x.kept.cells) has) (λ is. cleared_grid x.kept.cells cell is has)
 
 pub show-requires-clause-mark : goal.show-requires-clause-mark
 show-requires-clause-mark g c =
     let cell = c.args.cleared.cell in
     let x = c.index_mut.result.now in
-    let has : is_cell x.cells cell ≡ true = sym c.in_ok-clear_cell.ensures.found in
+    let has : is_cell x.kept.cells cell ≡ true = sym c.in_ok-clear_cell.ensures.found in
     mark_so _ _ c.args.cleared.list c.args.windows.now c.args.self.now c.in_ok-spot.spot c.in_ok-spot.ensures x c.index_mut.ensures.value (λ (y : Grid). with_bytes y cell []) c.clear_cell.new.self
-    (c.in_ok-clear_cell.ensures.cells ∙ ap (λ b. if b then with_bytes x.cells cell [] else x.cells) has) (λ is. cleared_grid x.cells cell is has) c.in_ok-mark.mark c.in_ok-mark.ensures
+    (c.in_ok-clear_cell.ensures.cells ∙ ap (λ b. if b then with_bytes x.kept.cells cell [] else x.kept.cells) has) (λ is. cleared_grid x.kept.cells cell is has) c.in_ok-mark.mark c.in_ok-mark.ensures
 
 pub returns : goal.returns
 returns g c =
@@ -69,17 +69,17 @@ returns g c =
     let is = c.in_ok-spot.ensures in
     let x = c.index_mut.result.now in
     let read = c.index_mut.ensures.value in
-    let has : is_cell x.cells cell ≡ true = sym c.in_ok-clear_cell.ensures.found in
-    let same : c.index.result.now ≡ x = one_item m.list.lists.items spot.list c.index.result.now x is.low c.index.ensures read in
+    let has : is_cell x.kept.cells cell ≡ true = sym c.in_ok-clear_cell.ensures.found in
+    let same : c.index.result.now ≡ x = one_item m.list.items.items spot.list c.index.result.now x is.low c.index.ensures read in
     right_as _ (list.list_loan-value g.dyn-1).it t c.show.new.windows m (with_cells_there _ (list.list_loan-value g.dyn-1).it named.list t m spot is x read c.clear_cell.new.self) (IsListChanged named.list (with_grid (λ (y : Grid). with_bytes y cell []))) (IsListStep (asks.ClearCell named) (Ok reply.Done))
     (λ o slots cs kept done. (
       cell_there _ _ named.list t m spot is cell (seen (list.list_loan-value g.dyn-1).it x) (list_read _ _ named.list t m spot is x read) has,
       (refl, done),
     ))
     (changed_so _ (list.list_loan-value g.dyn-1).it named.list t m spot is x read (λ (y : Grid). with_bytes y cell []) c.clear_cell.new.self
-    (c.in_ok-clear_cell.ensures.cells ∙ ap (λ b. if b then with_bytes x.cells cell [] else x.cells) has) (λ good. cleared_grid x.cells cell good has) c.cell_rect-within.result (λ settled. bytes_outside c.cell_rect-within.result (seen (list.list_loan-value g.dyn-1).it x) cell []
-    (c.cell_rect-within.ensures.sides ∙ ap (λ y. cell_rect y.view cell) (one_item m.list.lists.items spot.list c.index-2.result.now x is.low c.index-2.ensures read)) has settled) c.in_ok-mark.mark (not c.is_empty-changes.result) c.in_ok-mark.ensures
-    (subst (λ b. IsSameOrNot (not b) (with_bytes x.cells cell []) x.cells) (sym c.is_empty-changes.ensures)
-    (cleared_or_not x.cells cell c.in_ok-cell.field-0.now (c.in_ok-cell.ensures.bytes ∙ ap (λ y. (content_of y.cells cell).bytes) same)
+    (c.in_ok-clear_cell.ensures.cells ∙ ap (λ b. if b then with_bytes x.kept.cells cell [] else x.kept.cells) has) (λ good. cleared_grid x.kept.cells cell good has) c.cell_rect-within.result (λ settled. bytes_outside c.cell_rect-within.result (seen (list.list_loan-value g.dyn-1).it x) cell []
+    (c.cell_rect-within.ensures.sides ∙ ap (λ y. cell_rect y.kept.view cell) (one_item m.list.items.items spot.list c.index-2.result.now x is.low c.index-2.ensures read)) has settled) c.in_ok-mark.mark (not c.is_empty-changes.result) c.in_ok-mark.ensures
+    (subst (λ b. IsSameOrNot (not b) (with_bytes x.kept.cells cell []) x.kept.cells) (sym c.is_empty-changes.ensures)
+    (cleared_or_not x.kept.cells cell c.in_ok-cell.field-0.now (c.in_ok-cell.ensures.bytes ∙ ap (λ y. (content_of y.kept.cells cell).bytes) same)
     (read_grid _ (list.list_loan-value g.dyn-1).it named.list t m spot is x read c.requires.beside) has))
     c.show.new.windows c.show.ensures)

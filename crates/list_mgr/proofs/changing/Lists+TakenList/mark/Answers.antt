@@ -3,7 +3,7 @@ use Rattle.std.specs.Prelude.{MatchResult}
 use Rattle.std.proofs.lemmas.Result.{err_from_is_err_and}
 use Rattle.def_iface.specs.contracts.taken.TakenDefined.TheImpl as window
 use Rattle.def_iface.specs.contracts.taken_list.TakenListDefinedList.TheImpl as list
-use Rattle.list_records.specs.Seen.{seen}
+use Rattle.list_mgr.specs.Seen.{seen}
 use Rattle.window_mgr.proofs.Contents.{layers_apart}
 use Rattle.window_mgr.proofs.Remarked.{area_there}
 use Rattle.list_mgr.specs.Changing.{IsDrawing, IsMark}

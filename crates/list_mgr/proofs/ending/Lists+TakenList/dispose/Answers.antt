@@ -1,7 +1,7 @@
 use Rattle.std.proofs.Common.{◌≡◌, rules, ap}
 use Rattle.def_iface.specs.contracts.taken_control.TakenControlDefinedControl.TheImpl as control
 use Rattle.def_iface.specs.contracts.taken_list.TakenListDefinedList.TheImpl as list
-use Rattle.list_records.specs.declared.list_record.ListRecord.{ListRecord}
+use Rattle.list_mgr.specs.declared.list_record.ListRecord.{ListRecord}
 use Rattle.window_mgr.specs.Edits.{IsWindowAt}
 use Rattle.window_mgr.proofs.Remarked.{area_there}
 use Rattle.control_mgr.proofs.Lays.{one_item}
@@ -10,6 +10,7 @@ use Rattle.list_mgr.specs.BarEnds.{bar_serial}
 use Rattle.list_mgr.proofs.ListsDisposed.{controls_first, controls_second, disposed, first_apart, kept_first, kept_second, may_first, next_apart, planned_first, ready_first, ready_second, relaid_apart}
 use Rattle.list_mgr.proofs.ListsEnded.{ended_left, ended_live, settled_left}
 use Rattle.list_mgr.proofs.ending.Lists+TakenList.dispose.Goals as goal
+use Rattle.window_items.specs.declared.item.Item.{Item}
 
 pub without-requires-clause-apart : goal.without-requires-clause-apart
 without-requires-clause-apart g c =
@@ -71,7 +72,7 @@ plan_bar-requires-2-clause-apart g c =
     let lies : IsWindowAt t.windows.records.items s.window w = search rules in
     let its = c.layer-layer.ensures w lies in
     next_apart _ list_loan control_loan l t m s is c.requires.kept w lies c.layer-layer.result its
-    c.in_ok-relaid.relaid c.in_ok-relaid.ensures.layers (bar_serial c.index-list.result.now.vertical) c.in_ok-one.one c.in_ok-one.ensures.out c.layers_left-layers.result.now c.layers_left-layers.ensures
+    c.in_ok-relaid.relaid c.in_ok-relaid.ensures.layers (bar_serial c.index-list.result.now.kept.vertical) c.in_ok-one.one c.in_ok-one.ensures.out c.layers_left-layers.result.now c.layers_left-layers.ensures
 
 pub commit_layers-requires-clause-may : goal.commit_layers-requires-clause-may
 commit_layers-requires-clause-may g c =
@@ -104,7 +105,7 @@ commit_layers-requires-clause-planned g c =
     c.in_ok-relaid.relaid c.in_ok-relaid.ensures.layers c.area.result.now c.area.ensures c.in_ok-relaid.ensures.gained c.in_ok-relaying.relaying c.in_ok-relaying.ensures
 
 pub commit_layers-requires-clause-whole : goal.commit_layers-requires-clause-whole
-commit_layers-requires-clause-whole g c = settled_left (list.list_loan-value g.dyn-1).it c.args.self.now c.in_ok-spot.spot.list c.remove-ended.new.self.lists.items c.remove-ended.ensures.lists c.requires.lists.settled
+commit_layers-requires-clause-whole g c = settled_left (list.list_loan-value g.dyn-1).it c.args.self.now c.in_ok-spot.spot.list c.remove-ended.new.self.items.items c.remove-ended.ensures.items c.requires.lists.settled
 
 pub put_away-requires-clause-live : goal.put_away-requires-clause-live
 put_away-requires-clause-live g c = ended_live (list.list_loan-value g.dyn-1).it c.args.self.now c.in_ok-spot.spot.list c.remove-ended.result c.remove-ended.ensures.value c.requires.lists.settled
@@ -126,7 +127,7 @@ end_bar-requires-clause-kept g c =
     let its = c.layer-layer.ensures w lies in
     kept_first _ list_loan control_loan l t m s is c.requires.kept w lies c.layer-layer.result its
     c.in_ok-relaid.relaid c.in_ok-relaid.ensures.layers c.area.result.now c.area.ensures
-    c.in_ok-relaying.relaying (record m { list = c.remove-ended.new.self }) c.remove-ended.result c.remove-ended.ensures.value c.remove-ended.ensures.lists c.remove-ended.ensures.next c.commit_layers.new.self c.commit_layers.ensures.put c.commit_layers.ensures.set c.args.controls.now _ c.requires.controls _ c.requires.lists
+    c.in_ok-relaying.relaying (record m { list = c.remove-ended.new.self }) c.remove-ended.result c.remove-ended.ensures.value c.remove-ended.ensures.items c.remove-ended.ensures.next c.commit_layers.new.self c.commit_layers.ensures.put c.commit_layers.ensures.set c.args.controls.now _ c.requires.controls _ c.requires.lists
 
 pub end_bar-requires-clause-whole : goal.end_bar-requires-clause-whole
 end_bar-requires-clause-whole g c =
@@ -142,7 +143,7 @@ end_bar-requires-clause-whole g c =
     let its = c.layer-layer.ensures w lies in
     controls_first _ list_loan control_loan l t m s is c.requires.kept w lies c.layer-layer.result its
     c.in_ok-relaid.relaid c.in_ok-relaid.ensures.layers c.area.result.now c.area.ensures
-    c.in_ok-relaying.relaying (record m { list = c.remove-ended.new.self }) c.remove-ended.result c.remove-ended.ensures.value c.remove-ended.ensures.lists c.remove-ended.ensures.next c.commit_layers.new.self c.commit_layers.ensures.put c.commit_layers.ensures.set c.args.controls.now _ c.requires.controls _ c.requires.lists
+    c.in_ok-relaying.relaying (record m { list = c.remove-ended.new.self }) c.remove-ended.result c.remove-ended.ensures.value c.remove-ended.ensures.items c.remove-ended.ensures.next c.commit_layers.new.self c.commit_layers.ensures.put c.commit_layers.ensures.set c.args.controls.now _ c.requires.controls _ c.requires.lists
 
 pub end_bar-requires-clause-planned : goal.end_bar-requires-clause-planned
 end_bar-requires-clause-planned g c =
@@ -159,7 +160,7 @@ end_bar-requires-clause-planned g c =
     c.in_ok-one.ensures.planned c.commit_layers.new.self c.args.controls.now
     (ready_first _ list_loan control_loan l t m s is c.requires.kept w lies c.layer-layer.result its
     c.in_ok-relaid.relaid c.in_ok-relaid.ensures.layers c.area.result.now c.area.ensures
-    c.in_ok-relaying.relaying (record m { list = c.remove-ended.new.self }) c.remove-ended.result c.remove-ended.ensures.value c.remove-ended.ensures.lists c.remove-ended.ensures.next c.commit_layers.new.self c.commit_layers.ensures.put c.commit_layers.ensures.set c.args.controls.now _ c.requires.controls _ c.requires.lists c.index-list.result.now.vertical)
+    c.in_ok-relaying.relaying (record m { list = c.remove-ended.new.self }) c.remove-ended.result c.remove-ended.ensures.value c.remove-ended.ensures.items c.remove-ended.ensures.next c.commit_layers.new.self c.commit_layers.ensures.put c.commit_layers.ensures.set c.args.controls.now _ c.requires.controls _ c.requires.lists c.index-list.result.now.kept.vertical)
 
 pub end_bar-requires-2-clause-kept : goal.end_bar-requires-2-clause-kept
 end_bar-requires-2-clause-kept g c =
@@ -175,8 +176,8 @@ end_bar-requires-2-clause-kept g c =
     let its = c.layer-layer.ensures w lies in
     kept_second _ list_loan control_loan l t m s is c.requires.kept w lies c.layer-layer.result its
     c.in_ok-relaid.relaid c.in_ok-relaid.ensures.layers c.area.result.now c.area.ensures
-    c.in_ok-relaying.relaying (record m { list = c.remove-ended.new.self }) c.remove-ended.result c.remove-ended.ensures.value c.remove-ended.ensures.lists c.remove-ended.ensures.next c.commit_layers.new.self c.commit_layers.ensures.put c.commit_layers.ensures.set c.args.controls.now _ c.requires.controls _ c.requires.lists _ c.put_away.ensures
-    c.index-list.result.now.vertical c.in_ok-one.one c.in_ok-one.ensures.out c.end_bar.new.windows c.end_bar.new.controls _ c.end_bar.ensures.gone c.end_bar.ensures.put
+    c.in_ok-relaying.relaying (record m { list = c.remove-ended.new.self }) c.remove-ended.result c.remove-ended.ensures.value c.remove-ended.ensures.items c.remove-ended.ensures.next c.commit_layers.new.self c.commit_layers.ensures.put c.commit_layers.ensures.set c.args.controls.now _ c.requires.controls _ c.requires.lists _ c.put_away.ensures
+    c.index-list.result.now.kept.vertical c.in_ok-one.one c.in_ok-one.ensures.out c.end_bar.new.windows c.end_bar.new.controls _ c.end_bar.ensures.gone c.end_bar.ensures.put
 
 pub end_bar-requires-2-clause-whole : goal.end_bar-requires-2-clause-whole
 end_bar-requires-2-clause-whole g c =
@@ -192,8 +193,8 @@ end_bar-requires-2-clause-whole g c =
     let its = c.layer-layer.ensures w lies in
     controls_second _ list_loan control_loan l t m s is c.requires.kept w lies c.layer-layer.result its
     c.in_ok-relaid.relaid c.in_ok-relaid.ensures.layers c.area.result.now c.area.ensures
-    c.in_ok-relaying.relaying (record m { list = c.remove-ended.new.self }) c.remove-ended.result c.remove-ended.ensures.value c.remove-ended.ensures.lists c.remove-ended.ensures.next c.commit_layers.new.self c.commit_layers.ensures.put c.commit_layers.ensures.set c.args.controls.now _ c.requires.controls _ c.requires.lists _ c.put_away.ensures
-    c.index-list.result.now.vertical c.in_ok-one.one c.in_ok-one.ensures.out c.end_bar.new.windows c.end_bar.new.controls _ c.end_bar.ensures.gone c.end_bar.ensures.put
+    c.in_ok-relaying.relaying (record m { list = c.remove-ended.new.self }) c.remove-ended.result c.remove-ended.ensures.value c.remove-ended.ensures.items c.remove-ended.ensures.next c.commit_layers.new.self c.commit_layers.ensures.put c.commit_layers.ensures.set c.args.controls.now _ c.requires.controls _ c.requires.lists _ c.put_away.ensures
+    c.index-list.result.now.kept.vertical c.in_ok-one.one c.in_ok-one.ensures.out c.end_bar.new.windows c.end_bar.new.controls _ c.end_bar.ensures.gone c.end_bar.ensures.put
 
 pub end_bar-requires-2-clause-planned : goal.end_bar-requires-2-clause-planned
 end_bar-requires-2-clause-planned g c =
@@ -210,8 +211,8 @@ end_bar-requires-2-clause-planned g c =
     c.in_ok-two.ensures.planned c.end_bar.new.windows c.end_bar.new.controls
     (ready_second _ list_loan control_loan l t m s is c.requires.kept w lies c.layer-layer.result its
     c.in_ok-relaid.relaid c.in_ok-relaid.ensures.layers c.area.result.now c.area.ensures
-    c.in_ok-relaying.relaying (record m { list = c.remove-ended.new.self }) c.remove-ended.result c.remove-ended.ensures.value c.remove-ended.ensures.lists c.remove-ended.ensures.next c.commit_layers.new.self c.commit_layers.ensures.put c.commit_layers.ensures.set c.args.controls.now _ c.requires.controls _ c.requires.lists _ c.put_away.ensures
-    c.index-list.result.now.vertical c.in_ok-one.one c.in_ok-one.ensures.out c.end_bar.new.windows c.end_bar.new.controls _ c.end_bar.ensures.gone c.end_bar.ensures.put c.index-list.result.now.horizontal c.layers_left-layers.result.now c.update_left-update.result.now c.layers_left-layers.ensures c.update_left-update.ensures)
+    c.in_ok-relaying.relaying (record m { list = c.remove-ended.new.self }) c.remove-ended.result c.remove-ended.ensures.value c.remove-ended.ensures.items c.remove-ended.ensures.next c.commit_layers.new.self c.commit_layers.ensures.put c.commit_layers.ensures.set c.args.controls.now _ c.requires.controls _ c.requires.lists _ c.put_away.ensures
+    c.index-list.result.now.kept.vertical c.in_ok-one.one c.in_ok-one.ensures.out c.end_bar.new.windows c.end_bar.new.controls _ c.end_bar.ensures.gone c.end_bar.ensures.put c.index-list.result.now.kept.horizontal c.layers_left-layers.result.now c.update_left-update.result.now c.layers_left-layers.ensures c.update_left-update.ensures)
 
 pub returns : goal.returns
 returns g c =
@@ -225,9 +226,9 @@ returns g c =
     let w = c.at.result.now in
     let lies : IsWindowAt t.windows.records.items s.window w = search rules in
     let its = c.layer-layer.ensures w lies in
-    let same : c.index-list.result.now ≡ c.remove-ended.result = one_item m.list.lists.items s.list c.index-list.result.now c.remove-ended.result is.low c.index-list.ensures (read_is m.list.lists.items s.list c.remove-ended.result c.remove-ended.ensures.value) in
+    let same : c.index-list.result.now ≡ c.remove-ended.result = one_item m.list.items.items s.list c.index-list.result.now c.remove-ended.result is.low c.index-list.ensures (read_is m.list.items.items s.list c.remove-ended.result c.remove-ended.ensures.value) in
     disposed _ list_loan control_loan l t m s is c.requires.kept w lies c.layer-layer.result its
     c.in_ok-relaid.relaid c.in_ok-relaid.ensures.layers c.area.result.now c.area.ensures
-    c.in_ok-relaying.relaying (record m { list = c.remove-ended.new.self }) c.remove-ended.result c.remove-ended.ensures.value c.remove-ended.ensures.lists c.remove-ended.ensures.next c.commit_layers.new.self c.commit_layers.ensures.put c.commit_layers.ensures.set c.args.controls.now _ c.requires.controls _ c.requires.lists _ c.put_away.ensures
-    c.index-list.result.now.vertical c.in_ok-one.one c.in_ok-one.ensures.out c.end_bar.new.windows c.end_bar.new.controls _ c.end_bar.ensures.gone c.end_bar.ensures.put c.index-list.result.now.horizontal c.end_bar-2.new.windows c.end_bar-2.new.controls _ c.end_bar-2.ensures.gone
-    (ap (λ (x : ListRecord _). x.vertical) same) (ap (λ (x : ListRecord _). x.horizontal) same)
+    c.in_ok-relaying.relaying (record m { list = c.remove-ended.new.self }) c.remove-ended.result c.remove-ended.ensures.value c.remove-ended.ensures.items c.remove-ended.ensures.next c.commit_layers.new.self c.commit_layers.ensures.put c.commit_layers.ensures.set c.args.controls.now _ c.requires.controls _ c.requires.lists _ c.put_away.ensures
+    c.index-list.result.now.kept.vertical c.in_ok-one.one c.in_ok-one.ensures.out c.end_bar.new.windows c.end_bar.new.controls _ c.end_bar.ensures.gone c.end_bar.ensures.put c.index-list.result.now.kept.horizontal c.end_bar-2.new.windows c.end_bar-2.new.controls _ c.end_bar-2.ensures.gone
+    (ap (λ (x : Item (ListRecord _)). x.kept.vertical) same) (ap (λ (x : Item (ListRecord _)). x.kept.horizontal) same)

@@ -1,6 +1,6 @@
 use Rattle.def_iface.specs.contracts.taken_list.TakenListDefinedList.TheImpl as list
 use Rattle.def_iface.specs.contracts.list_stock.ListStockStockedLists.TheImpl as stock
-use Rattle.list_records.specs.Lists.{count_of}
+use Rattle.window_items.specs.Items.{count_of}
 use Rattle.list_mgr.specs.WholeLists.{lists_state}
 use Rattle.list_mgr.proofs.ListsEnded.{IsBeingLeft}
 use Rattle.list_mgr.proofs.ending.Lists+TakenList.end_of.Given as goal
@@ -12,4 +12,4 @@ invariant-loop-list g l =
     IsBeingLeft l.fn.window (lists_state loan l.fn.self (slots l.fn.stock)) (lists_state loan l.self (slots l.stock))
 
 abbrev pub decreases-loop-list : goal.decreases-loop-list
-decreases-loop-list g l = count_of l.window l.self.list.lists.items
+decreases-loop-list g l = count_of l.window l.self.list.items.items

@@ -29,7 +29,7 @@ returns-in-Some g c =
     let is = c.in_ok-spot.ensures in
     let why = simp to_z-of_z at c.in-Some.ensures in
     refused_lines _ list_loan _ (asks.DeleteRows lines) t m c.args.controls.now (Err c.in-Some.refusal) c.in-Some.refusal refl
-    (λ o slots cs kept. judged _ list_loan lines.list t m spot is c.index.result.now c.index.ensures (asks.DeleteRows lines) (λ y. delete_refusals y.cells.rows lines.count lines.at) (λ desk cs state. refl) o slots cs kept ∙ sym why)
+    (λ o slots cs kept. judged _ list_loan lines.list t m spot is c.index.result.now c.index.ensures (asks.DeleteRows lines) (λ y. delete_refusals y.kept.cells.rows lines.count lines.at) (λ desk cs state. refl) o slots cs kept ∙ sym why)
 
 pub returns-in_err-mark : goal.returns-in_err-mark
 returns-in_err-mark g c =
@@ -44,7 +44,7 @@ returns-in_err-mark g c =
     let none = simp to_z-of_z at c.in_default.ensures in
     let e = err_from_is_err_and c.from_residual-in_err-mark.result c.from_residual-in_err-mark.ensures.1 in
     short_lines _ list_loan _ (asks.DeleteRows lines) t m c.args.controls.now m refl refl c.from_residual-in_err-mark.result e.0 e.1 e.2 (λ kept. grows_off _ list_loan lines.list t m spot is c.in_err-mark.ensures kept)
-    (λ o slots cs kept. judged _ list_loan lines.list t m spot is c.index.result.now c.index.ensures (asks.DeleteRows lines) (λ y. delete_refusals y.cells.rows lines.count lines.at) (λ desk cs state. refl) o slots cs kept ∙ sym none)
+    (λ o slots cs kept. judged _ list_loan lines.list t m spot is c.index.result.now c.index.ensures (asks.DeleteRows lines) (λ y. delete_refusals y.kept.cells.rows lines.count lines.at) (λ desk cs state. refl) o slots cs kept ∙ sym none)
 
 pub returns-in_err-delete_rows : goal.returns-in_err-delete_rows
 returns-in_err-delete_rows g c =
@@ -54,7 +54,7 @@ returns-in_err-delete_rows g c =
     let none = simp to_z-of_z at c.in_default.ensures in
     let refused = simp to_z-of_z at c.in_err-delete_rows.ensures.refused in
     absurd (none_refused _ _ _ none
-    (ap (λ y. first_refusal (delete_refusals y.cells.rows lines.count lines.at)) (one_item c.args.self.now.list.lists.items c.in_ok-spot.spot.list c.index.result.now c.index_mut.result.now c.in_ok-spot.ensures.low c.index.ensures c.index_mut.ensures.value)) refused)
+    (ap (λ y. first_refusal (delete_refusals y.kept.cells.rows lines.count lines.at)) (one_item c.args.self.now.list.items.items c.in_ok-spot.spot.list c.index.result.now c.index_mut.result.now c.in_ok-spot.ensures.low c.index.ensures c.index_mut.ensures.value)) refused)
 
 pub rows_from-within-requires-clause-least : goal.rows_from-within-requires-clause-least
 rows_from-within-requires-clause-least g c =
@@ -65,7 +65,7 @@ rows_from-within-requires-clause-least g c =
     let x = c.index_mut.result.now in
     let grid = read_grid _ list_loan lines.list c.args.windows.now c.args.self.now c.in_ok-spot.spot c.in_ok-spot.ensures x c.index_mut.ensures.value c.requires.lists in
     let allowed = simp to_z-of_z at c.in_ok-delete_rows.ensures.allowed in
-    simp to_z-of_z (deleted_low x.cells.rows lines.count lines.at grid.rows_within allowed).least
+    simp to_z-of_z (deleted_low x.kept.cells.rows lines.count lines.at grid.rows_within allowed).least
 
 pub rows_from-within-requires-clause-most : goal.rows_from-within-requires-clause-most
 rows_from-within-requires-clause-most g c =
@@ -76,7 +76,7 @@ rows_from-within-requires-clause-most g c =
     let x = c.index_mut.result.now in
     let grid = read_grid _ list_loan lines.list c.args.windows.now c.args.self.now c.in_ok-spot.spot c.in_ok-spot.ensures x c.index_mut.ensures.value c.requires.lists in
     let allowed = simp to_z-of_z at c.in_ok-delete_rows.ensures.allowed in
-    simp to_z-of_z (deleted_low x.cells.rows lines.count lines.at grid.rows_within allowed).most
+    simp to_z-of_z (deleted_low x.kept.cells.rows lines.count lines.at grid.rows_within allowed).most
 
 pub show_with_bars-requires-clause-lists : goal.show_with_bars-requires-clause-lists
 show_with_bars-requires-clause-lists g c =
@@ -145,7 +145,7 @@ returns g c =
     let allowed = simp to_z-of_z at c.in_ok-delete_rows.ensures.allowed in
     let from = simp to_z-of_z at c.rows_from-within.ensures in
     relined_lines _ list_loan _ (asks.DeleteRows lines) t m c.args.controls.now lines.list (with_rows_fewer lines.count lines.at) reply.Done c.show_with_bars.new.windows c.show_with_bars.new.controls c.scroll_by-scrolled.new.self
-    (λ o slots cs kept. judged _ list_loan lines.list t m spot is x read (asks.DeleteRows lines) (λ y. delete_refusals y.cells.rows lines.count lines.at) (λ desk cs state. refl) o slots cs kept ∙ allowed)
+    (λ o slots cs kept. judged _ list_loan lines.list t m spot is x read (asks.DeleteRows lines) (λ y. delete_refusals y.kept.cells.rows lines.count lines.at) (λ desk cs state. refl) o slots cs kept ∙ allowed)
     (λ before after same done. (refl, done))
     (relined_over _ list_loan lines.list t m c.scroll_by-scrolled.new.self spot (with_rows_fewer lines.count lines.at)
     (rows_fewer_change _ list_loan lines.list t m spot is x read c.delete_rows.new.self lines.count lines.at c.scroll_by-scrolled.new.self c.scroll_by-scrolled.ensures.lists c.scroll_by-scrolled.ensures.next now allowed) _ c.rows_from-within.result

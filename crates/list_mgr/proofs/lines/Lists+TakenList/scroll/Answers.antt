@@ -9,7 +9,7 @@ use Rattle.list_mgr.proofs.LinesAnswered.{relined_lines}
 use Rattle.list_mgr.proofs.LinesGiven.{scroll_agrees, scroll_change}
 use Rattle.list_mgr.proofs.Relined.{beside_changed, mark_changed, relined_over, spot_changed}
 use Rattle.list_mgr.proofs.Steps.{nothing_missing}
-use Rattle.list_records.specs.Seen.{seen}
+use Rattle.list_mgr.specs.Seen.{seen}
 use Rattle.list_mgr.specs.WholeLists.{IsSettledList}
 use Rattle.list_mgr.specs.Within.{IsSameOutside}
 use Rattle.list_mgr.proofs.Outside.{view_outside}

@@ -1,4 +1,4 @@
-use Rattle.std.proofs.Common.{◌≡◌, nat_abs, rules, ap}
+use Rattle.std.proofs.Common.{◌≡◌, nat_abs, rules, ap, arith}
 use Rattle.std.specs.Option.{is_some}
 use Rattle.def_iface.specs.contracts.taken_control.TakenControlDefinedControl.TheImpl as control
 use Rattle.list_cells.specs.Grids.{empty_grid}
@@ -47,6 +47,6 @@ returns-clause-planned g c =
     (put.bar_is _ _ _ c.args.new.now c.args.ticket.now ((control.control_loan-value g.dyn-3).it c.args.taken.now) c.args.windows.now c.args.controls.now c.args.self.now c.requires.kept c.requires.took c.requires.lists c.requires.ticket
     c.wanted_bar-bar.result c.args.ticket.now.view c.in_ok-cells.cells c.requires.ticket.ticket.view made c.wanted_bar-bar.ensures)
     c.unwrap.result c.unwrap.ensures c.ticket-given.result c.ticket-given.ensures c.control-control.result c.control-control.ensures
-    c.reserve.new.self (record { alloc = c.args.self.now.alloc; list = c.reserve-2.new.self }) c.reserve.ensures.same c.in_ok-reserve.ensures.made c.in_ok-reserve-2.ensures.made
+    c.reserve.new.self (record { alloc = c.args.self.now.alloc; list = c.reserve-2.new.self }) c.reserve.ensures.same c.in_ok-reserve.ensures.made (let made = c.in_ok-reserve-2.ensures.made in omega (arith, made))
     c.at.result.now lies c.area.result.now c.area.ensures c.in_ok-addition.addition c.in_ok-addition.ensures.grown c.in_ok-addition.ensures.planned
     (record { cells = c.in_ok-cells.cells; laid = c.in_ok-laid.laid }) made c.in_ok-laid.ensures

@@ -87,6 +87,6 @@ returns-clause-planned g c =
     (bars.second_is _ _ _ c.args.new.now c.args.ticket.now ((control.control_loan-value g.dyn-3).it c.args.vertical.now) ((control.control_loan-value g.dyn-3).it c.args.horizontal.now) c.args.windows.now c.args.controls.now c.args.self.now
     c.requires.kept c.requires.took c.requires.lists c.requires.ticket c.horizontal_bar-second.result c.args.ticket.now.view c.in_ok-cells.cells c.requires.ticket.ticket.view made c.horizontal_bar-second.ensures)
     c.ticket-given-2.result c.ticket-given-2.ensures c.control-control-2.result c.control-control-2.ensures
-    c.reserve.new.self (record { alloc = c.args.self.now.alloc; list = c.reserve-2.new.self }) c.reserve.ensures.same c.in_ok-reserve.ensures.made c.in_ok-reserve-2.ensures.made
+    c.reserve.new.self (record { alloc = c.args.self.now.alloc; list = c.reserve-2.new.self }) c.reserve.ensures.same c.in_ok-reserve.ensures.made (let made = c.in_ok-reserve-2.ensures.made in omega (arith, made))
     c.area.result.now c.area.ensures c.in_ok-one.ensures.planned c.in_ok-two.two c.in_ok-two.ensures.grown c.in_ok-two.ensures.planned
     (record { cells = c.in_ok-cells.cells; laid = c.in_ok-laid.laid }) made c.in_ok-laid.ensures

@@ -16,7 +16,7 @@ commit_layers-requires-clause-whole g c =
     let list_loan = (list.list_loan-value g.dyn-1).it in
     let begun = list_loan c.begin.new.self in
     subst AreSettled
-    (sym (putting.pushed list_loan c.args.self.now c.push.new.self.lists.items _ _ c.push.ensures.lists
+    (sym (putting.pushed list_loan c.args.self.now c.push.new.self.items.items _ _ c.push.ensures.items
     (putting.list_seen list_loan c.args.new.now c.args.ticket.now c.args.planned.cells c.args.bars.vertical c.args.bars.horizontal c.begin.new.self (list_loan c.args.taken).slot c.requires.ready.place.view c.requires.ready.cells c.begin.ensures.slot)))
     (putting.settled_put _ list_loan c.args.new.now c.args.ticket.now c.args.windows.now c.args.self.now c.args.planned c.requires.ready c.args.bars.vertical c.args.bars.horizontal
     (list_loan c.args.taken).definition begun.definition (list_loan c.args.taken).slot c.begin.ensures.begun c.requires.beside)
@@ -28,6 +28,6 @@ returns g c =
     putting.put_over _ list_loan c.args.new.now c.args.ticket.now c.args.windows.now c.args.self.now c.args.planned c.requires.ready c.args.bars.vertical c.args.bars.horizontal
     (list_loan c.args.taken).definition begun.definition (list_loan c.args.taken).slot c.begin.ensures.begun
     c.commit_layers.new.self (record { alloc = c.args.self.now.alloc; list = c.push.new.self })
-    (putting.pushed list_loan c.args.self.now c.push.new.self.lists.items _ _ c.push.ensures.lists
+    (putting.pushed list_loan c.args.self.now c.push.new.self.items.items _ _ c.push.ensures.items
     (putting.list_seen list_loan c.args.new.now c.args.ticket.now c.args.planned.cells c.args.bars.vertical c.args.bars.horizontal c.begin.new.self (list_loan c.args.taken).slot c.requires.ready.place.view c.requires.ready.cells c.begin.ensures.slot))
     c.push.ensures.next c.commit_layers.ensures.set

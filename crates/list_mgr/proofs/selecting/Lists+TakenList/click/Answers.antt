@@ -49,16 +49,16 @@ returns-in_default-cell_at g c =
     let range : SFits w32 k.modifiers = search rules in
     let word : is_word k.modifiers ≡ true = a_word k.modifiers (subst (FitsUnsignedBits 16) (to_z-of_z w32 k.modifiers range) c.in-Ok.ensures.0) in
     clicked_none _ _ k c.args.windows.now c.args.self.now c.in_ok-spot.spot c.in_ok-spot.ensures x c.index-list.ensures (sym c.if-not-is_in_range.ensures) word
-    (sym (c.in_default-cell_at.ensures ∙ (λ i. cell_at (c.columns.ensures.columns i) (c.rows.ensures.rows i) x.view k.point)))
+    (sym (c.in_default-cell_at.ensures ∙ (λ i. cell_at (c.columns.ensures.columns i) (c.rows.ensures.rows i) x.kept.view k.point)))
 
 pub unwrap-selecting-requires : goal.unwrap-selecting-requires
 unwrap-selecting-requires g c =
     let k = c.args.clicked in
     let x = c.index-list.result.now in
-    let some : cell_at x.cells.columns x.cells.rows x.view k.point ≡ Some c.in-Some.cell =
-    sym (c.in-Some.ensures ∙ (λ i. cell_at (c.columns.ensures.columns i) (c.rows.ensures.rows i) x.view k.point)) in
-    let settled = settled_there (list.list_loan-value g.dyn-1).it c.args.self.now.list.lists.items c.in_ok-spot.spot.list x c.in_ok-spot.ensures.low c.index-list.ensures c.requires.beside.whole.settled in
-    c.clicking.ensures.found ∙ found_is_cell x.view x.cells c.in-Some.cell k.point settled.view some
+    let some : cell_at x.kept.cells.columns x.kept.cells.rows x.kept.view k.point ≡ Some c.in-Some.cell =
+    sym (c.in-Some.ensures ∙ (λ i. cell_at (c.columns.ensures.columns i) (c.rows.ensures.rows i) x.kept.view k.point)) in
+    let settled = settled_there (list.list_loan-value g.dyn-1).it c.args.self.now.list.items.items c.in_ok-spot.spot.list x c.in_ok-spot.ensures.low c.index-list.ensures c.requires.beside.whole.settled in
+    c.clicking.ensures.found ∙ found_is_cell x.kept.view x.kept.cells c.in-Some.cell k.point settled.view some
 
 pub returns-in_err-mark : goal.returns-in_err-mark
 returns-in_err-mark g c =
@@ -83,19 +83,19 @@ returns g c =
     let read = c.index_mut.ensures.value in
     let range : SFits w32 k.modifiers = search rules in
     let word : is_word k.modifiers ≡ true = a_word k.modifiers (subst (FitsUnsignedBits 16) (to_z-of_z w32 k.modifiers range) c.in-Ok.ensures.0) in
-    let same : was ≡ x = one_item m.list.lists.items spot.list was x is.low c.index-list.ensures read in
+    let same : was ≡ x = one_item m.list.items.items spot.list was x is.low c.index-list.ensures read in
     let keys : c.of_modifiers-keys.result ≡ keys_of (nat_abs k.modifiers) = c.of_modifiers-keys.ensures ∙ ap keys_of (c.in-Ok.ensures.1 ∙ ap nat_abs (to_z-of_z w32 k.modifiers range)) in
-    let some : cell_at was.cells.columns was.cells.rows was.view k.point ≡ Some cell =
-    sym (c.in-Some.ensures ∙ (λ i. cell_at (c.columns.ensures.columns i) (c.rows.ensures.rows i) was.view k.point)) in
-    let settled = settled_there (list.list_loan-value g.dyn-1).it m.list.lists.items spot.list was is.low c.index-list.ensures c.requires.beside.whole.settled in
-    let has : is_cell x.cells cell ≡ true = ap (λ z. is_cell z.cells cell) (sym same) ∙ found_is_cell was.view was.cells cell k.point settled.view some in
-    let now : c.click-clicked.new.self ≡ clicked_cell x.flags (keys_of (nat_abs k.modifiers)) cell x.cells =
-    c.click-clicked.ensures.cells ∙ ap (λ b. if b then clicked_cell was.flags c.of_modifiers-keys.result cell x.cells else x.cells) has
-    ∙ (λ i. clicked_cell (same i).flags (keys i) cell x.cells) in
-    let said : IsSelecting x.cells (clicked_cell x.flags (keys_of (nat_abs k.modifiers)) cell x.cells) c.unwrap-selecting.result =
-    subst (λ z. IsSelecting z.cells (clicked_cell z.flags (keys_of (nat_abs k.modifiers)) cell z.cells) c.unwrap-selecting.result) same
-    (subst (λ q. IsSelecting was.cells (clicked_cell was.flags q cell was.cells) c.unwrap-selecting.result) keys
-    (subst (λ o. IfSome o (λ s. IsSelecting was.cells (clicked_cell was.flags c.of_modifiers-keys.result cell was.cells) s)) c.unwrap-selecting.ensures c.clicking.ensures.after)) in
+    let some : cell_at was.kept.cells.columns was.kept.cells.rows was.kept.view k.point ≡ Some cell =
+    sym (c.in-Some.ensures ∙ (λ i. cell_at (c.columns.ensures.columns i) (c.rows.ensures.rows i) was.kept.view k.point)) in
+    let settled = settled_there (list.list_loan-value g.dyn-1).it m.list.items.items spot.list was is.low c.index-list.ensures c.requires.beside.whole.settled in
+    let has : is_cell x.kept.cells cell ≡ true = ap (λ z. is_cell z.kept.cells cell) (sym same) ∙ found_is_cell was.kept.view was.kept.cells cell k.point settled.view some in
+    let now : c.click-clicked.new.self ≡ clicked_cell x.kept.flags (keys_of (nat_abs k.modifiers)) cell x.kept.cells =
+    c.click-clicked.ensures.cells ∙ ap (λ b. if b then clicked_cell was.kept.flags c.of_modifiers-keys.result cell x.kept.cells else x.kept.cells) has
+    ∙ (λ i. clicked_cell (same i).kept.flags (keys i) cell x.kept.cells) in
+    let said : IsSelecting x.kept.cells (clicked_cell x.kept.flags (keys_of (nat_abs k.modifiers)) cell x.kept.cells) c.unwrap-selecting.result =
+    subst (λ z. IsSelecting z.kept.cells (clicked_cell z.kept.flags (keys_of (nat_abs k.modifiers)) cell z.kept.cells) c.unwrap-selecting.result) same
+    (subst (λ q. IsSelecting was.kept.cells (clicked_cell was.kept.flags q cell was.kept.cells) c.unwrap-selecting.result) keys
+    (subst (λ o. IfSome o (λ s. IsSelecting was.kept.cells (clicked_cell was.kept.flags c.of_modifiers-keys.result cell was.kept.cells) s)) c.unwrap-selecting.ensures c.clicking.ensures.after)) in
     clicked_on _ (list.list_loan-value g.dyn-1).it k t m spot is was c.index-list.ensures (sym c.if-not-is_in_range.ensures) word cell some c.toggle.new.windows (with_cells_there _ (list.list_loan-value g.dyn-1).it k.list t m spot is x read c.click-clicked.new.self)
     (selected_so _ (list.list_loan-value g.dyn-1).it k.list t m spot is x read (λ (flags : SelectionFlags). clicked_cell flags (keys_of (nat_abs k.modifiers)) cell) c.click-clicked.new.self now c.unwrap-selecting.result said
-    (λ only few. clicked_single x.flags (keys_of (nat_abs k.modifiers)) cell x.cells only) c.in_ok-mark.mark c.in_ok-mark.ensures c.toggle.new.windows c.toggle.ensures)
+    (λ only few. clicked_single x.kept.flags (keys_of (nat_abs k.modifiers)) cell x.kept.cells only) c.in_ok-mark.mark c.in_ok-mark.ensures c.toggle.new.windows c.toggle.ensures)

@@ -4,7 +4,7 @@ use Rattle.def_iface.specs.contracts.taken_list.TakenListDefinedList.TheImpl as 
 use Rattle.list_cells.specs.declared.click.SelectionFlags.{SelectionFlags}
 use Rattle.list_cells.specs.Grids.{is_cell}
 use Rattle.list_cells.specs.Selections.{IsSelecting, chosen_cell}
-use Rattle.list_records.specs.Seen.{seen}
+use Rattle.list_mgr.specs.Seen.{seen}
 use Rattle.desk_call.specs.declared.list.ListCall.TheVariants as asks
 use Rattle.desk_call.specs.declared.list.ListReply.TheVariants as reply
 use Rattle.control_mgr.proofs.Lays.{one_item}
@@ -38,15 +38,15 @@ returns g c =
     let was = c.index-list.result.now in
     let x = c.index_mut.result.now in
     let read = c.index_mut.ensures.value in
-    let same : was ≡ x = one_item m.list.lists.items spot.list was x is.low c.index-list.ensures read in
-    let has : is_cell x.cells cell ≡ true = sym c.in_ok-select.ensures.found in
-    let now : c.select.new.self ≡ chosen_cell cell chosen.selected x.flags.only_one x.cells =
-    c.in_ok-select.ensures.cells ∙ ap (λ b. if b then chosen_cell cell chosen.selected was.flags.only_one x.cells else x.cells) has
-    ∙ ap (λ z. chosen_cell cell chosen.selected z.flags.only_one x.cells) same in
-    let said : IsSelecting x.cells (chosen_cell cell chosen.selected x.flags.only_one x.cells) c.in-Some.selecting =
-    subst (λ z. IsSelecting z.cells (chosen_cell cell chosen.selected z.flags.only_one z.cells) c.in-Some.selecting) same c.in-Some.ensures.after in
+    let same : was ≡ x = one_item m.list.items.items spot.list was x is.low c.index-list.ensures read in
+    let has : is_cell x.kept.cells cell ≡ true = sym c.in_ok-select.ensures.found in
+    let now : c.select.new.self ≡ chosen_cell cell chosen.selected x.kept.flags.only_one x.kept.cells =
+    c.in_ok-select.ensures.cells ∙ ap (λ b. if b then chosen_cell cell chosen.selected was.kept.flags.only_one x.kept.cells else x.kept.cells) has
+    ∙ ap (λ z. chosen_cell cell chosen.selected z.kept.flags.only_one x.kept.cells) same in
+    let said : IsSelecting x.kept.cells (chosen_cell cell chosen.selected x.kept.flags.only_one x.kept.cells) c.in-Some.selecting =
+    subst (λ z. IsSelecting z.kept.cells (chosen_cell cell chosen.selected z.kept.flags.only_one z.kept.cells) c.in-Some.selecting) same c.in-Some.ensures.after in
     changed_as _ (list.list_loan-value g.dyn-1).it t c.toggle.new.windows m (with_cells_there _ (list.list_loan-value g.dyn-1).it chosen.cell.list t m spot is x read c.select.new.self) (IsSelectionChanged chosen.cell.list (λ (flags : SelectionFlags). chosen_cell cell chosen.selected flags.only_one)) (IsListStep (asks.Select chosen) (Ok reply.Done))
     (λ o slots cs kept done.
     (cell_there _ _ chosen.cell.list t m spot is cell (seen (list.list_loan-value g.dyn-1).it x) (list_read _ _ chosen.cell.list t m spot is x read) has, (refl, done)))
     (selected_so _ (list.list_loan-value g.dyn-1).it chosen.cell.list t m spot is x read (λ (flags : SelectionFlags). chosen_cell cell chosen.selected flags.only_one) c.select.new.self now c.in-Some.selecting said
-    (chosen_single x.flags.only_one x.cells cell chosen.selected) c.in_ok-mark.mark c.in_ok-mark.ensures c.toggle.new.windows c.toggle.ensures)
+    (chosen_single x.kept.flags.only_one x.kept.cells cell chosen.selected) c.in_ok-mark.mark c.in_ok-mark.ensures c.toggle.new.windows c.toggle.ensures)

@@ -5,7 +5,7 @@ use Rattle.def_iface.specs.declared.part.Part.TheVariants as part
 use Rattle.list_cells.specs.Selections.{IsChange, selected_by}
 use Rattle.list_cells.proofs.SelectionLemmas.{selecting_by}
 use Rattle.list_paint.specs.Shown.{is_turned}
-use Rattle.list_records.specs.Seen.{seen}
+use Rattle.list_mgr.specs.Seen.{seen}
 use Rattle.window_mgr.proofs.Remarked.{area_there}
 use Rattle.control_mgr.proofs.Places.{read_is, there_is}
 use Rattle.list_mgr.specs.Changing.{IsMark, IsToggledAs, IsToggledOrMarked}
@@ -37,7 +37,7 @@ returns-in-None g c =
     subst (λ o. IsToggledOrMarked list_loan loan o c.args.selecting s m t c.toggle_layer.new.self) (sym c.in-None.is)
     (of_read loan list_loan spot.of t m s spot.is x c.index-list.ensures (λ y. IsToggledAs list_loan loan None c.args.selecting s y t c.toggle_layer.new.self)
     (toggled_by loan list_loan t m s spot (seen list_loan x) (list_read loan list_loan spot.of t m s spot.is x c.index-list.ensures) c.layer-layer.result c.layer-layer.ensures
-    (λ font. is_turned font (list_loan x.definition).definition x.view x.cells (selected_by c.args.selecting x.cells)) c.toggle_layer.new.self c.toggle_layer.ensures))
+    (λ font. is_turned font (list_loan x.kept.definition).definition x.kept.view x.kept.cells (selected_by c.args.selecting x.kept.cells)) c.toggle_layer.new.self c.toggle_layer.ensures))
 
 pub returns-then-changes_by : goal.returns-then-changes_by
 returns-then-changes_by g c =
@@ -52,7 +52,7 @@ returns-then-changes_by g c =
     subst (λ o. IsToggledOrMarked list_loan loan o c.args.selecting s m t c.set_update.new.self) (sym c.in-Some.is)
     (of_read loan list_loan spot.of t m s spot.is x c.index-list.ensures (λ y. IsToggledAs list_loan loan (Some c.in-Some.update) c.args.selecting s y t c.set_update.new.self) (
       true,
-      subst (λ b. IsChange b x.cells (selected_by c.args.selecting x.cells)) c.if-changes_by.true (c.changes_by.ensures (selected_by c.args.selecting x.cells) (selecting_by x.cells c.args.selecting)),
+      subst (λ b. IsChange b x.kept.cells (selected_by c.args.selecting x.kept.cells)) c.if-changes_by.true (c.changes_by.ensures (selected_by c.args.selecting x.kept.cells) (selecting_by x.kept.cells c.args.selecting)),
       marked_by loan list_loan t m s spot (seen list_loan x) (list_read loan list_loan spot.of t m s spot.is x c.index-list.ensures) c.in-Some.update mark.1
           (area_there loan t c.requires.kept s.window spot.is.window.0) c.set_update.new.self c.set_update.ensures,
     ))
@@ -68,4 +68,4 @@ returns-else-changes_by g c =
     let x = c.index-list.result.now in
     subst (λ o. IsToggledOrMarked list_loan loan o c.args.selecting s m t t) (sym c.in-Some.is)
     (of_read loan list_loan spot.of t m s spot.is x c.index-list.ensures (λ y. IsToggledAs list_loan loan (Some c.in-Some.update) c.args.selecting s y t t)
-    (false, subst (λ b. IsChange b x.cells (selected_by c.args.selecting x.cells)) c.if-changes_by.false (c.changes_by.ensures (selected_by c.args.selecting x.cells) (selecting_by x.cells c.args.selecting)), refl))
+    (false, subst (λ b. IsChange b x.kept.cells (selected_by c.args.selecting x.kept.cells)) c.if-changes_by.false (c.changes_by.ensures (selected_by c.args.selecting x.kept.cells) (selecting_by x.kept.cells c.args.selecting)), refl))

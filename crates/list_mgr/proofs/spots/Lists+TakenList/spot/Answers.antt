@@ -3,8 +3,8 @@ use Rattle.std.specs.Prelude.{is_none}
 use Rattle.std.proofs.lemmas.Bool.{eq-eqb}
 use Rattle.tb_geom.specs.declared.refusal.Refusal.TheVariants.{NoSuchList, NoSuchWindow}
 use Rattle.tb_geom.specs.Refusals.{first_refusal}
-use Rattle.list_records.specs.Lists.{list_index}
-use Rattle.list_records.proofs.SeenLemmas.{list_index-seen}
+use Rattle.window_items.specs.Items.{item_index}
+use Rattle.window_items.proofs.SeenLemmas.{item_index-seen}
 use Rattle.def_iface.specs.declared.taken.Taken.{Taken}
 use Rattle.def_iface.specs.declared.taken_list.TakenList.{TakenList}
 use Rattle.def_iface.specs.ListMeaning.{ListLoan}
@@ -26,6 +26,7 @@ use Rattle.list_mgr.specs.WholeLists.{records_of}
 use Rattle.def_iface.specs.contracts.taken.TakenDefined.TheImpl as window
 use Rattle.def_iface.specs.contracts.taken_list.TakenListDefinedList.TheImpl as list
 use Rattle.list_mgr.proofs.spots.Lists+TakenList.spot.Goals as goal
+use Rattle.list_mgr.specs.Seen.{kept_seen}
 
 module _ {V : Type 0} {H : V → Type 0} (loan : Taken V H → Loan) where
   -- a window that stands somewhere is not missing
@@ -39,11 +40,11 @@ module _ {V : Type 0} {H : V → Type 0} (loan : Taken V H → Loan) where
       by_test false rest = rest
 
   module _ {X : Type 0} {L : X → Type 0} (list_loan : TakenList X L → ListLoan) (c : ListOf) (t : WindowManager V H) (m : Lists (TakenList X L)) where
-    seen_there : (o : Option ℕ) → o ≡ list_index c.window c.list m.list.lists.items → index_of c (records_of list_loan m) ≡ o
-    seen_there o found = list_index-seen list_loan c.window c.list m.list.lists.items ∙ sym found
+    seen_there : (o : Option ℕ) → o ≡ item_index c.window c.list m.list.items.items → index_of c (records_of list_loan m) ≡ o
+    seen_there o found = item_index-seen (kept_seen list_loan) c.window c.list m.list.items.items ∙ sym found
 
     -- both were found
-    spot_of : (s : Spot) → StandsAt t.windows.records.items c.window s.window → Some s.list ≡ list_index c.window c.list m.list.lists.items → s.list < length m.list.lists.items
+    spot_of : (s : Spot) → StandsAt t.windows.records.items c.window s.window → Some s.list ≡ item_index c.window c.list m.list.items.items → s.list < length m.list.items.items
         → IsSpotOf loan list_loan c t m s
     spot_of s window found low = record {
       window = window;
@@ -53,7 +54,7 @@ module _ {V : Type 0} {H : V → Type 0} (loan : Taken V H → Loan) where
     }
 
     -- the window has no such list
-    no_list : (i : ℕ) → StandsAt t.windows.records.items c.window i → None ≡ list_index c.window c.list m.list.lists.items
+    no_list : (i : ℕ) → StandsAt t.windows.records.items c.window i → None ≡ item_index c.window c.list m.list.items.items
         → first_refusal (missing_refusals c (desk_of loan t []) (records_of list_loan m)) ≡ Some NoSuchList
     no_list i window found =
         (λ j. if stands_there t.windows.records.items c.window i window j then Some NoSuchWindow else first_refusal ((is_none (index_of c (records_of list_loan m)), NoSuchList) ∷ []))

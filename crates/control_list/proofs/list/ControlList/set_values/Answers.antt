@@ -1,7 +1,0 @@
-use Rattle.control_list.specs.Lists.{with_values}
-use Rattle.control_list.proofs.ListLemmas.{set_is_edit}
-use Rattle.control_list.proofs.list.ControlList.set_values.Goals as goal
-
-pub returns-clause-controls : goal.returns-clause-controls
-returns-clause-controls g c =
-    set_is_edit (with_values c.args.values) c.args.self.now.controls.items c.args.at c.index_mut.result.now c.index_mut.ensures.value

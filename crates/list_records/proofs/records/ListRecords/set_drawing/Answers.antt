@@ -1,7 +1,0 @@
-use Rattle.list_records.specs.Lists.{with_drawing}
-use Rattle.list_records.proofs.ListLemmas.{set_is_edit}
-use Rattle.list_records.proofs.records.ListRecords.set_drawing.Goals as goal
-
-pub returns-clause-lists : goal.returns-clause-lists
-returns-clause-lists g c =
-    set_is_edit (with_drawing c.args.drawing) c.args.self.now.lists.items c.args.at c.index_mut.result.now c.index_mut.ensures.value
