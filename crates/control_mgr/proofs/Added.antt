@@ -17,13 +17,13 @@ use Rattle.def_iface.specs.declared.taken_control.TakenControl.{TakenControl}
 use Rattle.def_iface.specs.ControlMeaning.{ControlDefinition, ControlLoan}
 use Rattle.def_iface.specs.Desk.{same_part}
 use Rattle.def_iface.specs.Meaning.{Loan}
-use Rattle.layer_list.specs.declared.layer.Layer.{Layer}
-use Rattle.layer_list.specs.declared.layer.Shape.{Shape}
-use Rattle.layer_list.specs.declared.layers.Relaid.{Relaid}
-use Rattle.layer_list.specs.Changes.{is_gained}
-use Rattle.layer_list.specs.Holders.{ArePartsApart, IsLayerAt, PlacedLayers, fits_at}
+use Rattle.window_list.specs.declared.layer.Layer.{Layer}
+use Rattle.window_list.specs.declared.layer.LayerShape.{LayerShape}
+use Rattle.window_list.specs.declared.layers.Relaid.{Relaid}
+use Rattle.window_list.specs.LayerChanges.{is_gained}
+use Rattle.window_list.specs.Holders.{ArePartsApart, IsLayerAt, PlacedLayers, fits_at}
 use Rattle.desk_call.specs.declared.control.NewControl.{NewControl}
-use Rattle.desk_call.specs.declared.update.Layers.TheVariants as kinds
+use Rattle.desk_call.specs.declared.update.LayerKind.TheVariants as kinds
 use Rattle.vis_update.specs.declared.relaying.Relaying.{Relaying}
 use Rattle.window_list.specs.declared.window.Window.{Window}
 use Rattle.window_paint.specs.Kinds.{is_of}
@@ -77,7 +77,7 @@ abbrev pub lie_of : NewControl → Lie
 lie_of n = record { place = n.place; size = n.size; shown = n.shown }
 
 -- its layer
-abbrev pub layer_with : ℕ → Shape → Layer
+abbrev pub layer_with : ℕ → LayerShape → Layer
 layer_with serial shape = record { part = part.Control serial; shown = shape.shown; region = shape.region; bounds = shape.bounds }
 
 -- ---- a control that is planned
@@ -89,7 +89,7 @@ module _ (n : NewControl) (d : ControlDefinition) (k : Ticket) (ls : PlacedLayer
   pub grow_so : MayLieSo d (lie_of n)
   grow_so = grow_at.so
 
-  module _ (shape : Shape) (shaped : IsShapeOf d (lie_of n) shape) where
+  module _ (shape : LayerShape) (shaped : IsShapeOf d (lie_of n) shape) where
     abbrev own : Layer
     own = layer_with k.serial shape
 

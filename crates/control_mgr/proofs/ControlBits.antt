@@ -15,9 +15,9 @@ use Rattle.def_iface.specs.declared.part.Part.TheVariants as part
 use Rattle.def_iface.specs.Desk as layers
 use Rattle.def_iface.specs.Owner.{Owner, content_bit, is_content, layer_bit, owner, owner_among, own_bit}
 use Rattle.def_iface.specs.Owner.Owner.{Desktop, Bar, Frame, Content}
-use Rattle.layer_list.specs.declared.layer.Layer.{Layer}
-use Rattle.layer_list.specs.Holders.{layer_has, part_at}
-use Rattle.desk_call.specs.declared.update.Layers.TheVariants.{Controls}
+use Rattle.window_list.specs.declared.layer.Layer.{Layer}
+use Rattle.window_list.specs.Holders.{layer_has, part_at}
+use Rattle.desk_call.specs.declared.update.LayerKind.TheVariants.{Controls}
 use Rattle.vis_update.specs.Records.{Look, WindowRecord, layered_window, picture_layer}
 use Rattle.vis_update.specs.Relayings.{with_layers_of}
 use Rattle.vis_update.proofs.LayerOwners.{owner_first}

@@ -18,12 +18,12 @@ use Rattle.def_iface.specs.ControlMeaning.{ControlDefinition, ControlLoan}
 use Rattle.def_iface.specs.Meaning.{Loan}
 use Rattle.def_iface.specs.Slots.{is_left}
 use Rattle.def_iface.specs.Stocked.{SlotView}
-use Rattle.layer_list.specs.declared.layer.Layer.{Layer}
-use Rattle.layer_list.specs.Holders.{PlacedLayers}
+use Rattle.window_list.specs.declared.layer.Layer.{Layer}
+use Rattle.window_list.specs.Holders.{PlacedLayers}
 use Rattle.desk_call.specs.declared.control.ControlCall.TheVariants.{Dispose}
 use Rattle.desk_call.specs.declared.control.ControlOf.{ControlOf}
 use Rattle.desk_call.specs.declared.control.ControlReply.TheVariants.{Done}
-use Rattle.desk_call.specs.declared.update.Layers.TheVariants as kinds
+use Rattle.desk_call.specs.declared.update.LayerKind.TheVariants as kinds
 use Rattle.vis_update.specs.Records.{WindowRecord}
 use Rattle.vis_update.specs.Relayings.{with_layers_of}
 use Rattle.window_list.specs.declared.window.Window.{Window}

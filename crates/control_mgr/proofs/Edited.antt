@@ -8,10 +8,10 @@ use Rattle.window_items.specs.Items.{edit_at}
 use Rattle.def_iface.specs.declared.part.Part.{Part}
 use Rattle.def_iface.specs.declared.part.Part.TheVariants as part
 use Rattle.def_iface.specs.Desk.{same_part}
-use Rattle.layer_list.specs.Changes.{reshaped, with_shape}
-use Rattle.layer_list.specs.declared.layer.Layer.{Layer}
-use Rattle.layer_list.specs.declared.layer.Shape.{Shape}
-use Rattle.desk_call.specs.declared.update.Layers.TheVariants.{Controls}
+use Rattle.window_list.specs.LayerChanges.{reshaped, with_shape}
+use Rattle.window_list.specs.declared.layer.Layer.{Layer}
+use Rattle.window_list.specs.declared.layer.LayerShape.{LayerShape}
+use Rattle.desk_call.specs.declared.update.LayerKind.TheVariants.{Controls}
 use Rattle.window_paint.specs.Kinds.{is_of}
 use Rattle.control_mgr.specs.ControlSteps.{behind_controls}
 
@@ -57,7 +57,7 @@ module _ {D : Type 0} (R : Item D → Layer → Type 0) (Rest : List Layer → T
   begin_edit g zero (x ∷ xs) (l ∷ ls) h new = (new x l refl h.0, h.1)
   begin_edit g (suc i) (x ∷ xs) (l ∷ ls) h new = (h.0, begin_edit g i xs ls h.1 new)
 
-  pub begin_reshape : (g : Item D → Item D) (shape : Shape) (i : ℕ) (xs : List (Item D)) (ls : List Layer) → i < length xs → BeginWith R Rest xs ls
+  pub begin_reshape : (g : Item D → Item D) (shape : LayerShape) (i : ℕ) (xs : List (Item D)) (ls : List Layer) → i < length xs → BeginWith R Rest xs ls
       → ((x : Item D) (l : Layer) → slice_get xs i ≡ Some x → R x l → R (g x) (with_shape shape l)) → BeginWith R Rest (edit_at g i xs) (reshaped shape i ls)
   begin_reshape g shape i [] ls low h new = absurd (omega arith)
   begin_reshape g shape i (x ∷ xs) [] low h new = absurd h
@@ -77,7 +77,7 @@ no_control (part.List m) n e = refl
 no_control (part.Control m) n e = absurd (true≢false e)
 
 -- where a control's layer is changed, taken out or put in, those behind the controls stay
-pub behind_reshaped : (shape : Shape) (i : ℕ) (ls : List Layer) (l : Layer) → slice_get ls i ≡ Some l → is_of Controls l.part ≡ true → behind_controls (reshaped shape i ls) ≡ behind_controls ls
+pub behind_reshaped : (shape : LayerShape) (i : ℕ) (ls : List Layer) (l : Layer) → slice_get ls i ≡ Some l → is_of Controls l.part ≡ true → behind_controls (reshaped shape i ls) ≡ behind_controls ls
 behind_reshaped shape i [] l there its = refl
 behind_reshaped shape zero (k ∷ ks) l there its =
     let same : k ≡ l = cc in

@@ -14,11 +14,11 @@ use Rattle.def_iface.specs.declared.part.Part.TheVariants as part
 use Rattle.def_iface.specs.declared.taken.Taken.{Taken}
 use Rattle.def_iface.specs.Desk.{same_part}
 use Rattle.def_iface.specs.Meaning.{Loan}
-use Rattle.layer_list.specs.declared.layer.Layer.{Layer}
-use Rattle.layer_list.specs.declared.layers.Relaid.{Relaid}
-use Rattle.layer_list.specs.Changes.{is_gained}
-use Rattle.layer_list.specs.Holders.{ArePartsApart, PlacedLayers, fits_at}
-use Rattle.layer_list.proofs.Parts.{front_apart, same_part-turned}
+use Rattle.window_list.specs.declared.layer.Layer.{Layer}
+use Rattle.window_list.specs.declared.layers.Relaid.{Relaid}
+use Rattle.window_list.specs.LayerChanges.{is_gained}
+use Rattle.window_list.specs.Holders.{ArePartsApart, PlacedLayers, fits_at}
+use Rattle.window_list.proofs.Parts.{front_apart, same_part-turned}
 use Rattle.vis_update.specs.declared.relaying.Relaying.{Relaying}
 use Rattle.window_list.specs.declared.window.Window.{Window}
 use Rattle.window_mgr.specs.declared.manager.WindowManager.{WindowManager}

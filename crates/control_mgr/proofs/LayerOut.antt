@@ -8,9 +8,9 @@ use Rattle.tb_geom.specs.Pixels.{Pixels, holds}
 use Rattle.def_iface.specs.declared.part.Part.{Part}
 use Rattle.def_iface.specs.declared.taken.Taken.{Taken}
 use Rattle.def_iface.specs.Meaning.{Loan}
-use Rattle.layer_list.specs.Changes.{is_gained}
-use Rattle.layer_list.specs.Holders.{ArePartsApart, PlacedLayers, fits_at}
-use Rattle.layer_list.proofs.Parts.{remove_apart}
+use Rattle.window_list.specs.LayerChanges.{is_gained}
+use Rattle.window_list.specs.Holders.{ArePartsApart, PlacedLayers, fits_at}
+use Rattle.window_list.proofs.Parts.{remove_apart}
 use Rattle.vis_update.specs.declared.relaying.Relaying.{Relaying}
 use Rattle.window_list.specs.declared.window.Window.{Window}
 use Rattle.window_mgr.specs.declared.manager.WindowManager.{WindowManager}

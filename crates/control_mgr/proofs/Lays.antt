@@ -20,14 +20,14 @@ use Rattle.def_iface.specs.declared.taken_control.TakenControl.{TakenControl}
 use Rattle.def_iface.specs.ControlMeaning.{ControlDefinition, ControlLoan, SameControlRegions, is_control_size}
 use Rattle.def_iface.specs.Meaning.{Loan}
 use Rattle.def_iface.specs.Stocked.{SlotView}
-use Rattle.layer_list.specs.declared.layer.Layer.{Layer}
-use Rattle.layer_list.specs.declared.layer.Shape.{Shape}
-use Rattle.layer_list.specs.declared.layers.Relaid.{Relaid}
-use Rattle.layer_list.specs.Changes.{is_gained, reshaped, with_shape}
-use Rattle.layer_list.specs.Holders.{ArePartsApart, IsLayerAt, PlacedLayers, fits_at}
-use Rattle.layer_list.proofs.Parts.{reshaped_apart, reshaped_length, reshaped_part}
+use Rattle.window_list.specs.declared.layer.Layer.{Layer}
+use Rattle.window_list.specs.declared.layer.LayerShape.{LayerShape}
+use Rattle.window_list.specs.declared.layers.Relaid.{Relaid}
+use Rattle.window_list.specs.LayerChanges.{is_gained, reshaped, with_shape}
+use Rattle.window_list.specs.Holders.{ArePartsApart, IsLayerAt, PlacedLayers, fits_at}
+use Rattle.window_list.proofs.Parts.{reshaped_apart, reshaped_length, reshaped_part}
 use Rattle.desk_call.specs.declared.control.ControlOf.{ControlOf}
-use Rattle.desk_call.specs.declared.update.Layers.TheVariants as kinds
+use Rattle.desk_call.specs.declared.update.LayerKind.TheVariants as kinds
 use Rattle.vis_update.specs.Relayings.{IsGained, with_layers_of}
 use Rattle.window_list.specs.declared.window.Window.{Window}
 use Rattle.window_paint.specs.Kinds.{is_of}
@@ -85,7 +85,7 @@ one_item (z ∷ zs) (suc i) x y less e f = one_item zs i x y (omega arith) e f
 
 -- ---- layers of which one has another shape
 
-fits_reshaped : (place : Point) (shape : Shape) (i : ℕ) (ls : List Layer) → list_all (fits_at place) ls ≡ true → is_in_range (moved_rect shape.bounds place.h place.v) ≡ true
+fits_reshaped : (place : Point) (shape : LayerShape) (i : ℕ) (ls : List Layer) → list_all (fits_at place) ls ≡ true → is_in_range (moved_rect shape.bounds place.h place.v) ≡ true
     → list_all (fits_at place) (reshaped shape i ls) ≡ true
 fits_reshaped place shape i [] h new = refl
 fits_reshaped place shape zero (l ∷ ls) h new = let parts = and_parts (fits_at place l) (list_all (fits_at place) ls) h in (λ t. new t && parts.1 t)
@@ -94,7 +94,7 @@ fits_reshaped place shape (suc i) (l ∷ ls) h new =
     let rest = fits_reshaped place shape i ls parts.1 new in (λ t. parts.0 t && rest t)
 
 -- the part at a place of the new layers is that of the old
-same_part_at : (shape : Shape) (i : ℕ) (ls new : List Layer) (l : Layer) (afresh : Option Part) → i < length ls → l ≡ get_or ls i l → new ≡ reshaped shape i ls → IsPartAt new (Some i) afresh → afresh ≡ Some l.part
+same_part_at : (shape : LayerShape) (i : ℕ) (ls new : List Layer) (l : Layer) (afresh : Option Part) → i < length ls → l ≡ get_or ls i l → new ≡ reshaped shape i ls → IsPartAt new (Some i) afresh → afresh ≡ Some l.part
 same_part_at shape i ls new l afresh low read is part_is =
     let there = there_is (reshaped shape i ls) i (subst (λ n. i < n) (sym (reshaped_length shape i ls)) low) in
     let k : Layer = there.item in
@@ -171,7 +171,7 @@ module _ {V : Type 0} {H : V → Type 0} (loan : Taken V H → Loan) {W : Type 0
       pub fit : list_all (fits_at w.place) w.layers.layers ≡ true
       fit = (at_window loan IsSettled t.windows.records.items s.window w low lies whole.sound.settled).layers
 
-      module _ (shape : Shape) (shaped : IsShapeOf control.kept.definition.definition l shape) where
+      module _ (shape : LayerShape) (shaped : IsShapeOf control.kept.definition.definition l shape) where
         screen_fits : is_in_range (moved_rect shape.bounds w.place.h w.place.v) ≡ true
         screen_fits = ap (λ b. is_in_range (moved_rect b w.place.h w.place.v)) shaped.bounds ∙ may_at.on_screen
 
@@ -192,8 +192,8 @@ module _ {V : Type 0} {H : V → Type 0} (loan : Taken V H → Loan) {W : Type 0
           pub new_low : index < length new
           new_low = subst (λ n. index < n) (sym (ap length new_is ∙ reshaped_length shape index w.layers.layers)) index_low
 
-          pub may_have : MayHaveLayers s.window t relaid.layers
-          may_have = record {
+          pub say_bounds : MayHaveLayers s.window t relaid.layers
+          say_bounds = record {
             apart = subst ArePartsApart (sym new_is) (reshaped_apart shape index w.layers.layers apart);
             there = λ v v_is. ap (λ (ls : PlacedLayers). ls.place) layers_are ∙ there ∙ ap (λ (x : Window V H). x.place) (one_item t.windows.records.items s.window w v low lies v_is);
             fit = (λ t. list_all (fits_at (ap (λ (ls : PlacedLayers). ls.place) layers_are t)) (new_is t))
@@ -249,7 +249,7 @@ module _ {V : Type 0} {H : V → Type 0} (loan : Taken V H → Loan) {W : Type 0
       → IsWholeManager loan u slots × AreLayersSet w.serial ls afresh (state_showing was (state_of loan t slots)) (state_showing shows (state_of loan u slots))
 
   pub laid : (c : ControlOf) (t u : WindowManager V H) (m n : Controls (TakenControl W K)) (s : Spot) → (is : IsSpotOf loan control_loan c t m s) → (l : Lie) → MayLie control_loan t m s l
-      → (shape : Shape) → IsShapeOf (record_there loan control_loan c t m s is).item.kept.definition.definition l shape
+      → (shape : LayerShape) → IsShapeOf (record_there loan control_loan c t m s is).item.kept.definition.definition l shape
       → (index : ℕ) → index ≡ place_among s.control m.list.items.items
       → (relaid : Relaid) → ((w : Window V H) → IsWindowAt t.windows.records.items s.window w → relaid.layers ≡ record w.layers { layers = reshaped shape index w.layers.layers })
       → IsChangedAt (with_lie l) s.control (records_of control_loan m) (records_of control_loan n) → n.list.next ≡ m.list.next
@@ -307,7 +307,7 @@ module _ {V : Type 0} {H : V → Type 0} (loan : Taken V H → Loan) {W : Type 0
   -- ---- as the code comes to it
 
   -- where a control's shape is put in place of its layer's
-  pub record BeforeLaying (w : Window V H) (index : ℕ) (shape : Shape) : Type 0 where
+  pub record BeforeLaying (w : Window V H) (index : ℕ) (shape : LayerShape) : Type 0 where
     pub low : index < length w.layers.layers
     pub apart : ArePartsApart w.layers.layers
     pub lies : (k : Layer) → IsLayerAt w.layers.place (with_shape shape k)
@@ -350,7 +350,7 @@ module _ {V : Type 0} {H : V → Type 0} (loan : Taken V H → Loan) {W : Type 0
         one : (y z : ControlRecord) → slice_get (records_of control_loan m) s.control ≡ Some y → slice_get (records_of control_loan m) s.control ≡ Some z → y ≡ z
         one y z e f = cc
 
-    module _ (shape : Shape) (shaped : IsShapeOf (control_loan x.kept.definition).definition l shape) where
+    module _ (shape : LayerShape) (shaped : IsShapeOf (control_loan x.kept.definition).definition l shape) where
       pub its_shape : IsShapeOf (record_there loan control_loan spot.of t m s spot.is).item.kept.definition.definition l shape
       its_shape = subst (λ (y : ControlRecord). IsShapeOf y.kept.definition.definition l shape) (sym it_is) shaped
 
@@ -367,7 +367,7 @@ module _ {V : Type 0} {H : V → Type 0} (loan : Taken V H → Loan) {W : Type 0
             → AfterLaying t s index relaid
         after_laying relaid layers_are gains = record {
           low = new_low spot.of t m s spot.is l may w lies index index_is kept.slots kept.whole beside.whole.joined shape its_shape relaid layers_are;
-          may = may_have spot.of t m s spot.is l may w lies index index_is kept.slots kept.whole beside.whole.joined shape its_shape relaid layers_are;
+          may = say_bounds spot.of t m s spot.is l may w lies index index_is kept.slots kept.whole beside.whole.joined shape its_shape relaid layers_are;
           gained = λ afresh h v v_is. subst (λ (y : Window V H). IsGained y.place afresh y.layers.layers relaid.layers.layers relaid.gained) (one_item t.windows.records.items s.window w v spot.is.window.0 lies v_is)
               (gained_is spot.of t m s spot.is l may w lies index index_is kept.slots kept.whole beside.whole.joined shape its_shape relaid layers_are gains afresh h);
         }

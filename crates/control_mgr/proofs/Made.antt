@@ -26,9 +26,9 @@ use Rattle.def_iface.specs.ControlNews.{new_control_news}
 use Rattle.def_iface.specs.declared.size.Size.{Size}
 use Rattle.def_iface.specs.Meaning.{Loan}
 use Rattle.def_iface.specs.Slots.{IsTaken}
-use Rattle.layer_list.specs.declared.layer.Layer.{Layer}
+use Rattle.window_list.specs.declared.layer.Layer.{Layer}
 use Rattle.desk_call.specs.declared.control.NewControl.{NewControl}
-use Rattle.desk_call.specs.declared.update.Layers.TheVariants as kinds
+use Rattle.desk_call.specs.declared.update.LayerKind.TheVariants as kinds
 use Rattle.vis_update.specs.Records.{WindowRecord}
 use Rattle.vis_update.specs.Relayings.{with_layers_of}
 use Rattle.window_list.specs.declared.window.Window.{Window}

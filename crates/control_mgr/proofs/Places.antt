@@ -15,7 +15,7 @@ use Rattle.def_iface.specs.declared.taken_control.TakenControl.{TakenControl}
 use Rattle.def_iface.specs.ControlMeaning.{ControlLoan}
 use Rattle.def_iface.specs.Meaning.{Loan}
 use Rattle.def_iface.specs.Stocked.{SlotView}
-use Rattle.layer_list.specs.declared.layer.Layer.{Layer}
+use Rattle.window_list.specs.declared.layer.Layer.{Layer}
 use Rattle.desk_call.specs.declared.control.ControlOf.{ControlOf}
 use Rattle.vis_update.specs.Records.{WindowRecord, record_of}
 use Rattle.window_list.specs.declared.window.Window.{Window}

@@ -16,7 +16,7 @@ use Rattle.def_iface.specs.ControlMeaning.{ControlLoan, IsControlBegun}
 use Rattle.def_iface.specs.Meaning.{Loan}
 use Rattle.def_iface.specs.Stocked.{SlotView}
 use Rattle.def_iface.proofs.Owning.{same_number}
-use Rattle.layer_list.specs.declared.layer.Layer.{Layer}
+use Rattle.window_list.specs.declared.layer.Layer.{Layer}
 use Rattle.desk_call.specs.declared.control.ControlOf.{ControlOf}
 use Rattle.window_list.specs.declared.window.Window.{Window}
 use Rattle.window_mgr.specs.declared.manager.WindowManager.{WindowManager}
@@ -121,7 +121,7 @@ module _ {W : Type 0} {K : W → Type 0} (control_loan : TakenControl W K → Co
         let its = layer_there loan control_loan is.of t m spot is.is w lies beside.whole.joined in
         subst (λ n. n < length w.layers.layers) (place_among-seen (kept_seen control_loan) spot.control m.list.items.items) (within w.layers.layers _ its.layer its.there)
 
-    -- what redraw_layer leaves of the window manager
+    -- what show_layer leaves of the window manager
     abbrev pub IsDrawnFor : Rect → ℕ → ℕ → (List ℕ → Part → PixelSet) → WindowManager V H → WindowManager V H → Type 0
     IsDrawnFor damage at index shows t u = (w : Window V H) → IsWindowAt t.windows.records.items at w → (l : Layer) → l ≡ get_or w.layers.layers index l
         → (was : List ℕ → Part → PixelSet) (slots : List SlotView) → IsWholeManager loan t slots

@@ -12,8 +12,8 @@ use Rattle.def_iface.specs.Owner.Owner.{Content}
 use Rattle.def_iface.specs.Scratch.{scratch}
 use Rattle.def_iface.proofs.Owning.{same_owner-true, same_part-true}
 use Rattle.def_iface.proofs.Painting.{scratch_is_owners}
-use Rattle.layer_list.specs.declared.layer.Layer.{Layer}
-use Rattle.desk_call.specs.declared.update.Layers.TheVariants.{Controls}
+use Rattle.window_list.specs.declared.layer.Layer.{Layer}
+use Rattle.desk_call.specs.declared.update.LayerKind.TheVariants.{Controls}
 use Rattle.vis_update.specs.Records.{Look, WindowRecord, content_layer, layered_window, picture_layer}
 use Rattle.vis_update.specs.Relayings.{afresh_change, is_part_afresh}
 use Rattle.window_paint.specs.Kinds.{is_of}

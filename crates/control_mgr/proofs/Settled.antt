@@ -14,9 +14,9 @@ use Rattle.window_items.proofs.WindowLemmas.{items_of-edit_at, items_of-edit_at_
 use Rattle.def_iface.specs.ControlMeaning.{ControlDefinition, ControlGoesBy, ControlHears, IsControlBegun, SameControlRegions, is_control_size, is_fitting_control}
 use Rattle.def_iface.specs.ControlNews.{AllControlNews, told_all_of_control}
 use Rattle.def_iface.specs.declared.size.Size.{Size}
-use Rattle.layer_list.specs.declared.layer.Layer.{Layer}
-use Rattle.layer_list.specs.declared.layer.Shape.{Shape}
-use Rattle.layer_list.specs.Changes.{with_shape}
+use Rattle.window_list.specs.declared.layer.Layer.{Layer}
+use Rattle.window_list.specs.declared.layer.LayerShape.{LayerShape}
+use Rattle.window_list.specs.LayerChanges.{with_shape}
 use Rattle.vis_update.specs.Records.{WindowRecord}
 use Rattle.vis_update.specs.Relayings.{with_layers_of}
 use Rattle.window_mgr.specs.Finding.{record_with}
@@ -172,7 +172,7 @@ same_layer s c d same l is = record {
 }
 
 -- the layer of a control that lies so, by the shape of its region there
-pub laid_layer : (k : Lie) (c : ControlRecord) (d : ControlDefinition) → SameControlRegions c.kept.definition.definition d → (shape : Shape) → IsShapeOf c.kept.definition.definition k shape
+pub laid_layer : (k : Lie) (c : ControlRecord) (d : ControlDefinition) → SameControlRegions c.kept.definition.definition d → (shape : LayerShape) → IsShapeOf c.kept.definition.definition k shape
     → (l : Layer) → IsLayerOf c l → IsLayerOf (retold (with_lie k) d c) (with_shape shape l)
 laid_layer k c d same shape is l was = record {
   part = was.part;

@@ -19,12 +19,12 @@ use Rattle.def_iface.specs.declared.taken_control.TakenControl.{TakenControl}
 use Rattle.def_iface.specs.ControlMeaning.{ControlLoan}
 use Rattle.def_iface.specs.Desk.{same_part}
 use Rattle.def_iface.specs.Meaning.{Loan}
-use Rattle.layer_list.specs.declared.layer.Layer.{Layer}
-use Rattle.layer_list.specs.declared.layers.Relaid.{Relaid}
-use Rattle.layer_list.specs.Changes.{is_gained}
-use Rattle.layer_list.specs.Holders.{ArePartsApart, PlacedLayers}
+use Rattle.window_list.specs.declared.layer.Layer.{Layer}
+use Rattle.window_list.specs.declared.layers.Relaid.{Relaid}
+use Rattle.window_list.specs.LayerChanges.{is_gained}
+use Rattle.window_list.specs.Holders.{ArePartsApart, PlacedLayers}
 use Rattle.desk_call.specs.declared.control.ControlOf.{ControlOf}
-use Rattle.desk_call.specs.declared.update.Layers.TheVariants as kinds
+use Rattle.desk_call.specs.declared.update.LayerKind.TheVariants as kinds
 use Rattle.vis_update.specs.declared.relaying.Relaying.{Relaying}
 use Rattle.window_list.specs.declared.window.Window.{Window}
 use Rattle.window_paint.specs.Kinds.{is_of}

@@ -23,7 +23,7 @@ use Rattle.def_iface.specs.Desk.{on_screen}
 use Rattle.def_iface.specs.Owner.{Owner, owner}
 use Rattle.def_iface.specs.Owner.Owner.{Content}
 use Rattle.def_iface.specs.Slots.{IsPutBack, IsTaken, is_left}
-use Rattle.layer_list.specs.declared.layer.Layer.{Layer}
+use Rattle.window_list.specs.declared.layer.Layer.{Layer}
 use Rattle.desk_call.specs.declared.activity.Activity.{Activity}
 use Rattle.desk_call.specs.declared.activity.Activity.TheVariants.{Idle, TrackingControl}
 use Rattle.desk_call.specs.declared.activity.TrackedControl.{TrackedControl}
@@ -35,7 +35,7 @@ use Rattle.desk_call.specs.declared.control.ControlReply.TheVariants as reply
 use Rattle.desk_call.specs.declared.control.FoundControl.{FoundControl}
 use Rattle.desk_call.specs.declared.control.NewControl.{NewControl}
 use Rattle.desk_call.specs.declared.control.PointAtControl.{PointAtControl}
-use Rattle.desk_call.specs.declared.update.Layers.TheVariants.{Controls}
+use Rattle.desk_call.specs.declared.update.LayerKind.TheVariants.{Controls}
 use Rattle.desk_call.specs.Steps.{IsStepOf}
 use Rattle.vis_update.specs.Records.{WindowRecord}
 use Rattle.window_paint.specs.Kinds.{is_of}

@@ -11,7 +11,7 @@ use Rattle.tb_geom.specs.Rects.{in_plane, is_in_range, moved_rect, rect_holds}
 use Rattle.def_iface.specs.declared.taken_control.TakenControl.{TakenControl}
 use Rattle.def_iface.specs.ControlMeaning.{ControlDefinition, ControlLoan, is_fitting_control}
 use Rattle.def_iface.specs.Meaning.{IsWithin}
-use Rattle.layer_list.specs.declared.layer.Shape.{Shape}
+use Rattle.window_list.specs.declared.layer.LayerShape.{LayerShape}
 use Rattle.desk_call.specs.declared.control.ControlCall.{ControlCall}
 use Rattle.desk_call.specs.declared.control.ControlCall.TheVariants.{Show, Hide}
 use Rattle.desk_call.specs.declared.control.ControlOf.{ControlOf}
@@ -35,7 +35,7 @@ pub record MayLieSo (d : ControlDefinition) (l : Lie) : Type 0 where
   pub inside : is_in_range (moved_rect (d.bounds l.size) l.place.h l.place.v) ≡ true
 
 -- the region of a control with this definition that lies so, in its window's coordinates
-pub record IsShapeOf (d : ControlDefinition) (l : Lie) (s : Shape) : Type 0 where
+pub record IsShapeOf (d : ControlDefinition) (l : Lie) (s : LayerShape) : Type 0 where
   pub shown : s.shown ≡ l.shown
   pub region : (p : Point) → holds s.region p ≡ d.region l.size (minus p l.place)
   pub bounds : s.bounds ≡ moved_rect (d.bounds l.size) l.place.h l.place.v

@@ -3,7 +3,7 @@ use Rattle.std.specs.Prelude.{◌≡◌, ℕ}
 use Rattle.tb_geom.specs.Pixels.{Pixels}
 use Rattle.def_iface.specs.declared.taken.Taken.{Taken}
 use Rattle.def_iface.specs.Meaning.{Loan}
-use Rattle.layer_list.specs.Holders.{PlacedLayers}
+use Rattle.window_list.specs.Holders.{PlacedLayers}
 use Rattle.window_list.specs.declared.window.Window.{Window}
 use Rattle.window_mgr.specs.declared.manager.WindowManager.{WindowManager}
 use Rattle.window_mgr.specs.Edits.{IsWindowAt}

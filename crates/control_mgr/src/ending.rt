@@ -2,7 +2,7 @@
 ghost use Rattle.std.specs.Prelude.{◌≡◌, ◌<◌, [], IfOk, IfSome, length};
 ghost use Rattle.def_iface.specs.Desk.{same_part};
 ghost use Rattle.def_iface.specs.declared.part.Part.TheVariants as parts;
-ghost use Rattle.layer_list.specs.Holders.{ArePartsApart};
+ghost use Rattle.window_list.specs.Holders.{ArePartsApart};
 ghost use Rattle.desk_call.specs.declared.control.ControlCall.TheVariants as asks;
 ghost use Rattle.window_mgr.specs.DeskStates.{Opened};
 ghost use Rattle.window_mgr.specs.Kept.{IsKept};
@@ -18,7 +18,7 @@ use def_iface::{
     ControlStock, Defined, DefinedControl, Part, StockedControls, Taken, TakenControl,
 };
 use desk_call::{ControlOf, ControlReply};
-use layer_list::Layers;
+use window_list::Layers;
 use scan_region::Region;
 use std::alloc::AllocError;
 use tb_geom::Refusal;

@@ -16,7 +16,7 @@ use crate::Controls;
 use crate::spots::Spot;
 use def_iface::{Defined, DefinedControl, Size, Taken, TakenControl};
 use desk_call::{ControlOf, ControlReply, MoveControl, SizeControl};
-use layer_list::{Shape, move_by};
+use window_list::{LayerShape, move_by};
 use std::alloc::{AllocError, Global};
 use tb_geom::{Point, Rect, Refusal};
 use window_mgr::WindowManager;
@@ -75,14 +75,14 @@ pub fn may_be_placed(taken: Option<&TakenControl>, place: Point, size: Size, win
 }
 
 /// The region of a control with this definition that lies so.
-pub(crate) fn shape_of(alloc: Global, taken: &TakenControl, lie: Lie) -> Result<Shape, AllocError>
+pub(crate) fn shape_of(alloc: Global, taken: &TakenControl, lie: Lie) -> Result<LayerShape, AllocError>
     requires { MayLieSo (⟦<TakenControl as DefinedControl>⟧.control_loan taken.now).definition lie }
     ensures { IfOk result (IsShapeOf (⟦<TakenControl as DefinedControl>⟧.control_loan taken.now).definition lie) }
 {
     let mut region = taken.regions_for(alloc, lie.size)?;
     move_by(&mut region, lie.place);
     let bounds = taken.bounds(lie.size);
-    Ok(Shape {
+    Ok(LayerShape {
         shown: lie.shown,
         region,
         bounds: bounds.offset(lie.place.h, lie.place.v).unwrap(),

@@ -14,7 +14,7 @@ ghost use Rattle.control_mgr.specs.Making.{IsAddition, IsGrown, IsNotAdded, IsRe
 ghost use Rattle.control_mgr.specs.WholeControls.{AreBeside, AreWholeControls, LeavesOver, controls_state, records_of};
 
 use crate::laying::{Lie, may_be_placed, shape_of};
-use crate::setting::may_have;
+use crate::setting::say_bounds;
 use crate::{Control, Controls};
 use control_values::{ControlValues, Highlight};
 use def_iface::{
@@ -22,7 +22,7 @@ use def_iface::{
 };
 use desk_call::{ControlCall, ControlReply, NewControl};
 use draw_port::ShortText;
-use layer_list::{Layer, Layers};
+use window_list::{Layer, Layers};
 use scan_region::Region;
 use std::alloc::AllocError;
 use tb_geom::Refusal;
@@ -236,7 +236,7 @@ impl Controls<TakenControl> {
             relaying,
         } = addition;
         let highlight = Highlight::none();
-        may_have(ticket.values, highlight);
+        say_bounds(ticket.values, highlight);
         taken.begin(new.size, new.title.as_slice(), ticket.values);
         self.list.push(Item {
             serial: ticket.serial,

@@ -29,7 +29,7 @@ pub(crate) struct State {
 }
 
 /// Reads a setting and a highlighting: each is one that a control may have.
-pub(crate) fn may_have(values: ControlValues, highlight: Highlight)
+pub(crate) fn say_bounds(values: ControlValues, highlight: Highlight)
     ensures setting { MayHaveSetting values }
     ensures highlight { is_highlight (pos highlight) ≡ true }
 {
@@ -63,14 +63,14 @@ impl Controls<TakenControl> {
             → (o u : Opened) → LeavesControls ⟦<TakenControl as DefinedControl>⟧.control_loan ⟦<Taken as Defined>⟧.loan
             (IsPut c (with_state state)) windows.old o self.old windows.new u self.new }
     {
-        may_have(state.values, state.highlight);
+        say_bounds(state.values, state.highlight);
         let layer = self.list.layer_index(spot.control);
         let control = self.list.at_mut(spot.control);
         control.values = state.values;
         control.highlight = state.highlight;
         control.title = state.title;
         let damage = self.tell(spot.control);
-        windows.redraw_layer(spot.window, layer, damage, &*self);
+        windows.show_layer(spot.window, layer, damage, &*self);
     }
 
     /// Gives a control this setting, and draws it within the damage where it is not to be redrawn. Where the control is not there,

@@ -22,7 +22,7 @@ use crate::spots::Spot;
 use control_values::{ControlPart, ControlValues, Highlight};
 use def_iface::{Defined, DefinedControl, Taken, TakenControl};
 use desk_call::{Activity, ControlReply, PointAtControl, TrackedControl};
-use layer_list::local;
+use window_list::local;
 use tb_geom::{Point, Refusal};
 use window_mgr::WindowManager;
 

@@ -32,7 +32,7 @@ pub use menu::{
     AppendItems, CheckItem, Choice, InsertMenu, ItemOfMenu, ItemText, MenuCall, MenuReply, NewMenu,
 };
 pub use outline::{DragWindow, GrowWindow, OutlineCall, OutlineReply, SizeLimits};
-pub use update::{AreaRef, LayerDraw, Layers, UpdateCall, WindowArea};
+pub use update::{AreaRef, LayerDraw, LayerKind, UpdateCall, WindowArea};
 pub use window::{
     Drawing, Found, MoveWindow, NewPicture, NewWindow, PictureRef, ScrollPicture, SendBehind,
     ShowHide, SizeWindow, WindowCall, WindowInfo, WindowPart, WindowReply, Zoom, ZoomWindow,

@@ -42,12 +42,12 @@ pub enum AreaRef<'a> {
 #[derive(Clone, Copy, PartialEq, Eq)]
 pub struct LayerDraw {
     pub window: u64,
-    pub layers: Layers,
+    pub layers: LayerKind,
 }
 
 /// Which layers of a window's content: its picture, its lists or its controls.
 #[derive(Clone, Copy, PartialEq, Eq)]
-pub enum Layers {
+pub enum LayerKind {
     Picture,
     Lists,
     Controls,

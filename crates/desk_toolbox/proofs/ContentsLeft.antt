@@ -9,12 +9,12 @@ use Rattle.tb_geom.specs.Points.{PixelSet}
 use Rattle.window_items.specs.Items.{items_of, is_in}
 use Rattle.desk_call.specs.declared.control.ControlCall.{ControlCall}
 use Rattle.desk_call.specs.declared.control.ControlReply.{ControlReply}
-use Rattle.desk_call.specs.declared.update.Layers.TheVariants.{Controls}
+use Rattle.desk_call.specs.declared.update.LayerKind.TheVariants.{Controls}
 use Rattle.desk_call.specs.declared.window.WindowCall.{WindowCall}
 use Rattle.desk_call.specs.declared.window.WindowCall.TheVariants as asks
 use Rattle.desk_call.specs.declared.window.WindowReply.{WindowReply}
 use Rattle.desk_call.specs.Gates.{window_standing}
-use Rattle.layer_list.specs.declared.layer.Layer.{Layer}
+use Rattle.window_list.specs.declared.layer.Layer.{Layer}
 use Rattle.vis_update.specs.Records.{WindowRecord}
 use Rattle.window_paint.specs.Kinds.{is_of}
 use Rattle.window_mgr.specs.DeskStates.{DeskState, narrowed}

@@ -9,8 +9,8 @@ use Rattle.def_iface.specs.Desk.{LayeredDesk, IsDesk, on_screen}
 use Rattle.def_iface.specs.Owner.{owner}
 use Rattle.def_iface.specs.Scratch.{scratch}
 use Rattle.def_iface.proofs.Painting.{scratch_is_owners}
-use Rattle.menu_overlay.specs.Outlines.{outline_holds, outlined}
-use Rattle.menu_overlay.specs.Overlays.{Pulled, pulled_bit, pulled_rect, shown_bit}
+use Rattle.overlay.specs.Outlines.{outline_holds, outlined}
+use Rattle.overlay.specs.Overlays.{Pulled, pulled_bit, pulled_rect, shown_bit}
 use Rattle.bit_map.specs.Modes.{xor_bit}
 use Rattle.bit_map.specs.Patterns.{pattern_bit, gray}
 use Rattle.desk_call.specs.Outlines.{outline_of}

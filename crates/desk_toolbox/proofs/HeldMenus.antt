@@ -9,7 +9,7 @@ use Rattle.menu_record.specs.Edits.{edit_item, set_enabled, with_enabled}
 use Rattle.menu_record.specs.Menus.{item_with_key}
 use Rattle.menu_list.specs.Editing.{with_item_checked, with_item_text, with_items_of}
 use Rattle.menu_list.specs.Lists.{edit_at, has_number, is_in_bar, key_choice, key_in, menu_index, menu_with, moved_before, put_before, with_inserted, with_menu, without_highlight, without_highlight_at}
-use Rattle.menu_edits.specs.MenuEdits.{edited, highlight_after, highlighted_by, inserted, menus_after, title_number}
+use Rattle.menu_list.specs.MenuEdits.{edited, highlight_after, highlighted_by, inserted, menus_after, title_number}
 use Rattle.desk_call.specs.declared.menu.Choice.{Choice}
 use Rattle.desk_call.specs.declared.menu.MenuCall.{MenuCall}
 use Rattle.desk_call.specs.declared.menu.MenuCall.TheVariants.{Append, SetItem, Insert, Delete, Enable, Disable, Check, Key, Hilite}

@@ -5,7 +5,7 @@ use Rattle.std.specs.List.{remove}
 use Rattle.tb_geom.specs.declared.point.Point.{Point}
 use Rattle.tb_geom.specs.declared.refusal.Refusal.{Refusal}
 use Rattle.menu_list.specs.Lists.{is_in_bar, menu_index, without_highlight}
-use Rattle.menu_edits.specs.MenuEdits.{menus_after}
+use Rattle.menu_list.specs.MenuEdits.{menus_after}
 use Rattle.desk_call.specs.declared.activity.Activity.{Activity}
 use Rattle.desk_call.specs.declared.activity.Activity.TheVariants.{Idle, Updating, Tracking, Pulling, TrackingControl, Dragging, Growing}
 use Rattle.desk_call.specs.declared.activity.PulledMenu.{PulledMenu}

@@ -11,8 +11,8 @@ use Rattle.def_iface.specs.ListMeaning.{ListLoan}
 use Rattle.def_iface.specs.Meaning.{Loan}
 use Rattle.def_iface.specs.MenuMeaning.{MenuLoan}
 use Rattle.def_iface.specs.Stocks.{AllSlots}
-use Rattle.menu_overlay.specs.Outlines.{outlined}
-use Rattle.menu_overlay.specs.Overlays.{shown_bit}
+use Rattle.overlay.specs.Outlines.{outlined}
+use Rattle.overlay.specs.Overlays.{shown_bit}
 use Rattle.desk_call.specs.Outlines.{outline_of}
 use Rattle.desk_call.specs.declared.activity.DraggedWindow.{DraggedWindow}
 use Rattle.desk_call.specs.declared.activity.GrownWindow.{GrownWindow}

@@ -8,8 +8,8 @@ use Rattle.def_iface.specs.MenuMeaning.{MenuDefinition, MenuGoesBy, MenuHears, t
 use Rattle.menu_record.specs.Edits.{set_enabled}
 use Rattle.menu_list.specs.Editing.{with_item_checked, with_item_text, with_items_of}
 use Rattle.menu_list.specs.Lists.{edit_at, has_number, is_in_bar, menu_index, menu_with, moved_before, put_before, with_inserted, with_menu}
-use Rattle.menu_edits.specs.MenuEdits.{edited, inserted, menus_after}
-use Rattle.menu_edits.proofs.Indices.{with_found, with_none}
+use Rattle.menu_list.specs.MenuEdits.{edited, inserted, menus_after}
+use Rattle.menu_list.proofs.Indices.{with_found, with_none}
 use Rattle.desk_call.specs.declared.activity.Activity.TheVariants.{Idle, Pulling}
 use Rattle.desk_call.specs.declared.activity.PulledMenu.{PulledMenu}
 use Rattle.desk_call.specs.declared.menu.MenuCall.{MenuCall}

@@ -21,9 +21,9 @@ use Rattle.desk_call.specs.declared.menu.MenuCall.{MenuCall}
 use Rattle.desk_call.specs.declared.menu.MenuCall.TheVariants.{New, Dispose, Down, Move, Up, Append, SetItem, Insert, Delete, Enable, Disable, Check}
 use Rattle.desk_call.specs.declared.menu.MenuReply.{MenuReply}
 use Rattle.desk_call.specs.declared.menu.NewMenu.{NewMenu}
-use Rattle.menu_edits.specs.MenuEdits.{edited, inserted, menus_after}
-use Rattle.menu_edits.specs.EditRefusals.{is_long_text, is_no_menu}
-use Rattle.menu_edits.proofs.Indices.{with_none}
+use Rattle.menu_list.specs.MenuEdits.{edited, inserted, menus_after}
+use Rattle.menu_list.specs.EditRefusals.{is_long_text, is_no_menu}
+use Rattle.menu_list.proofs.Indices.{with_none}
 use Rattle.menu_mgr.specs.MenuDesks.{MenuDesk, MenuRecord, MenuSlot, MenusState}
 use Rattle.menu_mgr.specs.MenuRefusals.{none_is_left, menu_refusals, new_refusals}
 use Rattle.menu_mgr.specs.MenuSteps.{AreMenusShown, IsDisposedAt, IsMenuEffect, IsMenuMade, IsMenuStep, IsMoved, IsMovedOn, IsPressedOn, IsMenuReleased, IsToldAt, new_record, other_title, with_definition}

@@ -15,8 +15,8 @@ use Rattle.def_iface.specs.Desk.{on_screen}
 use Rattle.def_iface.specs.Meaning.{Loan}
 use Rattle.def_iface.specs.MenuMeaning.{MenuLoan}
 use Rattle.def_iface.specs.Stocked.{SlotView}
-use Rattle.menu_overlay.specs.Overlays.{Pulled, pulled_bit, pulled_rect, shown_bit}
-use Rattle.menu_overlay.specs.Outlines.{IsOutlined, outline_holds, outlined}
+use Rattle.overlay.specs.Overlays.{Pulled, pulled_bit, pulled_rect, shown_bit}
+use Rattle.overlay.specs.Outlines.{IsOutlined, outline_holds, outlined}
 use Rattle.bit_map.specs.Modes.{xor_bit}
 use Rattle.bit_map.specs.Patterns.{pattern_bit, gray}
 use Rattle.desk_call.specs.declared.activity.Activity.{Activity}

@@ -18,7 +18,7 @@ use Rattle.desk_call.specs.declared.control.ControlCall.{ControlCall}
 use Rattle.desk_call.specs.declared.control.ControlReply.{ControlReply}
 use Rattle.desk_call.specs.declared.list.ListCall.{ListCall}
 use Rattle.desk_call.specs.declared.list.ListReply.{ListReply}
-use Rattle.desk_call.specs.declared.update.Layers.{Layers}
+use Rattle.desk_call.specs.declared.update.LayerKind.{LayerKind}
 use Rattle.desk_call.specs.declared.update.UpdateCall.{UpdateCall}
 use Rattle.desk_call.specs.declared.update.UpdateCall.TheVariants as update
 use Rattle.desk_call.specs.declared.window.WindowCall.{WindowCall}
@@ -48,11 +48,11 @@ use Rattle.desk_toolbox.proofs.TrackedControls.{AtMostControl, comes_then}
 use Rattle.desk_toolbox.proofs.UpdatesBeside.{frame_comes_apart, menu_comes_apart, window_asks_then}
 
 -- the kinds of layers that were drawn, once this call was answered so
-abbrev pub with_drawn : Call → Result Reply Refusal → List Layers → List Layers
+abbrev pub with_drawn : Call → Result Reply Refusal → List LayerKind → List LayerKind
 with_drawn (Update (update.Draw d)) (Ok answer) kinds = d.layers ∷ kinds
 with_drawn _ _ kinds = kinds
 
-refused_draws_none : (call : Call) (e : Refusal) (kinds : List Layers) → with_drawn call (Err e) kinds ≡ kinds
+refused_draws_none : (call : Call) (e : Refusal) (kinds : List LayerKind) → with_drawn call (Err e) kinds ≡ kinds
 refused_draws_none (Window call) e kinds = refl
 refused_draws_none (Update (update.Invalidate m)) e kinds = refl
 refused_draws_none (Update (update.Validate m)) e kinds = refl
@@ -119,13 +119,13 @@ module _ (s : ℕ) where
   pub record GoesOn (call : Call) (answer : Result Reply Refusal) (before after : ToolboxState) : Type 0 where
     pub activity : after.desk.activity ≡ Updating s
     pub begun : after.desk.begun ≡ before.desk.begun
-    pub drawn : ShowsControls (with_controls before) → (kinds : List Layers) (first : FullState) → AreDrawnSince s kinds first before.desk.windows → AreDrawnSince s (with_drawn call answer kinds) first after.desk.windows
+    pub drawn : ShowsControls (with_controls before) → (kinds : List LayerKind) (first : FullState) → AreDrawnSince s kinds first before.desk.windows → AreDrawnSince s (with_drawn call answer kinds) first after.desk.windows
 
   abbrev GoesOnOpen : Call → Result Reply Refusal → ToolboxState → ToolboxState → Type 0
   GoesOnOpen call answer before after = before.desk.activity ≡ Updating s → call ≢ Update (update.End s) → GoesOn call answer before after
 
   -- no call changed anything
-  still_open : (call : Call) (answer : Result Reply Refusal) (before after : ToolboxState) → ((kinds : List Layers) → with_drawn call answer kinds ≡ kinds) → before.desk.activity ≡ Updating s → IsDeskUnchanged before.desk after.desk → GoesOn call answer before after
+  still_open : (call : Call) (answer : Result Reply Refusal) (before after : ToolboxState) → ((kinds : List LayerKind) → with_drawn call answer kinds ≡ kinds) → before.desk.activity ≡ Updating s → IsDeskUnchanged before.desk after.desk → GoesOn call answer before after
   still_open call answer before after none opened same = record {
     activity = same.activity ∙ opened;
     begun = same.begun;

@@ -7,8 +7,8 @@ use Rattle.std.proofs.lemmas.List.Elements.{All-push}
 use Rattle.tb_geom.specs.declared.point.Point.{Point}
 use Rattle.tb_geom.specs.declared.refusal.Refusal.{Refusal}
 use Rattle.tb_geom.specs.Rects.{rect_holds}
-use Rattle.menu_bar.specs.declared.bar.TitleHit.{TitleHit}
-use Rattle.menu_bar.specs.Bars.{title_at, title_box, title_width}
+use Rattle.desk_ground.specs.declared.bar.TitleHit.{TitleHit}
+use Rattle.desk_ground.specs.Bars.{title_at, title_box, title_width}
 use Rattle.menu_list.specs.Lists.{has_number, in_bar, is_in_bar, menu_index, menu_with, title_of, titles_of}
 use Rattle.desk_call.specs.declared.activity.Activity.{Activity}
 use Rattle.desk_call.specs.declared.activity.Activity.TheVariants.{Idle, Updating, Tracking, Pulling, TrackingControl, Dragging, Growing}

@@ -12,7 +12,7 @@ use Rattle.desk_call.specs.declared.call.Call.TheVariants.{Window, Update, Frame
 use Rattle.desk_call.specs.declared.call.Call.TheVariants as calls
 use Rattle.desk_call.specs.declared.call.Reply.{Reply}
 use Rattle.desk_call.specs.declared.call.Reply.TheVariants as reply
-use Rattle.desk_call.specs.declared.update.Layers.{Layers}
+use Rattle.desk_call.specs.declared.update.LayerKind.{LayerKind}
 use Rattle.desk_call.specs.declared.update.UpdateCall.{UpdateCall}
 use Rattle.desk_call.specs.declared.update.UpdateCall.TheVariants as update
 use Rattle.desk_call.specs.declared.window.WindowCall.{WindowCall}
@@ -90,11 +90,11 @@ module _ (s : ℕ) where
       let more = stays_open next last cs answers (All-tail (λ c. c ≢ Update (update.End s)) call cs rests) goes.activity run in
       (more.0, more.1 ∙ goes.begun)
 
-  drawn_now : (call : Call) (answer : Result Reply Refusal) (kinds : List Layers) (kind : Layers) → call ≡ Update (drawing s kind) → answer ≡ done → IsAmong kind (with_drawn call answer kinds)
+  drawn_now : (call : Call) (answer : Result Reply Refusal) (kinds : List LayerKind) (kind : LayerKind) → call ≡ Update (drawing s kind) → answer ≡ done → IsAmong kind (with_drawn call answer kinds)
   drawn_now call answer kinds kind is did =
       subst (λ (x : Call × Result Reply Refusal). IsAmong kind (with_drawn x.0 x.1 kinds)) (λ i. (sym is i, sym did i)) (inl refl)
 
-  drawn_before : (call : Call) (answer : Result Reply Refusal) (kinds : List Layers) (kind : Layers) → IsAmong kind kinds → IsAmong kind (with_drawn call answer kinds)
+  drawn_before : (call : Call) (answer : Result Reply Refusal) (kinds : List LayerKind) (kind : LayerKind) → IsAmong kind kinds → IsAmong kind (with_drawn call answer kinds)
   drawn_before (Update (update.Draw d)) (Ok answer) kinds kind here = inr here
   drawn_before (Update (update.Draw d)) (Err e) kinds kind here = here
   drawn_before (Update (update.Invalidate m)) answer kinds kind here = here
@@ -111,9 +111,9 @@ module _ (s : ℕ) where
   drawn_before (Event call) answer kinds kind here = here
 
   -- of the windows no more changed than that all layers were drawn
-  drawn_meanwhile : (start : FullState) (kinds : List Layers) (first last : ToolboxState) (cs : List Call) (answers : List (Result Reply Refusal)) → IsConsistent first → IsNotEnded s cs → first.desk.activity ≡ Updating s
-      → ((kind : Layers) → IsAmong kind kinds ⊎ IsDrawnIn s kind cs answers) → AreDrawnSince s kinds start first.desk.windows → IsRunOfCalls first cs answers last
-      → (all : List Layers) × ((kind : Layers) → IsAmong kind all) × AreDrawnSince s all start last.desk.windows
+  drawn_meanwhile : (start : FullState) (kinds : List LayerKind) (first last : ToolboxState) (cs : List Call) (answers : List (Result Reply Refusal)) → IsConsistent first → IsNotEnded s cs → first.desk.activity ≡ Updating s
+      → ((kind : LayerKind) → IsAmong kind kinds ⊎ IsDrawnIn s kind cs answers) → AreDrawnSince s kinds start first.desk.windows → IsRunOfCalls first cs answers last
+      → (all : List LayerKind) × ((kind : LayerKind) → IsAmong kind all) × AreDrawnSince s all start last.desk.windows
   drawn_meanwhile start kinds first last [] [] was rests opened some drawn run =
       (kinds, (λ kind. ⊎_elim (λ here. here) (λ wrong. absurd wrong) (some kind)), subst (λ (x : ToolboxState). AreDrawnSince s kinds start x.desk.windows) (sym run) drawn)
   drawn_meanwhile start kinds first last [] (answer ∷ answers) was rests opened some drawn run = absurd run
@@ -166,7 +166,7 @@ all_done (c ∷ cs) first last (next, step, run) =
     let rest = all_done cs next last run in
     ((next.desk, made.step, rest.0), rest_kept first next last made.rest rest.1)
 
-pub drawn_in_order_is_served : (window : ℕ) (kinds : List Layers) (first last : ToolboxState) → AreAllKinds kinds → IsRunOfCalls first (map Update (update_drawing window kinds)) (map (λ c. done) (update_drawing window kinds)) last → IsStep (Update (update.Serve window)) done first last
+pub drawn_in_order_is_served : (window : ℕ) (kinds : List LayerKind) (first last : ToolboxState) → AreAllKinds kinds → IsRunOfCalls first (map Update (update_drawing window kinds)) (map (λ c. done) (update_drawing window kinds)) last → IsStep (Update (update.Serve window)) done first last
 drawn_in_order_is_served window kinds first last all run =
     let every = all_done (update_drawing window kinds) first last run in
     made_is_step (update.Serve window) first last (update_made (update.Begin window) Done first run.0 run.1).may

@@ -12,8 +12,8 @@ use Rattle.desk_call.specs.declared.control.PointInWindow.{PointInWindow}
 use Rattle.desk_call.specs.declared.window.Found.{Found}
 use Rattle.desk_call.specs.declared.window.WindowPart.TheVariants.{InDesk, InMenuBar}
 use Rattle.desk_call.specs.Outlines.{outline_of}
-use Rattle.menu_overlay.specs.Overlays.{Pulled, pulled_bit, shown_bit}
-use Rattle.menu_overlay.specs.Outlines.{outline_holds, outlined}
+use Rattle.overlay.specs.Overlays.{Pulled, pulled_bit, shown_bit}
+use Rattle.overlay.specs.Outlines.{outline_holds, outlined}
 use Rattle.vis_update.specs.Records.{WindowRecord}
 use Rattle.window_mgr.specs.Finding.{found_none, record_with}
 use Rattle.window_mgr.specs.Finding as windows

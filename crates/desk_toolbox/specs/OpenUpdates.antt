@@ -5,7 +5,7 @@ use Rattle.desk_call.specs.declared.call.Call.{Call}
 use Rattle.desk_call.specs.declared.call.Call.TheVariants.{Update}
 use Rattle.desk_call.specs.declared.call.Reply.{Reply}
 use Rattle.desk_call.specs.declared.call.Reply.TheVariants as reply
-use Rattle.desk_call.specs.declared.update.Layers.{Layers}
+use Rattle.desk_call.specs.declared.update.LayerKind.{LayerKind}
 use Rattle.desk_call.specs.declared.update.UpdateCall.TheVariants.{Begin, End}
 use Rattle.desk_call.specs.declared.window.WindowReply.TheVariants.{Done}
 use Rattle.window_update.specs.Served.{drawing}
@@ -26,11 +26,11 @@ abbrev pub IsNotEnded : ℕ → List Call → Type 0
 IsNotEnded window calls = All (λ call. call ≢ Update (End window)) calls
 
 -- among these calls, which were answered so, is one that drew these layers of the window
-abbrev pub IsDrawnIn : ℕ → Layers → List Call → List (Result Reply Refusal) → Type 0
+abbrev pub IsDrawnIn : ℕ → LayerKind → List Call → List (Result Reply Refusal) → Type 0
 IsDrawnIn window kind (call ∷ calls) (answer ∷ answers) =
     ((call ≡ Update (drawing window kind)) × (answer ≡ done)) ⊎ IsDrawnIn window kind calls answers
 IsDrawnIn window kind _ _ = ⊥
 
 -- they drew its picture, its lists and its controls, in whichever order, each once or more
 abbrev pub IsAllDrawn : ℕ → List Call → List (Result Reply Refusal) → Type 0
-IsAllDrawn window calls answers = (kind : Layers) → IsDrawnIn window kind calls answers
+IsAllDrawn window calls answers = (kind : LayerKind) → IsDrawnIn window kind calls answers

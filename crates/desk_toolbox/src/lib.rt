@@ -26,7 +26,7 @@ pub use desk_call::{
     Activity, AppendItems, AreaRef, Call, CheckItem, Choice, ControlCall, ControlInfo,
     ControlNumber, ControlOf, ControlReply, ControlTitle, DragWindow, DraggedWindow, Drawing,
     EventCall, EventReply, FlushEvents, Found, FoundControl, FrameCall, FrameReply, GoAwayPoint,
-    GrowWindow, GrownWindow, HiliteWindow, InsertMenu, ItemOfMenu, ItemText, LayerDraw, Layers,
+    GrowWindow, GrownWindow, HiliteWindow, InsertMenu, ItemOfMenu, ItemText, LayerDraw, LayerKind,
     ListCall, ListReply, MenuCall, MenuReply, MoveControl, MoveWindow, NewControl, NewMenu,
     NewPicture, NewTitle, NewWindow, OutlineCall, OutlineReply, PictureRef, PointAtControl,
     PointInWindow, PostEvent, PulledMenu, Reply, ScrollPicture, SendBehind, ShowHide, SizeControl,

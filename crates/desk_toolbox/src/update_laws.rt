@@ -7,7 +7,7 @@ ghost use Rattle.desk_call.specs.declared.call.Call.{Call};
 ghost use Rattle.desk_call.specs.declared.call.Call.TheVariants.{Update, Window};
 ghost use Rattle.desk_call.specs.declared.call.Reply.{Reply};
 ghost use Rattle.desk_call.specs.declared.call.Reply.TheVariants as reply;
-ghost use Rattle.desk_call.specs.declared.update.Layers.{Layers};
+ghost use Rattle.desk_call.specs.declared.update.LayerKind.{LayerKind};
 ghost use Rattle.desk_call.specs.declared.update.UpdateCall.TheVariants.{End, Serve};
 ghost use Rattle.desk_call.specs.declared.window.WindowCall.TheVariants.{UpdateRegion, VisibleRegion};
 ghost use Rattle.desk_call.specs.declared.window.WindowReply.{WindowReply};
@@ -46,7 +46,7 @@ pub fn an_update_whose_layers_were_drawn_is_served()
 /// Where no other call came between, the Toolbox is left as serving the update at once leaves it.
 #[tactic(auto, using(crate::proofs::ServedRuns::drawn_in_order_is_served))]
 pub fn an_update_drawn_in_any_order_is_served()
-    ensures { (window : ℕ) (kinds : List Layers) (first last : ToolboxState) → AreAllKinds kinds
+    ensures { (window : ℕ) (kinds : List LayerKind) (first last : ToolboxState) → AreAllKinds kinds
         → IsRunOfCalls first (map Update (update_drawing window kinds)) (map (λ call. done) (update_drawing window kinds)) last
         → IsStep (Update (Serve window)) done first last }
 {}

@@ -14,8 +14,8 @@ use Rattle.def_iface.specs.Desk.{same_part}
 use Rattle.def_iface.specs.ListMeaning.{ListLoan}
 use Rattle.def_iface.specs.Meaning.{Loan}
 use Rattle.def_iface.specs.Slots.{IsTaken}
-use Rattle.layer_list.specs.declared.layer.Layer.{Layer}
-use Rattle.layer_list.specs.Holders.{PlacedLayers}
+use Rattle.window_list.specs.declared.layer.Layer.{Layer}
+use Rattle.window_list.specs.Holders.{PlacedLayers}
 use Rattle.list_view.specs.Views.{view_rect}
 use Rattle.desk_call.specs.declared.control.ControlCall.TheVariants.{New}
 use Rattle.desk_call.specs.declared.control.ControlReply.TheVariants as reply

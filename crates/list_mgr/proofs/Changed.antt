@@ -27,7 +27,7 @@ use Rattle.list_mgr.specs.Seen.{all_seen, seen, kept_seen}
 use Rattle.window_items.proofs.ListLemmas.{set_is_edit}
 use Rattle.window_items.proofs.SeenLemmas.{length-seen, edit_at-seen}
 use Rattle.window_items.proofs.WindowLemmas.{item_index-edit_at}
-use Rattle.layer_list.specs.Holders.{belongs_to}
+use Rattle.window_list.specs.Holders.{belongs_to}
 use Rattle.desk_call.specs.declared.list.ListCall.{ListCall}
 use Rattle.desk_call.specs.declared.list.ListOf.{ListOf}
 use Rattle.desk_call.specs.declared.list.ListReply.{ListReply}

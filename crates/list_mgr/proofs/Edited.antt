@@ -5,7 +5,7 @@ use Rattle.std.specs.List.{AllZip, list_any}
 use Rattle.std.specs.Option.{option_and_then}
 use Rattle.std.proofs.lemmas.List.Elements.{All-weaker}
 use Rattle.def_iface.specs.ListMeaning.{ListDefinition, ListLoan}
-use Rattle.layer_list.specs.declared.layer.Layer.{Layer}
+use Rattle.window_list.specs.declared.layer.Layer.{Layer}
 use Rattle.window_items.specs.Items.{edit_at, has_serial, is_in_at, items_of}
 use Rattle.window_items.proofs.WindowLemmas.{items_of-edit_at, items_of-edit_at_other}
 use Rattle.vis_update.specs.Records.{WindowRecord}

@@ -4,10 +4,10 @@ use Rattle.std.specs.Prelude.{slice_get}
 use Rattle.std.specs.List.{AllZip, filter, remove}
 use Rattle.std.proofs.lemmas.Bool.{false≢true}
 use Rattle.def_iface.specs.declared.part.Part.TheVariants as part
-use Rattle.layer_list.specs.declared.layer.Layer.{Layer}
+use Rattle.window_list.specs.declared.layer.Layer.{Layer}
 use Rattle.window_items.specs.Items.{is_in_at, items_of, place_among}
 use Rattle.window_items.proofs.WindowLemmas.{items_of-remove, slice_get-items_of}
-use Rattle.desk_call.specs.declared.update.Layers.TheVariants.{Controls}
+use Rattle.desk_call.specs.declared.update.LayerKind.TheVariants.{Controls}
 use Rattle.window_paint.specs.Kinds.{is_of}
 use Rattle.control_mgr.specs.ControlSteps.{behind_controls}
 use Rattle.list_mgr.specs.ListDesks.{KeptList}

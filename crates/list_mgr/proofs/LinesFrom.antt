@@ -21,7 +21,7 @@ use Rattle.list_view.specs.declared.axis.Axis.{Axis}
 use Rattle.list_view.specs.Axes.{IsAxis, line_at, line_start}
 use Rattle.list_view.specs.Views.{IsView, View, any_cell_at, cell_at, cell_corner, is_before, view_rect}
 use Rattle.list_view.proofs.LineLemmas.{lies_in_line, line_at_counted, mul_le}
-use Rattle.list_paint.specs.Shown.{cell_shown, in_cell, list_shown}
+use Rattle.list_view.specs.Shown.{cell_shown, in_cell, list_shown}
 use Rattle.control_mgr.proofs.Steps.{none_hold}
 use Rattle.list_mgr.specs.Changing.{IsSameOrNot}
 use Rattle.list_mgr.specs.LinesFrom.{AreColumnsFrom, AreRowsFrom}

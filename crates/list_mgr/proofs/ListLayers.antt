@@ -16,14 +16,14 @@ use Rattle.def_iface.specs.declared.taken_list.TakenList.{TakenList}
 use Rattle.def_iface.specs.Desk.{same_part}
 use Rattle.def_iface.specs.ListMeaning.{ListLoan}
 use Rattle.def_iface.specs.Meaning.{Loan}
-use Rattle.layer_list.specs.declared.layer.Layer.{Layer}
-use Rattle.layer_list.specs.declared.layers.Relaid.{Relaid}
-use Rattle.layer_list.specs.Changes.{is_gained}
-use Rattle.layer_list.specs.Holders.{ArePartsApart, PlacedLayers, fits_at}
+use Rattle.window_list.specs.declared.layer.Layer.{Layer}
+use Rattle.window_list.specs.declared.layers.Relaid.{Relaid}
+use Rattle.window_list.specs.LayerChanges.{is_gained}
+use Rattle.window_list.specs.Holders.{ArePartsApart, PlacedLayers, fits_at}
 use Rattle.window_items.specs.Items.{are_before, has_serial, items_of}
 use Rattle.list_view.specs.Views.{view_rect}
 use Rattle.desk_call.specs.declared.list.NewList.{NewList}
-use Rattle.desk_call.specs.declared.update.Layers.TheVariants.{Controls}
+use Rattle.desk_call.specs.declared.update.LayerKind.TheVariants.{Controls}
 use Rattle.vis_update.specs.declared.relaying.Relaying.{Relaying}
 use Rattle.window_list.specs.declared.window.Window.{Window}
 use Rattle.window_paint.specs.Kinds.{is_of}

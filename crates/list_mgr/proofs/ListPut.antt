@@ -14,8 +14,8 @@ use Rattle.def_iface.specs.Meaning.{Loan}
 use Rattle.def_iface.specs.Slots.{IsTaken}
 use Rattle.def_iface.specs.Stocked.{SlotView}
 use Rattle.def_iface.proofs.Owning.{same_number}
-use Rattle.layer_list.specs.declared.layer.Layer.{Layer}
-use Rattle.layer_list.specs.Holders.{PlacedLayers}
+use Rattle.window_list.specs.declared.layer.Layer.{Layer}
+use Rattle.window_list.specs.Holders.{PlacedLayers}
 use Rattle.window_items.specs.Items.{items_of, are_before, serial_after}
 use Rattle.window_items.specs.declared.item.Item.{Item}
 use Rattle.list_mgr.specs.declared.list_record.ListRecord.{ListRecord}
@@ -25,7 +25,7 @@ use Rattle.window_items.proofs.SeenLemmas.{append-seen, count_of-seen}
 use Rattle.window_items.proofs.WindowLemmas.{items_of-push}
 use Rattle.list_cells.specs.Grids.{Grid, empty_grid}
 use Rattle.desk_call.specs.declared.list.NewList.{NewList}
-use Rattle.desk_call.specs.declared.update.Layers.TheVariants.{Controls}
+use Rattle.desk_call.specs.declared.update.LayerKind.TheVariants.{Controls}
 use Rattle.vis_update.specs.Relayings.{with_layers_of}
 use Rattle.window_list.specs.declared.window.Window.{Window}
 use Rattle.window_paint.specs.Kinds.{is_of}

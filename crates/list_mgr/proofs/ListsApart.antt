@@ -10,8 +10,8 @@ use Rattle.window_items.specs.Items.{has_serial, is_in, items_of}
 use Rattle.def_iface.specs.declared.part.Part.{Part}
 use Rattle.def_iface.specs.declared.part.Part.TheVariants as part
 use Rattle.def_iface.specs.Desk as layers
-use Rattle.layer_list.specs.declared.layer.Layer.{Layer}
-use Rattle.desk_call.specs.declared.update.Layers.TheVariants.{Controls}
+use Rattle.window_list.specs.declared.layer.Layer.{Layer}
+use Rattle.desk_call.specs.declared.update.LayerKind.TheVariants.{Controls}
 use Rattle.vis_update.specs.Records.{Look, WindowRecord, content_layer, layered_window}
 use Rattle.window_paint.specs.Kinds.{is_of}
 use Rattle.window_mgr.specs.Finding.{record_with}

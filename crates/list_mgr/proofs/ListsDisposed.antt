@@ -15,10 +15,10 @@ use Rattle.def_iface.specs.ControlMeaning.{ControlLoan}
 use Rattle.def_iface.specs.ListMeaning.{ListLoan}
 use Rattle.def_iface.specs.Meaning.{Loan}
 use Rattle.def_iface.specs.Stocked.{SlotView}
-use Rattle.layer_list.specs.declared.layer.Layer.{Layer}
-use Rattle.layer_list.specs.declared.layers.Relaid.{Relaid}
-use Rattle.layer_list.specs.Changes.{is_gained}
-use Rattle.layer_list.specs.Holders.{ArePartsApart, PlacedLayers}
+use Rattle.window_list.specs.declared.layer.Layer.{Layer}
+use Rattle.window_list.specs.declared.layers.Relaid.{Relaid}
+use Rattle.window_list.specs.LayerChanges.{is_gained}
+use Rattle.window_list.specs.Holders.{ArePartsApart, PlacedLayers}
 use Rattle.window_items.specs.declared.item.Item.{Item}
 use Rattle.list_mgr.specs.declared.list_record.ListRecord.{ListRecord}
 use Rattle.list_mgr.specs.Seen.{all_seen, seen, kept_seen}
@@ -27,7 +27,7 @@ use Rattle.window_items.proofs.WindowLemmas.{found_in}
 use Rattle.desk_call.specs.declared.list.ListCall.TheVariants.{Dispose}
 use Rattle.desk_call.specs.declared.list.ListOf.{ListOf}
 use Rattle.desk_call.specs.declared.list.ListReply.TheVariants.{Done}
-use Rattle.desk_call.specs.declared.update.Layers.TheVariants as kinds
+use Rattle.desk_call.specs.declared.update.LayerKind.TheVariants as kinds
 use Rattle.vis_update.specs.declared.area.Area.{Area}
 use Rattle.vis_update.specs.declared.relaying.Relaying.{Relaying}
 use Rattle.vis_update.specs.Records.{WindowRecord}

@@ -7,7 +7,7 @@ use Rattle.window_items.proofs.WindowLemmas.{found_in}
 use Rattle.def_iface.specs.declared.part.Part.{Part}
 use Rattle.def_iface.specs.declared.part.Part.TheVariants as part
 use Rattle.def_iface.specs.Desk.{IsDesk}
-use Rattle.layer_list.specs.declared.layer.Layer.{Layer}
+use Rattle.window_list.specs.declared.layer.Layer.{Layer}
 use Rattle.desk_call.specs.declared.list.ListOf.{ListOf}
 use Rattle.desk_call.specs.declared.list.NewList.{NewList}
 use Rattle.vis_update.specs.Records.{WindowRecord}

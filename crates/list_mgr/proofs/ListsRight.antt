@@ -11,13 +11,13 @@ use Rattle.def_iface.specs.Owner.Owner.{Content}
 use Rattle.def_iface.specs.Change as plain
 use Rattle.def_iface.proofs.Changing.{stays_right}
 use Rattle.def_iface.proofs.Owning.{same_owner-true}
-use Rattle.layer_list.specs.declared.layer.Layer.{Layer}
+use Rattle.window_list.specs.declared.layer.Layer.{Layer}
 use Rattle.desk_call.specs.declared.list.ListOf.{ListOf}
 use Rattle.list_cells.specs.declared.selecting.Selecting.{Selecting}
 use Rattle.list_cells.specs.Grids.{Grid}
 use Rattle.list_cells.specs.Selections.{IsSelecting}
-use Rattle.list_paint.specs.Shown.{is_turned, list_shown}
-use Rattle.list_paint.proofs.TurnLemmas.{turned_shows}
+use Rattle.list_view.specs.Shown.{is_turned, list_shown}
+use Rattle.list_view.proofs.TurnLemmas.{turned_shows}
 use Rattle.list_mgr.specs.Fields.{with_cells}
 use Rattle.vis_update.specs.Records.{WindowRecord}
 use Rattle.vis_update.specs.Relayings.{afresh_change, is_part_afresh, with_layers_of}

@@ -10,10 +10,10 @@ use Rattle.window_items.specs.Items.{has_serial, items_of}
 use Rattle.def_iface.specs.declared.part.Part.TheVariants as part
 use Rattle.def_iface.specs.Owner.{Owner, same_owner}
 use Rattle.def_iface.specs.Owner.Owner.{Content}
-use Rattle.layer_list.specs.declared.layer.Layer.{Layer}
-use Rattle.layer_list.specs.Holders.{layer_has, part_at}
+use Rattle.window_list.specs.declared.layer.Layer.{Layer}
+use Rattle.window_list.specs.Holders.{layer_has, part_at}
 use Rattle.desk_call.specs.declared.list.ListOf.{ListOf}
-use Rattle.desk_call.specs.declared.update.Layers.TheVariants.{Controls}
+use Rattle.desk_call.specs.declared.update.LayerKind.TheVariants.{Controls}
 use Rattle.vis_update.specs.Records.{WindowRecord}
 use Rattle.window_paint.specs.Kinds.{is_of}
 use Rattle.window_mgr.specs.FullDesk.{FullDesk}

@@ -12,7 +12,7 @@ use Rattle.window_items.proofs.LawLemmas.{still_before}
 use Rattle.window_items.proofs.WindowLemmas.{count_of-push, count_of-push_other, count_of-remove, count_of-remove_other, is_in_at-other, items_of-push_other, items_of-remove_other}
 use Rattle.def_iface.specs.ListMeaning.{ListDefinition}
 use Rattle.def_iface.specs.Slots.{IsTaken}
-use Rattle.layer_list.specs.declared.layer.Layer.{Layer}
+use Rattle.window_list.specs.declared.layer.Layer.{Layer}
 use Rattle.desk_call.specs.declared.list.ListOf.{ListOf}
 use Rattle.vis_update.specs.Records.{WindowRecord}
 use Rattle.vis_update.specs.Relayings.{with_layers_of}

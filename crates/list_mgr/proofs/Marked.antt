@@ -17,7 +17,7 @@ use Rattle.def_iface.specs.Owner.Owner.{Content}
 use Rattle.def_iface.specs.Scratch.{scratch}
 use Rattle.def_iface.specs.Stocked.{SlotView}
 use Rattle.def_iface.proofs.Owning.{same_number, same_owner-true}
-use Rattle.layer_list.specs.Holders.{belongs_to}
+use Rattle.window_list.specs.Holders.{belongs_to}
 use Rattle.vis_update.specs.declared.area.Area.{Area}
 use Rattle.vis_update.specs.Areas.{is_content_of, stale_in}
 use Rattle.window_list.specs.declared.window.Window.{Window}

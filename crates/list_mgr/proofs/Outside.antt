@@ -15,7 +15,7 @@ use Rattle.list_cells.specs.Contents.{Content, empty_content}
 use Rattle.list_cells.specs.Grids.{Grid, content_of, is_cell, place_of, with_bytes}
 use Rattle.list_view.specs.Views.{IsView, View, any_cell_at, cell_at, cell_rect, is_before, view_rect}
 use Rattle.list_view.proofs.LawLemmas.{found_is_cell, holder_is_found}
-use Rattle.list_paint.specs.Shown.{cell_shown, in_cell, list_shown}
+use Rattle.list_view.specs.Shown.{cell_shown, in_cell, list_shown}
 use Rattle.list_mgr.specs.ListDesks.{KeptList}
 use Rattle.list_mgr.specs.ListSteps.{with_grid}
 use Rattle.list_mgr.specs.WholeLists.{IsSettledList}

@@ -12,14 +12,14 @@ use Rattle.def_iface.specs.ListMeaning.{ListLoan}
 use Rattle.def_iface.specs.Meaning.{Loan}
 use Rattle.def_iface.specs.Desk.{same_part}
 use Rattle.def_iface.proofs.Owning.{same_number}
-use Rattle.layer_list.specs.declared.layer.Layer.{Layer}
+use Rattle.window_list.specs.declared.layer.Layer.{Layer}
 use Rattle.window_items.specs.declared.item.Item.{Item}
 use Rattle.list_mgr.specs.declared.list_record.ListRecord.{ListRecord}
 use Rattle.list_mgr.specs.Seen.{seen}
 use Rattle.window_items.specs.Items.{has_serial, is_in, is_in_at, is_item, item_index, items_of, place_among}
 use Rattle.window_items.proofs.WindowLemmas.{found_in as list_in, position_there, slice_get-items_of}
 use Rattle.desk_call.specs.declared.list.ListOf.{ListOf}
-use Rattle.desk_call.specs.declared.update.Layers.TheVariants.{Controls}
+use Rattle.desk_call.specs.declared.update.LayerKind.TheVariants.{Controls}
 use Rattle.window_list.specs.declared.window.Window.{Window}
 use Rattle.window_paint.specs.Kinds.{is_of}
 use Rattle.window_mgr.specs.declared.manager.WindowManager.{WindowManager}

@@ -18,7 +18,7 @@ use Rattle.list_cells.specs.Contents.{empty_content}
 use Rattle.list_cells.specs.Grids.{Grid, IsGrid}
 use Rattle.list_cells.specs.Selections.{IsChange, IsSelecting, selected_by}
 use Rattle.list_cells.proofs.SelectionLemmas.{selected_grid, selecting_by}
-use Rattle.list_paint.specs.Shown.{is_turned}
+use Rattle.list_view.specs.Shown.{is_turned}
 use Rattle.window_items.specs.declared.item.Item.{Item}
 use Rattle.list_mgr.specs.declared.list_record.ListRecord.{ListRecord}
 use Rattle.list_mgr.specs.Seen.{seen}

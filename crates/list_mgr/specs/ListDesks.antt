@@ -10,7 +10,7 @@ use Rattle.def_iface.specs.Slots.{SlotOf}
 use Rattle.window_items.specs.declared.item.Item.{Item}
 use Rattle.list_mgr.specs.declared.list_record.ListRecord.{ListRecord}
 use Rattle.window_items.specs.Items.{has_serial, item_index}
-use Rattle.list_paint.specs.Shown.{list_shown}
+use Rattle.list_view.specs.Shown.{list_shown}
 use Rattle.desk_call.specs.declared.list.ListOf.{ListOf}
 use Rattle.window_mgr.specs.DeskStates.{DeskState, IsDeskUnchanged}
 use Rattle.control_mgr.specs.ControlDesks.{ControlDesk, ControlsState}

@@ -13,8 +13,8 @@ use Rattle.def_iface.specs.ListMeaning.{ListLoan}
 use Rattle.def_iface.specs.Meaning.{Loan}
 use Rattle.def_iface.specs.Slots.{IsTaken}
 use Rattle.def_iface.specs.Stocked.{SlotView}
-use Rattle.layer_list.specs.declared.layer.Layer.{Layer}
-use Rattle.layer_list.specs.Holders.{ArePartsApart, PlacedLayers}
+use Rattle.window_list.specs.declared.layer.Layer.{Layer}
+use Rattle.window_list.specs.Holders.{ArePartsApart, PlacedLayers}
 use Rattle.list_cells.specs.Clicks.{flags_number}
 use Rattle.list_cells.specs.Grids.{IsGrid, empty_grid}
 use Rattle.window_items.specs.Items.{count_of}

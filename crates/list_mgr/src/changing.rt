@@ -15,7 +15,7 @@ use crate::Lists;
 use crate::spots::Spot;
 use def_iface::{Defined, DefinedList, Part, Taken, TakenList};
 use desk_call::{CellOf, CellText, ListDrawing, ListReply};
-use layer_list::Layers;
+use window_list::Layers;
 use scan_region::Region;
 use std::alloc::AllocError;
 use tb_geom::{Rect, Refusal};
@@ -95,7 +95,7 @@ impl Lists<TakenList> {
         match mark {
             None => {
                 let layer = self.layer(windows, spot);
-                windows.redraw_layer(spot.window, layer, within, self);
+                windows.show_layer(spot.window, layer, within, self);
             }
             Some(update) => {
                 if changes {

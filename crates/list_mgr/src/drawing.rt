@@ -17,7 +17,7 @@ use bit_map::{Mode, Pattern};
 use control_mgr::{Controls, DrawnControl};
 use def_iface::Part;
 use draw_port::Canvas;
-use list_paint::{DrawnList, paint_list};
+use list_view::{DrawnList, paint_list};
 use window_paint::Showing;
 
 impl<D: DrawnList> Showing for Lists<D> {

@@ -1,7 +1,7 @@
 //! Lists that are ended, with their scroll bars; those of a window that is disposed of, and all.
 ghost use Rattle.std.specs.Prelude.{◌≡◌, ◌<◌, [], true, length, IfOk, IfSome};
 ghost use Rattle.def_iface.specs.Slots.{is_left};
-ghost use Rattle.layer_list.specs.Holders.{ArePartsApart};
+ghost use Rattle.window_list.specs.Holders.{ArePartsApart};
 ghost use Rattle.desk_call.specs.declared.list.ListCall.TheVariants as asks;
 ghost use Rattle.window_mgr.specs.Kept.{IsKept};
 ghost use Rattle.window_mgr.specs.Records.{desk_of};
@@ -20,7 +20,7 @@ use def_iface::{
     StockedLists, Taken, TakenControl, TakenList,
 };
 use desk_call::{ControlOf, ListOf, ListReply};
-use layer_list::Layers;
+use window_list::Layers;
 use scan_region::Region;
 use std::alloc::AllocError;
 use tb_geom::Refusal;

@@ -12,7 +12,7 @@ use crate::new_bars::{Bar, horizontal_bar, vertical_bar, wanted_bar};
 use control_mgr::{Addition, Controls};
 use def_iface::{Defined, DefinedControl, DefinedList, Part, Taken, TakenControl, TakenList};
 use desk_call::NewList;
-use layer_list::{Layer, Layers};
+use window_list::{Layer, Layers};
 use list_cells::ListCells;
 use scan_region::Region;
 use std::alloc::{AllocError, Global};

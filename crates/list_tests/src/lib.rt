@@ -1,4 +1,4 @@
-//! Lists of texts, drawn as `list_paint` draws them and as a slow model does, and selected where they stand: in more sizes, places
+//! Lists of texts, drawn as `list_view` draws them and as a slow model does, and selected where they stand: in more sizes, places
 //! and clips than scripts have.
 //!
 //! The model draws each cell of a list by itself, on a map of its own, and puts its pixels one by one where they lie in the

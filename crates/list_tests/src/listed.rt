@@ -1,14 +1,13 @@
 //! Lists as the library has them.
 ghost use Rattle.std.specs.Prelude.{◌≡◌, IfOk};
-ghost use Rattle.list_paint.specs.Walks.{IsReady};
+ghost use Rattle.list_view.specs.Walks.{IsReady};
 
 use crate::plain_list::PlainView;
 use bit_map::BitMap;
 use def_iface::{DefinedList, ListDef, ListStock, Size, Stage, TakenList};
 use draw_port::{Canvas, Cut};
 use list_cells::{Cell, ClickKeys, ListCells, Selecting, SelectionFlags};
-use list_paint::{paint_list, toggle_cells};
-use list_view::{Axis, ListView};
+use list_view::{paint_list, toggle_cells, Axis, ListView};
 use std::alloc::Global;
 use strike_font::Font;
 use tb_geom::{Point, Rect, Refusal};

@@ -1,5 +1,5 @@
 //! The model: each cell of a list by itself.
-ghost use Rattle.list_paint.specs.Walks.{IsReady};
+ghost use Rattle.list_view.specs.Walks.{IsReady};
 
 use crate::listed::{CLIP, COLUMNS, NOTHING_CUT, ORIGIN, ROWS, cell};
 use bit_map::{BitMap, Mode, Pattern};

@@ -4,3 +4,5 @@ pub mod ViewLemmas
 pub mod LineLemmas
 pub mod LawLemmas
 pub mod ReachLemmas
+pub mod WalkLemmas
+pub mod TurnLemmas

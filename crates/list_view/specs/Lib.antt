@@ -2,3 +2,5 @@
 pub mod Axes
 pub mod Views
 pub mod Bars
+pub mod Shown
+pub mod Walks

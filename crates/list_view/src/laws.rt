@@ -1,5 +1,5 @@
 //! What the definitions of a view imply.
-ghost use Rattle.std.specs.Prelude.{◌≡◌, ◌↔◌, ◌≤ℤ◌, ◌<ℤ◌, ◌-ℤ◌, ◌+◌, ℕ, ℤ, pos, true, Some};
+ghost use Rattle.std.specs.Prelude.{◌≡◌, ◌↔◌, ◌≤ℤ◌, ◌<ℤ◌, ◌-ℤ◌, ◌+◌, ℕ, ℤ, pos, true, Some, not, if◌then◌else◌, List};
 ghost use Rattle.tb_geom.specs.declared.point.Point.{Point};
 ghost use Rattle.tb_geom.specs.Rects.{rect_holds};
 ghost use Rattle.list_cells.specs.declared.cell.Cell.{Cell};
@@ -7,6 +7,10 @@ ghost use Rattle.list_cells.specs.Grids.{Grid, IsGrid, is_cell};
 ghost use Rattle.list_view.specs.declared.axis.Axis.{Axis};
 ghost use Rattle.list_view.specs.Axes.{IsAxis, end_of, bound, scrolled_line, line_end};
 ghost use Rattle.list_view.specs.Views.{View, IsView, IsCell, cell_rect, cell_at, columns_end, rows_end};
+ghost use Rattle.def_iface.specs.ListMeaning.{ListDefinition};
+ghost use Rattle.list_cells.specs.declared.selecting.Selecting.{Selecting};
+ghost use Rattle.list_cells.specs.Selections.{IsSelecting};
+ghost use Rattle.list_view.specs.Shown.{list_shown, is_turned};
 
 /// A point finds a cell of a list exactly where the cell's rectangle, cut to the view, holds it, and finds nothing but cells of
 /// the list.
@@ -58,4 +62,13 @@ pub fn scrolling_ends_where_the_last_line_shows()
 #[tactic(auto, using(crate::proofs::LawLemmas::cell_of_list))]
 pub fn each_cell_can_be_asked_for()
     ensures { (list : Grid) (c : Cell) → IsGrid list → is_cell list c ≡ true → IsCell c }
+{}
+
+/// What a list showed before a call that changed its selection, inverted where that call turns it, is what the list shows
+/// after the call.
+pub fn toggling_makes_what_is_shown()
+    ensures { (font : List ℕ) (d : ListDefinition) (v : View) (before after : Grid) (s : Selecting) (p : Point)
+        → IsSelecting before after s
+        → list_shown font d v after p
+        ≡ (if is_turned font d v before after p then not (list_shown font d v before p) else list_shown font d v before p) }
 {}

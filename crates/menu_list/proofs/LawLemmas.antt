@@ -10,7 +10,7 @@ use Rattle.menu_record.specs.declared.item.MenuItem.{MenuItem}
 use Rattle.menu_record.specs.declared.menu.Menu.{Menu}
 use Rattle.menu_record.specs.Menus.{can_choose, has_key, item_at, item_with_key}
 use Rattle.menu_record.proofs.LawLemmas.{found_item}
-use Rattle.menu_bar.specs.declared.titles.BarTitle.{BarTitle}
+use Rattle.desk_ground.specs.declared.titles.BarTitle.{BarTitle}
 use Rattle.menu_list.specs.declared.listed.Listed.{Listed}
 use Rattle.menu_list.specs.Lists.{has_number, menu_index, put_before, moved_before, with_inserted, in_bar, is_highlighted, title_of, titles_of, key_in, key_choice}
 use Rattle.menu_list.proofs.ListLemmas.{put_at_place}

@@ -3,3 +3,6 @@ pub mod BarLemmas
 pub mod LawLemmas
 pub mod ListLemmas
 pub mod SeenLemmas
+pub mod Indices
+pub mod FoundMenus
+pub mod SeenEdits

@@ -2,3 +2,6 @@
 pub mod Editing
 pub mod Lists
 pub mod Seen
+pub mod MenuEdits
+pub mod EditRefusals
+pub mod EditSteps

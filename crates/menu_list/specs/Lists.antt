@@ -6,7 +6,7 @@ use Rattle.std.specs.Ordering.{int_eq}
 use Rattle.tb_geom.specs.declared.refusal.Refusal.{Refusal}
 use Rattle.menu_record.specs.declared.menu.Menu.{Menu}
 use Rattle.menu_record.specs.Menus.{item_with_key}
-use Rattle.menu_bar.specs.declared.titles.BarTitle.{BarTitle}
+use Rattle.desk_ground.specs.declared.titles.BarTitle.{BarTitle}
 use Rattle.desk_call.specs.declared.menu.Choice.{Choice}
 use Rattle.menu_list.specs.declared.listed.Listed.{Listed}
 

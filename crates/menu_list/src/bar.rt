@@ -4,7 +4,7 @@ ghost use Rattle.menu_list.specs.Lists.{edit_at, with_inserted, moved_before, pl
 
 use crate::MenuList;
 use desk_call::Choice;
-use menu_bar::Titles;
+use desk_ground::Titles;
 
 impl<D> MenuList<D> {
     /// Puts a menu into the menu bar, to the left of the menu of the number `before`, or to the right of all where no menu

@@ -3,7 +3,7 @@ ghost use Rattle.std.specs.Prelude.{◌≡◌};
 ghost use Rattle.menu_list.specs.Lists.{has_number, is_highlighted, title_of, key_in};
 
 use desk_call::Choice;
-use menu_bar::BarTitle;
+use desk_ground::BarTitle;
 use menu_record::Menu;
 
 /// A menu of a desk.

@@ -7,8 +7,8 @@ use Rattle.tb_geom.specs.declared.point.Point.{Point}
 use Rattle.def_iface.specs.declared.size.Size.{Size}
 use Rattle.def_iface.specs.declared.taken.Taken.{Taken}
 use Rattle.def_iface.specs.Meaning.{Loan}
-use Rattle.menu_bar.specs.declared.bar.TitleHit.{TitleHit}
-use Rattle.menu_overlay.specs.Places.{pulled_place, shown_size}
+use Rattle.desk_ground.specs.declared.bar.TitleHit.{TitleHit}
+use Rattle.overlay.specs.Places.{pulled_place, shown_size}
 use Rattle.window_mgr.specs.declared.manager.WindowManager.{WindowManager}
 use Rattle.window_mgr.specs.FullDesk.{FullDesk}
 use Rattle.window_mgr.specs.Kept.{IsKept}

@@ -8,7 +8,7 @@ use Rattle.menu_list.specs.Lists.{edit_at, menu_index, moved_before, with_insert
 use Rattle.menu_list.proofs.LawLemmas.{as_many}
 use Rattle.desk_call.specs.declared.menu.MenuCall.{MenuCall}
 use Rattle.desk_call.specs.declared.menu.MenuCall.TheVariants.{Append, SetItem, Insert, Delete, Enable, Disable, Check}
-use Rattle.menu_edits.specs.MenuEdits.{edited, inserted, menus_after}
+use Rattle.menu_list.specs.MenuEdits.{edited, inserted, menus_after}
 use Rattle.menu_mgr.specs.MenuDesks.{MenuRecord, MenuSlot}
 use Rattle.menu_mgr.specs.WholeMenus.{uses, AreMenusStocked, AreLive}
 use Rattle.menu_mgr.proofs.Stocks.{live-edit, live-moved, stocked_alike, uses-edit, uses-moved}

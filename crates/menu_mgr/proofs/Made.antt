@@ -21,8 +21,8 @@ use Rattle.menu_list.proofs.SeenLemmas.{length-seen, remove-seen, slice_get-seen
 use Rattle.desk_call.specs.declared.menu.NewMenu.{NewMenu}
 use Rattle.desk_call.specs.declared.menu.MenuReply.{MenuReply}
 use Rattle.desk_call.specs.declared.menu.MenuReply.TheVariants.{Done}
-use Rattle.menu_edits.specs.EditRefusals.{is_long_text, judged_refusals}
-use Rattle.menu_edits.proofs.SeenEdits.{is_no_menu-seen}
+use Rattle.menu_list.specs.EditRefusals.{is_long_text, judged_refusals}
+use Rattle.menu_list.proofs.SeenEdits.{is_no_menu-seen}
 use Rattle.menu_mgr.specs.declared.menus.Menus.{Menus}
 use Rattle.menu_mgr.specs.MakingSteps.{IsAsRoomy, IsEndedIfThere, IsListed, IsMade, IsMadeOrRefused}
 use Rattle.menu_mgr.specs.MenuDesks.{MenuRecord, MenuSlot}

@@ -9,7 +9,7 @@ use Rattle.def_iface.specs.Owner.Owner.{Desktop, Bar, Frame, Content}
 use Rattle.def_iface.specs.Owner.{is_content}
 use Rattle.def_iface.specs.Change as plain
 use Rattle.def_iface.proofs.Changing.{stays_right}
-use Rattle.menu_bar.specs.declared.titles.BarTitle.{BarTitle}
+use Rattle.desk_ground.specs.declared.titles.BarTitle.{BarTitle}
 use Rattle.menu_list.specs.Lists.{edit_at, in_bar, menu_index, title_of, titles_of}
 use Rattle.desk_call.specs.declared.activity.Activity.{Activity}
 use Rattle.desk_call.specs.declared.activity.Activity.TheVariants.{Idle, Updating, Tracking, Pulling, TrackingControl, Dragging, Growing}

@@ -3,7 +3,7 @@ use Rattle.std.proofs.Common.{ℕ, List, Option, None, Some, Result, Ok, Err, re
 use Rattle.tb_geom.specs.declared.point.Point.{Point}
 use Rattle.tb_geom.specs.declared.refusal.Refusal.{Refusal}
 use Rattle.tb_geom.specs.Points.{PixelSet}
-use Rattle.menu_bar.specs.declared.titles.BarTitle.{BarTitle}
+use Rattle.desk_ground.specs.declared.titles.BarTitle.{BarTitle}
 use Rattle.def_iface.specs.declared.part.Part.{Part}
 use Rattle.def_iface.specs.Desk.{IsDesk}
 use Rattle.def_iface.specs.Change.{no_change}

@@ -12,14 +12,14 @@ use Rattle.def_iface.specs.MenuMeaning.{MenuLoan}
 use Rattle.menu_list.specs.Lists.{menu_index, titles_of}
 use Rattle.menu_list.specs.Seen.{seen}
 use Rattle.menu_list.proofs.SeenLemmas.{length-seen, menu_index-seen}
-use Rattle.menu_overlay.specs.Overlays.{IsShown}
+use Rattle.overlay.specs.Overlays.{IsShown}
 use Rattle.desk_call.specs.declared.activity.Activity.{Activity}
 use Rattle.desk_call.specs.declared.activity.Activity.TheVariants.{Idle, Pulling}
 use Rattle.desk_call.specs.declared.activity.PulledMenu.{PulledMenu}
 use Rattle.desk_call.specs.declared.menu.Choice.{Choice}
 use Rattle.desk_call.specs.declared.menu.MenuCall.TheVariants.{Move, Up}
 use Rattle.desk_call.specs.declared.menu.MenuReply.TheVariants as reply
-use Rattle.menu_edits.proofs.FoundMenus.{is_at}
+use Rattle.menu_list.proofs.FoundMenus.{is_at}
 use Rattle.window_mgr.specs.declared.manager.WindowManager.{WindowManager}
 use Rattle.window_mgr.specs.BarShown.{IsBarShown}
 use Rattle.window_mgr.specs.Records.{desk_of, state_of}

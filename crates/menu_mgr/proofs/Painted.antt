@@ -17,11 +17,11 @@ use Rattle.menu_list.specs.declared.listed.Listed.{Listed}
 use Rattle.menu_list.specs.Lists.{menu_index}
 use Rattle.menu_list.specs.Seen.{seen}
 use Rattle.menu_list.proofs.SeenLemmas.{menu_with-seen, slice_get-seen}
-use Rattle.menu_edits.proofs.Indices.{with_found, with_none}
-use Rattle.menu_overlay.specs.Overlays.{IsShown, Pulled, pulled_rect}
-use Rattle.menu_overlay.specs.Outlines.{IsOutlined, outline_holds, outlined}
-use Rattle.menu_overlay.proofs.OutlineLemmas.{inverted}
-use Rattle.menu_overlay.proofs.ShownLemmas.{pulled_shows}
+use Rattle.menu_list.proofs.Indices.{with_found, with_none}
+use Rattle.overlay.specs.Overlays.{IsShown, Pulled, pulled_rect}
+use Rattle.overlay.specs.Outlines.{IsOutlined, outline_holds, outlined}
+use Rattle.overlay.proofs.OutlineLemmas.{inverted}
+use Rattle.overlay.proofs.ShownLemmas.{pulled_shows}
 use Rattle.desk_call.specs.declared.activity.Activity.{Activity}
 use Rattle.desk_call.specs.declared.activity.Activity.TheVariants.{Dragging, Growing, Pulling}
 use Rattle.desk_call.specs.declared.activity.DraggedWindow.{DraggedWindow}

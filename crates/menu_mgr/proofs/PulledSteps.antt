@@ -16,13 +16,13 @@ use Rattle.menu_list.specs.declared.listed.Listed.{Listed}
 use Rattle.menu_list.specs.Lists.{menu_index, menu_with, titles_of}
 use Rattle.menu_list.specs.Seen.{seen}
 use Rattle.menu_list.proofs.SeenLemmas.{titles_of-seen}
-use Rattle.menu_overlay.specs.Overlays.{IsShown, is_menu_place}
+use Rattle.overlay.specs.Overlays.{IsShown, is_menu_place}
 use Rattle.desk_call.specs.declared.activity.Activity.{Activity}
 use Rattle.desk_call.specs.declared.activity.Activity.TheVariants.{Pulling}
 use Rattle.desk_call.specs.declared.activity.PulledMenu.{PulledMenu}
 use Rattle.desk_call.specs.declared.menu.MenuCall.TheVariants.{Down}
 use Rattle.desk_call.specs.declared.menu.MenuReply.TheVariants as reply
-use Rattle.menu_edits.proofs.FoundMenus.{is_at}
+use Rattle.menu_list.proofs.FoundMenus.{is_at}
 use Rattle.window_mgr.specs.declared.manager.WindowManager.{WindowManager}
 use Rattle.window_mgr.specs.BarShown.{IsBarShown}
 use Rattle.window_mgr.specs.DeskStates.{Opened}

@@ -5,15 +5,15 @@ use Rattle.std.specs.Option.{option_map, option_and_then}
 use Rattle.bit_map.specs.Bits.{Bits}
 use Rattle.def_iface.specs.declared.window_def.Stage.TheVariants.{Live}
 use Rattle.def_iface.specs.MenuMeaning.{MenuLoan}
-use Rattle.menu_bar.specs.declared.bar.TitleHit.{TitleHit}
+use Rattle.desk_ground.specs.declared.bar.TitleHit.{TitleHit}
 use Rattle.menu_list.specs.declared.listed.Listed.{Listed}
 use Rattle.menu_list.specs.Lists.{edit_at, menu_index, menu_with}
 use Rattle.menu_list.specs.Seen.{seen, all_seen}
 use Rattle.menu_list.proofs.ListLemmas.{read_there}
 use Rattle.menu_list.proofs.SeenLemmas.{menu_with-seen, slice_get-seen}
-use Rattle.menu_overlay.specs.Overlays.{IsShown}
+use Rattle.overlay.specs.Overlays.{IsShown}
 use Rattle.desk_call.specs.declared.activity.PulledMenu.{PulledMenu}
-use Rattle.menu_edits.proofs.Indices.{with_found, with_none}
+use Rattle.menu_list.proofs.Indices.{with_found, with_none}
 use Rattle.menu_mgr.specs.declared.pulling.Titled.{Titled}
 use Rattle.menu_mgr.specs.Leaving.{indexed, of_another}
 use Rattle.menu_mgr.specs.MenuDesks.{MenuRecord}

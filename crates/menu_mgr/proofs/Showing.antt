@@ -6,7 +6,7 @@ use Rattle.def_iface.specs.declared.taken_menu.TakenMenu.{TakenMenu}
 use Rattle.def_iface.specs.Meaning.{Loan}
 use Rattle.def_iface.specs.MenuMeaning.{MenuLoan}
 use Rattle.def_iface.specs.Stocked.{SlotView}
-use Rattle.menu_bar.specs.declared.titles.BarTitle.{BarTitle}
+use Rattle.desk_ground.specs.declared.titles.BarTitle.{BarTitle}
 use Rattle.menu_list.specs.Lists.{titles_of}
 use Rattle.menu_list.proofs.SeenLemmas.{length-seen, titles_of-seen}
 use Rattle.desk_call.specs.declared.activity.Activity.TheVariants.{Idle}
@@ -15,7 +15,7 @@ use Rattle.window_mgr.specs.BarShown.{IsBarShown}
 use Rattle.window_mgr.specs.DeskStates.{Opened}
 use Rattle.window_mgr.specs.FullDesk.{FullDesk}
 use Rattle.window_mgr.specs.Records.{state_of}
-use Rattle.menu_overlay.specs.declared.overlay.Overlay.{Overlay}
+use Rattle.overlay.specs.declared.overlay.Overlay.{Overlay}
 use Rattle.menu_mgr.specs.declared.menus.Menus.{Menus}
 use Rattle.menu_mgr.specs.MakingSteps.{IsAsRoomy}
 use Rattle.menu_mgr.specs.MenuDesks.{MenuRecord, MenuSlot}

@@ -10,8 +10,8 @@ use Rattle.def_iface.specs.Stocked.{SlotView}
 use Rattle.def_iface.specs.Desk.{on_screen}
 use Rattle.def_iface.specs.Owner.{owner_among, own_bit, is_content}
 use Rattle.def_iface.specs.Owner.Owner.{Bar}
-use Rattle.menu_bar.specs.Bars.{bar_picture}
-use Rattle.menu_bar.specs.declared.titles.BarTitle.{BarTitle}
+use Rattle.desk_ground.specs.Bars.{bar_picture}
+use Rattle.desk_ground.specs.declared.titles.BarTitle.{BarTitle}
 use Rattle.window_mgr.specs.declared.manager.WindowManager.{WindowManager}
 use Rattle.window_mgr.specs.BarShown.{IsBarShown}
 use Rattle.window_mgr.specs.FullDesk.{FullDesk, layered_desk}

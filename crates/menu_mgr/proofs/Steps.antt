@@ -24,10 +24,10 @@ use Rattle.desk_call.specs.declared.menu.MenuReply.TheVariants.{Done}
 use Rattle.desk_call.specs.declared.menu.NewMenu.{NewMenu}
 use Rattle.desk_call.specs.Gates.{gate}
 use Rattle.desk_call.specs.Steps.{IsRefusedFor}
-use Rattle.menu_edits.specs.EditRefusals.{edit_refusals, may_menu_grow}
-use Rattle.menu_edits.specs.EditSteps.{IsEdit}
-use Rattle.menu_edits.specs.MenuEdits.{menus_after}
-use Rattle.menu_edits.proofs.SeenEdits.{answer_to-seen, edit_refusals-seen, highlight_after-seen, menus_after-seen}
+use Rattle.menu_list.specs.EditRefusals.{edit_refusals, may_menu_grow}
+use Rattle.menu_list.specs.EditSteps.{IsEdit}
+use Rattle.menu_list.specs.MenuEdits.{menus_after}
+use Rattle.menu_list.proofs.SeenEdits.{answer_to-seen, edit_refusals-seen, highlight_after-seen, menus_after-seen}
 use Rattle.window_mgr.specs.declared.manager.WindowManager.{WindowManager}
 use Rattle.window_mgr.specs.BarShown.{IsBarShown}
 use Rattle.window_mgr.specs.DeskStates.{Opened}

@@ -7,13 +7,13 @@ use Rattle.bit_map.specs.Bits.{Bits}
 use Rattle.def_iface.specs.declared.size.Size.{Size}
 use Rattle.def_iface.specs.MenuMeaning.{MenuDefinition}
 use Rattle.menu_record.specs.declared.menu.Menu.{Menu}
-use Rattle.menu_bar.specs.declared.bar.TitleHit.{TitleHit}
+use Rattle.desk_ground.specs.declared.bar.TitleHit.{TitleHit}
 use Rattle.menu_list.specs.Lists.{edit_at, has_number, menu_index}
-use Rattle.menu_overlay.specs.Overlays.{IsShown}
-use Rattle.menu_overlay.specs.Places.{pulled_place, shown_size}
+use Rattle.overlay.specs.Overlays.{IsShown}
+use Rattle.overlay.specs.Places.{pulled_place, shown_size}
 use Rattle.desk_call.specs.declared.activity.Activity.TheVariants.{Pulling}
 use Rattle.desk_call.specs.declared.activity.PulledMenu.{PulledMenu}
-use Rattle.menu_edits.proofs.Indices.{with_found}
+use Rattle.menu_list.proofs.Indices.{with_found}
 use Rattle.window_mgr.specs.FullDesk.{FullDesk}
 use Rattle.menu_mgr.specs.MenuDesks.{MenuRecord, MenuSlot}
 use Rattle.menu_mgr.specs.MenuSteps.{IsTold, IsToldAt, with_definition}

@@ -14,10 +14,10 @@ use Rattle.def_iface.specs.MenuMeaning.{MenuLoan}
 use Rattle.menu_list.specs.declared.listed.Listed.{Listed}
 use Rattle.menu_list.specs.Lists.{menu_index}
 use Rattle.menu_list.specs.Seen.{all_seen}
-use Rattle.menu_overlay.specs.Overlays.{pulled_rect}
+use Rattle.overlay.specs.Overlays.{pulled_rect}
 use Rattle.desk_call.specs.declared.activity.Activity.TheVariants.{Pulling}
 use Rattle.desk_call.specs.declared.activity.PulledMenu.{PulledMenu}
-use Rattle.menu_edits.proofs.FoundMenus.{is_at}
+use Rattle.menu_list.proofs.FoundMenus.{is_at}
 use Rattle.window_mgr.specs.declared.manager.WindowManager.{WindowManager}
 use Rattle.window_mgr.specs.FullDesk.{FullDesk, layered_desk}
 use Rattle.window_mgr.specs.Records.{desk_of}

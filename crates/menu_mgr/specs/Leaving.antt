@@ -7,7 +7,7 @@ use Rattle.def_iface.specs.declared.taken_menu.TakenMenu.{TakenMenu}
 use Rattle.def_iface.specs.Meaning.{Loan}
 use Rattle.def_iface.specs.MenuMeaning.{MenuLoan}
 use Rattle.def_iface.specs.Stocked.{SlotView}
-use Rattle.menu_bar.specs.declared.bar.TitleHit.{TitleHit}
+use Rattle.desk_ground.specs.declared.bar.TitleHit.{TitleHit}
 use Rattle.menu_list.specs.declared.listed.Listed.{Listed}
 use Rattle.menu_list.specs.Lists.{menu_index}
 use Rattle.desk_call.specs.declared.activity.Activity.{Activity}

@@ -9,7 +9,7 @@ use Rattle.desk_call.specs.declared.menu.NewMenu.{NewMenu}
 use Rattle.desk_call.specs.declared.menu.MenuCall.{MenuCall}
 use Rattle.desk_call.specs.declared.menu.MenuCall.TheVariants.{New, Dispose, Down, Move, Up}
 use Rattle.menu_record.specs.Edits.{is_menu_id}
-use Rattle.menu_edits.specs.EditRefusals.{edit_refusals, is_long_text, is_no_menu}
+use Rattle.menu_list.specs.EditRefusals.{edit_refusals, is_long_text, is_no_menu}
 use Rattle.menu_mgr.specs.MenuDesks.{MenuSlot, MenusState}
 
 -- the name of the kind by which the stock finds menus' definitions

@@ -23,8 +23,8 @@ use Rattle.desk_call.specs.Steps.{IsStepOf}
 use Rattle.window_mgr.specs.BarShown.{IsBarShown}
 use Rattle.window_mgr.specs.DeskStates.{SameActivity}
 use Rattle.menu_mgr.specs.MenuDesks.{MenuDesk, MenuRecord, MenuSlot, IsMenuDeskUnchanged}
-use Rattle.menu_edits.specs.MenuEdits.{answer_to, highlight_after, menus_after}
-use Rattle.menu_edits.specs.EditRefusals.{may_menu_grow}
+use Rattle.menu_list.specs.MenuEdits.{answer_to, highlight_after, menus_after}
+use Rattle.menu_list.specs.EditRefusals.{may_menu_grow}
 use Rattle.menu_mgr.specs.MenuRefusals.{menu_kind, menu_refusals}
 use Rattle.menu_mgr.specs.Pulling.{TitleOf, item_under, pulled_below, title_of_point}
 

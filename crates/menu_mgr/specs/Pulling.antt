@@ -8,12 +8,12 @@ use Rattle.tb_geom.specs.Rects.{rect_holds}
 use Rattle.bit_map.specs.Bits.{Bits, on_map, bit}
 use Rattle.def_iface.specs.Desk.{on_screen}
 use Rattle.def_iface.specs.declared.size.Size.{Size}
-use Rattle.menu_bar.specs.declared.bar.TitleHit.{TitleHit}
-use Rattle.menu_bar.specs.Bars.{title_at}
+use Rattle.desk_ground.specs.declared.bar.TitleHit.{TitleHit}
+use Rattle.desk_ground.specs.Bars.{title_at}
 use Rattle.menu_list.specs.Lists.{menu_with}
-use Rattle.menu_overlay.specs.Overlays.{Pulled, pulled_rect, shown_bit}
-use Rattle.menu_overlay.specs.Places.{pulled_place, shown_size}
-use Rattle.menu_overlay.specs.Outlines.{outlined}
+use Rattle.overlay.specs.Overlays.{Pulled, pulled_rect, shown_bit}
+use Rattle.overlay.specs.Places.{pulled_place, shown_size}
+use Rattle.overlay.specs.Outlines.{outlined}
 use Rattle.desk_call.specs.declared.activity.Activity.{Activity}
 use Rattle.desk_call.specs.declared.activity.Activity.TheVariants.{Pulling}
 use Rattle.desk_call.specs.declared.activity.PulledMenu.{PulledMenu}

@@ -8,8 +8,8 @@ use Rattle.def_iface.specs.MenuMeaning.{MenuLoan, is_menu_size}
 use Rattle.def_iface.specs.Stocked.{SlotView}
 use Rattle.menu_list.specs.declared.listed.Listed.{Listed}
 use Rattle.menu_list.specs.Seen.{all_seen}
-use Rattle.menu_overlay.specs.Overlays.{IsShown, is_menu_place}
-use Rattle.menu_overlay.specs.Outlines.{IsOutlined}
+use Rattle.overlay.specs.Overlays.{IsShown, is_menu_place}
+use Rattle.overlay.specs.Outlines.{IsOutlined}
 use Rattle.desk_call.specs.declared.activity.Activity.{Activity}
 use Rattle.desk_call.specs.declared.activity.Activity.TheVariants.{Pulling, Dragging, Growing}
 use Rattle.desk_call.specs.Outlines.{IsOutlineKept}

@@ -11,7 +11,7 @@
 //! changes them shows the bar anew (`IsBarShown`), and no other pixel of that image changes. Whether they change is seen by the
 //! titles that the bar has, whichever call it is: between calls it shows those, so nothing is drawn where they stay
 //! (`are_shown`). A menu that is pulled down lies
-//! over it on a map of its own (`menu_overlay`): `screen_of` is the pulled menu where it lies, and else the base image. So there
+//! over it on a map of its own (`overlay`): `screen_of` is the pulled menu where it lies, and else the base image. So there
 //! is nothing to bring back when it is put away, and no call about menus can hurt what windows show.
 //!
 //! The gray outline of a window that is dragged or grown is shown on the same map (`show_outline`), since while one is open no

@@ -6,7 +6,7 @@ ghost use Rattle.menu_list.specs.Lists.{menu_index};
 ghost use Rattle.menu_record.specs.Edits.{new_menu};
 ghost use Rattle.menu_mgr.specs.MakingSteps.{IsEndedIfThere, IsListed, IsMadeOrRefused};
 ghost use Rattle.menu_mgr.specs.MenuClosing.{AreMenusClosed};
-ghost use Rattle.menu_edits.specs.EditRefusals.{judged_refusals};
+ghost use Rattle.menu_list.specs.EditRefusals.{judged_refusals};
 ghost use Rattle.menu_mgr.specs.MenuRefusals.{menu_form_refusals};
 ghost use Rattle.menu_mgr.specs.MenuSteps.{IsMenuShut};
 ghost use Rattle.menu_mgr.specs.WholeMenus.{AreLive, AreMenusStocked, menus_of};
@@ -14,8 +14,7 @@ ghost use Rattle.tb_geom.specs.Refusals.{first_refusal};
 
 use crate::{MenuCall, MenuReply, Menus, NewMenu};
 use def_iface::{DefinedMenu, MenuStock, Stage, StockedMenus, TakenMenu};
-use menu_edits::index_of;
-use menu_list::{Listed, MenuList};
+use menu_list::{index_of, Listed, MenuList};
 use menu_record::Menu;
 use tb_geom::Refusal;
 

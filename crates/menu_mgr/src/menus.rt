@@ -11,7 +11,7 @@ use crate::titles::are_shown;
 use bit_map::BitMap;
 use def_iface::{Defined, Taken, TakenMenu};
 use menu_list::MenuList;
-use menu_overlay::Overlay;
+use overlay::Overlay;
 use std::alloc::{AllocError, Global};
 use window_mgr::WindowManager;
 

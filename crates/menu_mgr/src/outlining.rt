@@ -2,7 +2,7 @@
 ghost use Rattle.std.specs.Prelude.{◌≡◌, List};
 ghost use Rattle.def_iface.specs.Lines.{AreApart};
 ghost use Rattle.desk_call.specs.Outlines.{IsOutlineKept};
-ghost use Rattle.menu_overlay.specs.Outlines.{IsOutlined};
+ghost use Rattle.overlay.specs.Outlines.{IsOutlined};
 ghost use Rattle.menu_mgr.specs.MenuDesks.{MenuSlot};
 ghost use Rattle.menu_mgr.specs.Pulling.{PullsNone};
 ghost use Rattle.menu_mgr.specs.WholeMenus.{IsFrontShown, IsPlaced, IsWholeMenus};

@@ -4,13 +4,13 @@ ghost use Rattle.desk_call.specs.declared.activity.Activity.TheVariants.{Pulling
 ghost use Rattle.def_iface.specs.MenuMeaning.{is_menu_size};
 ghost use Rattle.menu_mgr.specs.WholeMenus.{AreLive, IsPlaced, menus_of};
 ghost use Rattle.menu_mgr.specs.Pulling.{IsFrontPainted, pulled_of};
-ghost use Rattle.menu_overlay.specs.Overlays.{IsShown, is_menu_place};
+ghost use Rattle.overlay.specs.Overlays.{IsShown, is_menu_place};
 
 use crate::Menus;
 use bit_map::BitMap;
 use def_iface::{DefinedMenu, TakenMenu};
 use desk_call::{Activity, PulledMenu};
-use menu_overlay::{draw_outline, draw_pulled};
+use overlay::{draw_outline, draw_pulled};
 use strike_font::Font;
 
 impl Menus {

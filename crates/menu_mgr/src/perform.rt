@@ -13,7 +13,7 @@ ghost use Rattle.menu_mgr.specs.WholeMenus.{IsWholeMenus};
 use crate::{MenuCall, MenuReply, Menus, NewMenu};
 use def_iface::{Defined, DefinedMenu, MenuStock, StockedMenus, Taken, TakenMenu};
 use desk_call::Activity;
-use menu_edits::edit;
+use menu_list::edit;
 use tb_geom::Refusal;
 use window_mgr::WindowManager;
 

@@ -9,7 +9,7 @@ ghost use Rattle.desk_call.specs.declared.activity.Activity.TheVariants.{Idle, P
 ghost use Rattle.desk_call.specs.declared.menu.MenuCall.TheVariants as asks;
 ghost use Rattle.menu_list.specs.Lists.{menu_index, titles_of};
 ghost use Rattle.menu_list.specs.Seen.{seen};
-ghost use Rattle.menu_overlay.specs.Overlays.{IsShown, is_menu_place};
+ghost use Rattle.overlay.specs.Overlays.{IsShown, is_menu_place};
 ghost use Rattle.window_mgr.specs.BarShown.{IsBarShown};
 ghost use Rattle.window_mgr.specs.Kept.{IsKept};
 ghost use Rattle.window_mgr.specs.Records.{desk_of};
@@ -22,11 +22,11 @@ ghost use Rattle.menu_mgr.specs.WholeMenus.{AreLive, IsPlaced, menus_of};
 use crate::{Choice, MenuReply, Menus};
 use def_iface::{Defined, DefinedMenu, MenuChange, Taken, TakenMenu};
 use desk_call::{Activity, PulledMenu};
-use menu_bar::{TitleHit, title_at};
-use menu_overlay::{pulled_place, pulled_rect, shown_size};
+use desk_ground::{TitleHit, title_at};
+use overlay::{pulled_place, pulled_rect, shown_size};
 use strike_font::Font;
 use tb_geom::{Point, Refusal};
-use window_mgr::{Parts, WindowManager};
+use window_mgr::{DeskView, WindowManager};
 
 /// A title of the menu bar that a point is on.
 #[derive(Clone, Copy)]
@@ -77,7 +77,7 @@ impl Menus {
         ensures within { IfSome result (λ t. t.at < length self.now.list.menus.items) }
         ensures near { IfSome result (λ t. (pos 0 ≤ℤ t.hit.left) × (t.hit.left ≤ℤ pos 1200000)) }
     {
-        let Parts {
+        let DeskView {
             bar,
             titles,
             font,
@@ -194,7 +194,7 @@ impl Menus {
             (record { hit = title.hit; record_of = seen ⟦<TakenMenu as DefinedMenu>⟧.menu_loan l })) }
         ensures placed { (is_menu_place result.place ≡ true) × (is_menu_size result.size ≡ true) }
     {
-        let Parts { width, font, .. } = windows.parts();
+        let DeskView { width, font, .. } = windows.parts();
         let listed = &self.list.menus[title.at];
         let size = shown_size(&listed.menu, listed.definition.size(&listed.menu, font));
         PulledMenu {

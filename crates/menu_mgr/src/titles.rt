@@ -3,7 +3,7 @@ ghost use Rattle.std.specs.Prelude.{◌≡◌, true};
 ghost use Rattle.menu_list.specs.Lists.{title_of, titles_of};
 
 use def_iface::TakenMenu;
-use menu_bar::BarTitle;
+use desk_ground::BarTitle;
 use menu_list::{Listed, MenuList};
 
 /// Whether these are the titles of the menus, in their order.

@@ -3,7 +3,7 @@
 use crate::desk::{COLUMNS, Owner, PlainDesk, SCREEN, seen_from};
 use crate::steps::Effect;
 use def_iface::Part;
-use desk_call::Layers as Kind;
+use desk_call::LayerKind as Kind;
 use std::alloc::{AllocError, Global};
 use tb_geom::Point;
 

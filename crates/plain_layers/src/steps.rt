@@ -5,7 +5,7 @@ use crate::desk::{
     NOTHING, Owner, Painting, PlainDesk, PlainLayer, PlainWindow, moved, moved_box, seen_from,
 };
 use def_iface::{Part, Size};
-use desk_call::Layers as Kind;
+use desk_call::LayerKind as Kind;
 use tb_geom::{Point, Rect};
 
 /// One call, or a few that belong together. Windows are named by their serials.

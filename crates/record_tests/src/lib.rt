@@ -1,8 +1,8 @@
-//! What no clause says of menus, controls and lists as plain data, and of the outlines of `menu_overlay`, by tests: that calls
+//! What no clause says of menus, controls and lists as plain data, and of the outlines of `overlay`, by tests: that calls
 //! succeed where memory is not refused, and that the words of the contracts are those of the Menu Manager, the Control Manager and
 //! the List Manager. Expected values are tables written by hand, and never come from the libraries.
 //!
-//! `menus` tests `menu_record`, `menu_lists` tests `menu_list`, and `outlines` the outlines of `menu_overlay`. `controls` tests
+//! `menus` tests `menu_record`, `menu_lists` tests `menu_list`, and `outlines` the outlines of `overlay`. `controls` tests
 //! `control_values`, `cells` tests `list_cells`, and `views` tests `list_view`. `items` tests `window_items`, in which the controls
 //! and the lists of windows lie.
 #![tactic(auto)]

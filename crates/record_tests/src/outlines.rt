@@ -4,7 +4,7 @@ ghost use Rattle.std.specs.Prelude.{◌≡◌, IfOk};
 use bit_blit::{Ink, draw_rect};
 use bit_map::{BitMap, Mode, Pattern};
 use def_iface::frame_lines;
-use menu_overlay::{Overlay, draw_outline};
+use overlay::{Overlay, draw_outline};
 use std::alloc::Global;
 use std::test::Fail;
 use tb_geom::{Point, Rect, Refusal};

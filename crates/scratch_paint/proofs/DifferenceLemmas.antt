@@ -15,7 +15,7 @@ use Rattle.window_mgr.proofs.Arranged.{between-is_below}
 use Rattle.window_mgr.specs.FullDesk.{FullDesk, IsRightState, layered_desk}
 use Rattle.bit_map.specs.Modes.{xor_bit}
 use Rattle.bit_map.specs.Patterns.{pattern_bit, gray}
-use Rattle.menu_overlay.specs.Overlays.{Pulled, pulled_bit, pulled_rect, shown_bit}
+use Rattle.overlay.specs.Overlays.{Pulled, pulled_bit, pulled_rect, shown_bit}
 use Rattle.desk_toolbox.specs.Fronts.{is_on_outline, pulled, screen_of, screen_scratch, with_outline}
 use Rattle.desk_toolbox.specs.ToolboxStates.{ToolboxState}
 use Rattle.scratch_paint.specs.Screens.{IsAsLarge, IsPaintedScreen}

@@ -27,8 +27,8 @@ use Rattle.def_iface.specs.Meaning.{IsWithin, Loan}
 use Rattle.def_iface.specs.Desk.{ContentLayer, LayeredWindow, in_structure, local, on_screen}
 use Rattle.def_iface.specs.Scratch.{painted, content_layers, window_layers, layers_of, scratch}
 use Rattle.def_iface.specs.Scratch as painting
-use Rattle.layer_list.specs.declared.layer.Layer.{Layer}
-use Rattle.layer_list.specs.Holders.{layer_has}
+use Rattle.window_list.specs.declared.layer.Layer.{Layer}
+use Rattle.window_list.specs.Holders.{layer_has}
 use Rattle.window_list.specs.declared.list.WindowList.{WindowList}
 use Rattle.window_list.specs.declared.window.Window.{Window}
 use Rattle.vis_update.specs.Places.{IsRegionsAt, is_placed}
@@ -41,8 +41,8 @@ use Rattle.window_mgr.specs.Records.{desk_of, desk_showing}
 use Rattle.window_mgr.specs.Whole.{IsSettled}
 use Rattle.window_mgr.proofs.Arranged.{between-is_below}
 use Rattle.window_mgr.proofs.EmptyLemmas.{below_rows, no_row}
-use Rattle.menu_bar.specs.declared.titles.BarTitle.{BarTitle}
-use Rattle.menu_bar.specs.Bars.{bar_picture}
+use Rattle.desk_ground.specs.declared.titles.BarTitle.{BarTitle}
+use Rattle.desk_ground.specs.Bars.{bar_picture}
 use Rattle.scratch_paint.specs.Paints.{IsPaintedDesk, layers_value, look_in, window_value, windows_value}
 
 -- a settled window may be where it is

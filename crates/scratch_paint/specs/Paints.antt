@@ -8,7 +8,7 @@ use Rattle.def_iface.specs.declared.part.Part.{Part}
 use Rattle.def_iface.specs.Desk.{on_screen}
 use Rattle.def_iface.specs.Meaning.{IsWithin}
 use Rattle.def_iface.specs.Scratch.{painted, content_layers, window_layers, layers_of, scratch}
-use Rattle.layer_list.specs.declared.layer.Layer.{Layer}
+use Rattle.window_list.specs.declared.layer.Layer.{Layer}
 use Rattle.vis_update.specs.Records.{WindowRecord, Look, content_layer, layered_window}
 use Rattle.window_mgr.specs.FullDesk.{FullDesk, layered_desk}
 

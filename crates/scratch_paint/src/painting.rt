@@ -15,15 +15,14 @@ use bit_map::BitMap;
 use def_iface::{
     Defined, DefinedControl, DefinedList, DefinedMenu, Taken, TakenControl, TakenList, TakenMenu,
 };
-use desk_ground::{Ground, empty_ground};
+use desk_ground::{Ground, empty_ground, draw_bar};
 use desk_toolbox::Toolbox;
-use menu_bar::draw_bar;
 use scan_region::Region;
 use std::alloc::{AllocError, Global};
 use strike_font::Font;
 use tb_geom::Refusal;
 use window_list::WindowList;
-use window_mgr::{Parts, WindowManager};
+use window_mgr::{DeskView, WindowManager};
 use window_paint::Showing;
 
 /// A new map, of the size of the screen, with the whole desk painted from nothing, back to front: what the windows, the menu
@@ -54,7 +53,7 @@ fn paint_base<S: Showing>(
     ensures { IfOk result (IsPaintedDesk
         (desk_showing (S.shows layers.now) (desk_of ⟦<Taken as Defined>⟧.loan windows.now []))) }
 {
-    let Parts {
+    let DeskView {
         width,
         height,
         bar,

@@ -8,7 +8,7 @@ ghost use Rattle.scan_region.specs.Moves.{StaysInRange};
 ghost use Rattle.bit_blit.specs.Draws.{Draws};
 ghost use Rattle.draw_port.specs.Ops.{picture_bit};
 ghost use Rattle.def_iface.specs.News.{no_news};
-ghost use Rattle.layer_list.specs.Holders.{layer_has};
+ghost use Rattle.window_list.specs.Holders.{layer_has};
 ghost use Rattle.vis_update.specs.Records.{record_of};
 ghost use Rattle.window_mgr.specs.Whole.{IsSettled};
 ghost use Rattle.scratch_paint.specs.Paints.{IsLocalContent, layers_value, look_in, window_value};
@@ -16,13 +16,12 @@ ghost use Rattle.scratch_paint.specs.Paints.{IsLocalContent, layers_value, look_
 use bit_map::BitMap;
 use def_iface::{Defined, Part, Taken, WindowRegions};
 use draw_port::Canvas;
-use layer_list::{Layer, move_by};
+use window_list::{Layer, move_by, Window, picture_place};
 use scan_region::Region;
 use std::alloc::{AllocError, Global};
 use strike_font::Font;
 use tb_geom::Point;
 use vis_update::regions_of;
-use window_list::{Window, picture_place};
 use window_paint::{Showing, meeting};
 
 /// Paints a window, if it is visible, on the gray region: its frame, and its content over that.

@@ -9,13 +9,13 @@ use Rattle.tb_geom.specs.Pixels.{holds}
 use Rattle.def_iface.specs.declared.part.Part.{Part}
 use Rattle.def_iface.specs.declared.part.Part.TheVariants as part
 use Rattle.def_iface.specs.Desk.{same_part}
-use Rattle.layer_list.specs.declared.layer.Layer.{Layer}
-use Rattle.layer_list.specs.declared.layer.Shape.{Shape}
-use Rattle.layer_list.specs.declared.layers.Relaid.{Relaid}
-use Rattle.layer_list.specs.Holders.{PlacedLayers, ArePartsApart}
-use Rattle.layer_list.specs.Changes.{reshaped, is_gained}
-use Rattle.layer_list.proofs.Gains.{insert_all}
-use Rattle.layer_list.proofs.Parts.{same_part-turned, front_apart, reshaped_length, reshaped_part, reshaped_apart, remove_apart}
+use Rattle.window_list.specs.declared.layer.Layer.{Layer}
+use Rattle.window_list.specs.declared.layer.LayerShape.{LayerShape}
+use Rattle.window_list.specs.declared.layers.Relaid.{Relaid}
+use Rattle.window_list.specs.Holders.{PlacedLayers, ArePartsApart}
+use Rattle.window_list.specs.LayerChanges.{reshaped, is_gained}
+use Rattle.window_list.proofs.Gains.{insert_all}
+use Rattle.window_list.proofs.Parts.{same_part-turned, front_apart, reshaped_length, reshaped_part, reshaped_apart, remove_apart}
 use Rattle.window_list.specs.declared.list.WindowList.{WindowList}
 use Rattle.window_list.specs.declared.window.Window.{Window}
 use Rattle.window_mgr.specs.Edits.{IsWindowAt}
@@ -95,7 +95,7 @@ put_in old at l r low apart is gains = record {
       (sym (part_at l (sym (ap (λ (x : PlacedLayers). get_or x.layers at l) is ∙ insert_there old.layers at l l low))));
 }
 
-pub put_anew : (old : PlacedLayers) (at : ℕ) (shape : Shape) (l : Layer) (r : Relaid) → at < length old.layers → ArePartsApart old.layers
+pub put_anew : (old : PlacedLayers) (at : ℕ) (shape : LayerShape) (l : Layer) (r : Relaid) → at < length old.layers → ArePartsApart old.layers
     → r.layers ≡ record old { layers = reshaped shape at old.layers } → ((k : Layer) → k ≡ slice_index_or old.layers at k → Gains old (Some k.part) r)
     → IsRelaying old (record { relaid = r; afresh = Some at })
 put_anew old at shape l r low apart is gains =

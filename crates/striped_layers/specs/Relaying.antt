@@ -1,7 +1,7 @@
 -- Other layers of a window, which it may have.
 use Rattle.std.specs.Prelude.{◌≡◌, ◌<◌, length, Option, IfSome}
 use Rattle.def_iface.specs.declared.part.Part.{Part}
-use Rattle.layer_list.specs.Holders.{PlacedLayers, ArePartsApart}
+use Rattle.window_list.specs.Holders.{PlacedLayers, ArePartsApart}
 use Rattle.striped_layers.specs.declared.relaying.Relaying.{Relaying}
 use Rattle.vis_update.specs.Relayings.{IsGained}
 use Rattle.window_mgr.specs.Relayered.{IsPartAt}

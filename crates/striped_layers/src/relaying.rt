@@ -2,7 +2,7 @@
 ghost use Rattle.std.specs.Prelude.{◌≡◌, ◌<◌, ◌≤◌, false, length, List, IfOk, IfSome, IfNone, All};
 ghost use Rattle.def_iface.specs.Desk.{same_part};
 ghost use Rattle.def_iface.specs.Stocked.{SlotView};
-ghost use Rattle.layer_list.specs.Holders.{ArePartsApart, IsLayerAt};
+ghost use Rattle.window_list.specs.Holders.{ArePartsApart, IsLayerAt};
 ghost use Rattle.window_mgr.specs.Kept.{IsKept};
 ghost use Rattle.window_mgr.specs.Whole.{IsWholeManager};
 ghost use Rattle.window_mgr.specs.Edits.{IsWindowAt};
@@ -10,7 +10,7 @@ ghost use Rattle.striped_layers.specs.Relaying.{IsRelaying};
 
 use crate::stripes::Stripes;
 use def_iface::{Defined, Part, Taken};
-use layer_list::{Layer, Layers, Relaid, Shape};
+use window_list::{Layer, Layers, Relaid, LayerShape};
 use scan_region::Region;
 use std::alloc::Global;
 use tb_geom::{Point, Rect, Refusal};
@@ -119,7 +119,7 @@ fn with_shape(alloc: Global, layers: &Layers, at: usize, layer: Layer) -> Result
         region,
         bounds,
     } = layer;
-    let shape = Shape {
+    let shape = LayerShape {
         shown,
         region,
         bounds,

@@ -10,8 +10,8 @@ use Rattle.def_iface.specs.Desk as layers
 use Rattle.def_iface.specs.Desk.{LayeredDesk}
 use Rattle.def_iface.specs.Owner.{Owner, owner, owner_among, owner_within}
 use Rattle.def_iface.specs.Owner.Owner.{Bar, Frame, Content}
-use Rattle.layer_list.specs.declared.layer.Layer.{Layer}
-use Rattle.layer_list.specs.Holders.{layer_has, part_at}
+use Rattle.window_list.specs.declared.layer.Layer.{Layer}
+use Rattle.window_list.specs.Holders.{layer_has, part_at}
 use Rattle.vis_update.specs.Records.{WindowRecord, Look, content_layer, picture_layer, layered_window}
 use Rattle.vis_update.specs.Areas.{is_content_of}
 

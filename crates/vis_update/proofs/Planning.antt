@@ -17,10 +17,10 @@ use Rattle.def_iface.specs.Owner.{Owner, owner, owner_among, same_owner, is_cont
 use Rattle.def_iface.specs.Owner.Owner.{Desktop, Bar, Frame, Content}
 use Rattle.def_iface.specs.Change.{State, had}
 use Rattle.vis_update.specs.declared.area.Area.{Area}
-use Rattle.vis_update.specs.declared.plan.Part.{Part}
+use Rattle.vis_update.specs.declared.plan.Repaint.{Repaint}
 use Rattle.vis_update.specs.declared.plan.Seat.{Seat}
 use Rattle.vis_update.specs.declared.plan.Touch.{Touch}
-use Rattle.layer_list.specs.Holders.{part_at}
+use Rattle.window_list.specs.Holders.{part_at}
 use Rattle.vis_update.specs.Records.{WindowRecord, Look, layered_window}
 use Rattle.vis_update.specs.Areas.{IsArea, IsDesktop, is_content_of}
 use Rattle.vis_update.specs.Seats.{Stand, stand_of, seat_stand, area_had, IsArranged, IsChangedArea}
@@ -58,7 +58,7 @@ module _ {V : Type 0} {H : V → Type 0} (loan : Taken V H → Loan) (t : Touch)
       by_changed false e = has_is ∙ (λ i. (old && not (e i)) || none e i) ∙ kept old ∙ outside e
 
   -- what one window has, where the windows in front left what they should
-  area_is : (first middle : PixelSet) (w : WindowRecord) (ws : List WindowRecord) (s : Seat V H) (a : Area) (part : Part) → seat_stand loan s ≡ stand_of w → layers.AreWindows (map (layered_window look) (w ∷ ws)) → Reaches look after (w ∷ ws) (holds changed) first → IsArea before.desk before.stale s.serial s.area.now → KeepsLayers t before.desk after → IsSwept loan t (holds changed) first s a part middle → IsArea after (stale_after (change_of t) before after) w.serial a × IsPart t before after w.serial part × Reaches look after ws (holds changed) middle
+  area_is : (first middle : PixelSet) (w : WindowRecord) (ws : List WindowRecord) (s : Seat V H) (a : Area) (part : Repaint) → seat_stand loan s ≡ stand_of w → layers.AreWindows (map (layered_window look) (w ∷ ws)) → Reaches look after (w ∷ ws) (holds changed) first → IsArea before.desk before.stale s.serial s.area.now → KeepsLayers t before.desk after → IsSwept loan t (holds changed) first s a part middle → IsArea after (stale_after (change_of t) before after) w.serial a × IsPart t before after w.serial part × Reaches look after ws (holds changed) middle
   area_is first middle w ws s a part same distinct reach was keeps swept = (
     record {
       visible = visible_is;
@@ -145,13 +145,13 @@ module _ {V : Type 0} {H : V → Type 0} (loan : Taken V H → Loan) (t : Touch)
   moved_in p = layers.on_screen after p && (moves t (owner after p) && had (change_of t) before.desk (owner after p) p)
 
   -- all that the sweep gives
-  record AllSwept (ws : List WindowRecord) (areas : List Area) (parts : List Part) (from upto last : PixelSet) : Type 0 where
+  record AllSwept (ws : List WindowRecord) (areas : List Area) (parts : List Repaint) (from upto last : PixelSet) : Type 0 where
     areas_are : AreAreasAfter (change_of t) before after ws areas
     parts_are : ArePlanParts t before after ws parts
     copied : (p : Point) → upto p ≡ (from p || (is_content_among ws (owner after p) && moved_in p))
     left : Reaches look after [] (holds changed) last
 
-  all_areas : (first from last upto : PixelSet) (ws : List WindowRecord) (seats : List (Seat V H)) (areas : List (Option Area)) (parts : List Part) → map (seat_stand loan) seats ≡ map stand_of ws → layers.AreWindows (map (layered_window look) ws) → Reaches look after ws (holds changed) first → All (λ s. IsArea before.desk before.stale s.serial s.area.now) seats → KeepsLayers t before.desk after → AreSwept loan t (holds changed) first from seats areas parts last upto → AllSwept ws (areas_then (map area_had seats) areas) parts from upto last
+  all_areas : (first from last upto : PixelSet) (ws : List WindowRecord) (seats : List (Seat V H)) (areas : List (Option Area)) (parts : List Repaint) → map (seat_stand loan) seats ≡ map stand_of ws → layers.AreWindows (map (layered_window look) ws) → Reaches look after ws (holds changed) first → All (λ s. IsArea before.desk before.stale s.serial s.area.now) seats → KeepsLayers t before.desk after → AreSwept loan t (holds changed) first from seats areas parts last upto → AllSwept ws (areas_then (map area_had seats) areas) parts from upto last
   all_areas first from last upto [] [] [] [] same distinct reach was keeps swept = record {
     areas_are = tt;
     parts_are = tt;
@@ -198,7 +198,7 @@ module _ {V : Type 0} {H : V → Type 0} (loan : Taken V H → Loan) (t : Touch)
   all_areas first from last upto [] (s ∷ seats) (a ∷ areas) (part ∷ parts) same distinct reach was keeps swept = absurd (cc)
 
   -- the sweep over the changed area makes the plan
-  pub swept_plan : (ws : List WindowRecord) (desktop gone behind uncovered copied none : Pixels) (seats : List (Seat V H)) (areas : Vec (Option Area) Global) (parts : Vec Part Global) (i : ℕ) → IsArranged loan look before after ws changed seats → IsDesktop before.desk desktop → KeepsLayers t before.desk after → i ≡ length seats → ((p : Point) → holds none p ≡ false) → AreSwept loan t (holds changed) (holds changed) (holds none) (take i seats) areas.items parts.items (holds behind) (holds copied) → ((p : Point) → holds uncovered p ≡ (holds behind p && not (holds desktop p))) → ((p : Point) → holds gone p ≡ ((holds desktop p && not (holds changed p)) || holds behind p)) → IsPlan t before after desktop (map area_had seats) ws (record { areas = areas; parts = parts; desktop = gone; uncovered = uncovered; copied = copied })
+  pub swept_plan : (ws : List WindowRecord) (desktop gone behind uncovered copied none : Pixels) (seats : List (Seat V H)) (areas : Vec (Option Area) Global) (parts : Vec Repaint Global) (i : ℕ) → IsArranged loan look before after ws changed seats → IsDesktop before.desk desktop → KeepsLayers t before.desk after → i ≡ length seats → ((p : Point) → holds none p ≡ false) → AreSwept loan t (holds changed) (holds changed) (holds none) (take i seats) areas.items parts.items (holds behind) (holds copied) → ((p : Point) → holds uncovered p ≡ (holds behind p && not (holds desktop p))) → ((p : Point) → holds gone p ≡ ((holds desktop p && not (holds changed p)) || holds behind p)) → IsPlan t before after desktop (map area_had seats) ws (record { areas = areas; parts = parts; desktop = gone; uncovered = uncovered; copied = copied })
   swept_plan ws desktop gone behind uncovered copied none seats areas parts i arranged was_desktop keeps all empty swept uncovered_is gone_is = record {
     areas = its.areas_are;
     parts = its.parts_are;

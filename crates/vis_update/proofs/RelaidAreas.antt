@@ -13,7 +13,7 @@ use Rattle.def_iface.specs.Owner.{Owner, owner, same_owner, is_content}
 use Rattle.def_iface.specs.Owner.Owner.{Desktop, Bar, Frame, Content}
 use Rattle.def_iface.specs.Change.{State, stale_by}
 use Rattle.def_iface.proofs.Owning.{not_first, same_owner-self}
-use Rattle.layer_list.specs.declared.layer.Layer.{Layer}
+use Rattle.window_list.specs.declared.layer.Layer.{Layer}
 use Rattle.vis_update.specs.declared.area.Area.{Area}
 use Rattle.vis_update.specs.declared.relaying.Relaying.{Relaying}
 use Rattle.vis_update.specs.Records.{WindowRecord, Look, layered_window}

@@ -14,11 +14,11 @@ use Rattle.def_iface.specs.Owner.{Owner, owner, owner_among, same_owner, is_cont
 use Rattle.def_iface.specs.Owner.Owner.{Desktop, Bar, Frame, Content}
 use Rattle.def_iface.specs.Change.{State}
 use Rattle.def_iface.proofs.Owning.{same_number, same_owner-true}
-use Rattle.layer_list.specs.declared.layer.Layer.{Layer}
-use Rattle.layer_list.specs.declared.layer.Shape.{Shape}
-use Rattle.layer_list.specs.Holders.{layer_has, part_at, belongs_to, ArePartsApart}
-use Rattle.layer_list.specs.Changes.{with_shape, reshaped, is_drawn_afresh, is_gained}
-use Rattle.layer_list.proofs.Parts.{front_apart, belongs_to-none}
+use Rattle.window_list.specs.declared.layer.Layer.{Layer}
+use Rattle.window_list.specs.declared.layer.LayerShape.{LayerShape}
+use Rattle.window_list.specs.Holders.{layer_has, part_at, belongs_to, ArePartsApart}
+use Rattle.window_list.specs.LayerChanges.{with_shape, reshaped, is_drawn_afresh, is_gained}
+use Rattle.window_list.proofs.Parts.{front_apart, belongs_to-none}
 use Rattle.vis_update.specs.declared.relaying.Relaying.{Relaying}
 use Rattle.vis_update.specs.Records.{WindowRecord, Look, layered_window}
 use Rattle.vis_update.specs.Areas.{is_content_of}
@@ -236,7 +236,7 @@ relaid n place afresh old new before after visible update gained drawn r area ga
 -- ---- a layer that is hidden
 
 -- it has no pixel
-pub hidden_has_none : (shape : Shape) (at : ℕ) (ls : List Layer) (l : Layer) (p : Point) → shape.shown ≡ false → ArePartsApart ls → at < length ls → l ≡ get_or ls at l → belongs_to l.part (reshaped shape at ls) p ≡ false
+pub hidden_has_none : (shape : LayerShape) (at : ℕ) (ls : List Layer) (l : Layer) (p : Point) → shape.shown ≡ false → ArePartsApart ls → at < length ls → l ≡ get_or ls at l → belongs_to l.part (reshaped shape at ls) p ≡ false
 hidden_has_none shape at [] l p hidden apart within read = absurd (omega arith)
 hidden_has_none shape zero (x ∷ ls) l p hidden apart within read =
     let front = front_apart x ls apart in

@@ -11,7 +11,7 @@ use Rattle.def_iface.specs.declared.taken.Taken.{Taken}
 use Rattle.def_iface.specs.declared.window_def.WindowRegions.{WindowRegions}
 use Rattle.def_iface.specs.Meaning.{Loan}
 use Rattle.vis_update.specs.declared.area.Area.{Area}
-use Rattle.vis_update.specs.declared.plan.Part.{Part}
+use Rattle.vis_update.specs.declared.plan.Repaint.{Repaint}
 use Rattle.vis_update.specs.declared.plan.Seat.{Seat}
 use Rattle.vis_update.specs.declared.plan.Touch.{Touch}
 use Rattle.vis_update.specs.Places.{IsRegionsAt}
@@ -114,7 +114,7 @@ module _ {V : Type 0} {H : V → Type 0} (loan : Taken V H → Loan) (t : Touch)
       once false h = refl
 
   -- a window that is left alone has what it had
-  pub left_alone : (changed lost rest : PixelSet) (s : Seat V H) (part : Part) → IsLosing t changed lost s → IsLeftAlone loan t lost rest s
+  pub left_alone : (changed lost rest : PixelSet) (s : Seat V H) (part : Repaint) → IsLosing t changed lost s → IsLeftAlone loan t lost rest s
       → IsEmptyPart part → IsSwept loan t changed rest s s.area.now part rest
   left_alone changed lost rest s part losing alone empty = record {
     visible = λ p. kept (holds s.area.now.visible p) (changed p) _ (λ e. not_changed p (or_left (holds s.area.now.visible p) (holds s.area.now.frame p) e) (alone.visible p e)) (none_taken p);
@@ -162,11 +162,11 @@ module _ {V : Type 0} {H : V → Type 0} (loan : Taken V H → Loan) (t : Touch)
       both_not false = refl
 
   -- what of a window's area is copied, beside what was before
-  abbrev pub IsCopied : Seat V H → Area → Part → PixelSet → PixelSet → Type 0
+  abbrev pub IsCopied : Seat V H → Area → Repaint → PixelSet → PixelSet → Type 0
   IsCopied s a part old new = (p : Point) → new p ≡ (old p || (is_some (way_of t s.serial) && (holds a.visible p && not (holds part.erase p))))
 
   -- so is what was added where content arrives
-  pub arrived : (s : Seat V H) (o : Option Area) (part : Part) (by : Option Point) (old new : PixelSet) → by ≡ way_of t s.serial → (o ≡ None → way_of t s.serial ≡ None)
+  pub arrived : (s : Seat V H) (o : Option Area) (part : Repaint) (by : Option Point) (old new : PixelSet) → by ≡ way_of t s.serial → (o ≡ None → way_of t s.serial ≡ None)
       → ((p : Point) → new p ≡ (old p || arrives by o part p)) → IsCopied s (area_then s.area.now o) part old new
   arrived s o part by old new by_is still new_is p = new_is p ∙ ap (λ b. old p || b) (by_cases by o by_is still)
     where
@@ -178,7 +178,7 @@ module _ {V : Type 0} {H : V → Type 0} (loan : Taken V H → Loan) (t : Touch)
 
   -- the windows took these areas and parts, one after another, from what was there first, and left the last; and so the
   -- copied pixels became more
-  abbrev pub AreSwept : PixelSet → PixelSet → PixelSet → List (Seat V H) → List (Option Area) → List Part → PixelSet → PixelSet → Type 0
+  abbrev pub AreSwept : PixelSet → PixelSet → PixelSet → List (Seat V H) → List (Option Area) → List Repaint → PixelSet → PixelSet → Type 0
   AreSwept changed first from [] [] [] last upto = ((p : Point) → last p ≡ first p) × ((p : Point) → upto p ≡ from p)
   AreSwept changed first from (s ∷ seats) (a ∷ areas) (part ∷ parts) last upto = (middle : PixelSet) × (more : PixelSet) × IsSwept loan t changed first s (area_then s.area.now a) part middle × IsCopied s (area_then s.area.now a) part from more × AreSwept changed middle more seats areas parts last upto
   AreSwept changed first from [] [] (part ∷ parts) last upto = ⊥
@@ -187,7 +187,7 @@ module _ {V : Type 0} {H : V → Type 0} (loan : Taken V H → Loan) (t : Touch)
   AreSwept changed first from (s ∷ seats) (a ∷ areas) [] last upto = ⊥
 
   -- a set that is the same may stand first
-  first_same : (changed first other : PixelSet) (s : Seat V H) (a : Area) (part : Part) (left : PixelSet) → ((p : Point) → first p ≡ other p) → IsSwept loan t changed first s a part left → IsSwept loan t changed other s a part left
+  first_same : (changed first other : PixelSet) (s : Seat V H) (a : Area) (part : Repaint) (left : PixelSet) → ((p : Point) → first p ≡ other p) → IsSwept loan t changed first s a part left → IsSwept loan t changed other s a part left
   first_same changed first other s a part left same swept = record {
     visible = λ p. swept.visible p ∙ ap (λ r. (holds s.area.now.visible p && not (changed p)) || ((seat_stand loan s).content (minus p s.place) && (s.shown && r))) (same p);
     update = swept.update;
@@ -198,10 +198,10 @@ module _ {V : Type 0} {H : V → Type 0} (loan : Taken V H → Loan) (t : Touch)
     within = swept.within;
   }
 
-  copied_same : (from other : PixelSet) (s : Seat V H) (a : Area) (part : Part) (new : PixelSet) → ((p : Point) → from p ≡ other p) → IsCopied s a part from new → IsCopied s a part other new
+  copied_same : (from other : PixelSet) (s : Seat V H) (a : Area) (part : Repaint) (new : PixelSet) → ((p : Point) → from p ≡ other p) → IsCopied s a part from new → IsCopied s a part other new
   copied_same from other s a part new same copied p = copied p ∙ ap (λ r. r || (is_some (way_of t s.serial) && (holds a.visible p && not (holds part.erase p)))) (same p)
 
-  swept_snoc : (changed first from last upto : PixelSet) (seats : List (Seat V H)) (areas : List (Option Area)) (parts : List Part) (s : Seat V H) (a : Option Area) (part : Part) (left more : PixelSet) → AreSwept changed first from seats areas parts last upto → IsSwept loan t changed last s (area_then s.area.now a) part left → IsCopied s (area_then s.area.now a) part upto more → AreSwept changed first from (seats ++ s ∷ []) (areas ++ a ∷ []) (parts ++ part ∷ []) left more
+  swept_snoc : (changed first from last upto : PixelSet) (seats : List (Seat V H)) (areas : List (Option Area)) (parts : List Repaint) (s : Seat V H) (a : Option Area) (part : Repaint) (left more : PixelSet) → AreSwept changed first from seats areas parts last upto → IsSwept loan t changed last s (area_then s.area.now a) part left → IsCopied s (area_then s.area.now a) part upto more → AreSwept changed first from (seats ++ s ∷ []) (areas ++ a ∷ []) (parts ++ part ∷ []) left more
   swept_snoc changed first from last upto [] [] [] s a part left more h one copied = (left, more, first_same changed last first s (area_then s.area.now a) part left h.0 one, copied_same upto from s (area_then s.area.now a) part more h.1 copied, ((λ p. refl), (λ p. refl)))
   swept_snoc changed first from last upto (v ∷ seats) (b ∷ areas) (r ∷ parts) s a part left more h one copied = (h.0, h.1, h.2, h.3, swept_snoc changed h.0 h.1 last upto seats areas parts s a part left more h.4 one copied)
   swept_snoc changed first from last upto [] [] (r ∷ parts) s a part left more h one copied = absurd h
@@ -210,7 +210,7 @@ module _ {V : Type 0} {H : V → Type 0} (loan : Taken V H → Loan) (t : Touch)
   swept_snoc changed first from last upto (v ∷ seats) (b ∷ areas) [] s a part left more h one copied = absurd h
 
   -- one window more
-  pub swept_more : (changed first from last upto : PixelSet) (seats : List (Seat V H)) (areas areas_more : List (Option Area)) (parts parts_more : List Part) (i : ℕ) (s : Seat V H) (a : Option Area) (part : Part) (left more : PixelSet) → areas_more ≡ areas ++ a ∷ [] → parts_more ≡ parts ++ part ∷ [] → s ≡ get_or seats i s → i < length seats → AreSwept changed first from (take i seats) areas parts last upto → IsSwept loan t changed last s (area_then s.area.now a) part left → IsCopied s (area_then s.area.now a) part upto more → AreSwept changed first from (take (i + 1) seats) areas_more parts_more left more
+  pub swept_more : (changed first from last upto : PixelSet) (seats : List (Seat V H)) (areas areas_more : List (Option Area)) (parts parts_more : List Repaint) (i : ℕ) (s : Seat V H) (a : Option Area) (part : Repaint) (left more : PixelSet) → areas_more ≡ areas ++ a ∷ [] → parts_more ≡ parts ++ part ∷ [] → s ≡ get_or seats i s → i < length seats → AreSwept changed first from (take i seats) areas parts last upto → IsSwept loan t changed last s (area_then s.area.now a) part left → IsCopied s (area_then s.area.now a) part upto more → AreSwept changed first from (take (i + 1) seats) areas_more parts_more left more
   swept_more changed first from last upto seats areas areas_more parts parts_more i s a part left more e f read within h one copied =
-      subst (λ (x : List (Seat V H) × List (Option Area) × List Part). AreSwept changed first from x.0 x.1 x.2 left more) (λ k. (sym (take_more seats i s within) k, sym e k, sym f k))
+      subst (λ (x : List (Seat V H) × List (Option Area) × List Repaint). AreSwept changed first from x.0 x.1 x.2 left more) (λ k. (sym (take_more seats i s within) k, sym e k, sym f k))
       (swept_snoc changed first from last upto (take i seats) areas parts (get_or seats i s) a part left more h (subst (λ v. IsSwept loan t changed last v (area_then v.area.now a) part left) read one) (subst (λ v. IsCopied v (area_then v.area.now a) part upto more) read copied))

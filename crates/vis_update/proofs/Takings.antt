@@ -9,7 +9,7 @@ use Rattle.def_iface.specs.declared.part.Part.{Part}
 use Rattle.def_iface.specs.Owner.{Owner, owner, owner_among, same_owner}
 use Rattle.def_iface.specs.Owner.Owner.{Frame, Content}
 use Rattle.def_iface.proofs.Owning.{same_number, is_other, owner_is_other}
-use Rattle.layer_list.specs.Holders.{part_at}
+use Rattle.window_list.specs.Holders.{part_at}
 use Rattle.vis_update.specs.Records.{WindowRecord, Look, layered_window}
 use Rattle.vis_update.specs.Areas.{is_content_of}
 use Rattle.vis_update.proofs.Others.{not_content, not_same_frame, AreOthers, others_of}

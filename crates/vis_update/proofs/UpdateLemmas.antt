@@ -12,7 +12,7 @@ use Rattle.def_iface.specs.Owner.Owner.{Desktop, Bar, Frame, Content}
 use Rattle.def_iface.specs.Change.{Change, State, stale_by}
 use Rattle.def_iface.proofs.Owning.{same_number}
 use Rattle.vis_update.specs.declared.area.Area.{Area}
-use Rattle.layer_list.specs.Holders.{part_at}
+use Rattle.window_list.specs.Holders.{part_at}
 use Rattle.vis_update.specs.Records.{WindowRecord, Look, layered_window}
 use Rattle.vis_update.specs.Areas.{stale_in}
 use Rattle.vis_update.specs.Areas.{AreAreas, is_content_of}

@@ -10,7 +10,7 @@ use Rattle.def_iface.specs.Owner.{owner, same_owner}
 use Rattle.def_iface.specs.Owner.Owner.{Frame}
 use Rattle.def_iface.specs.Change.{Change, State, had, stale_by}
 use Rattle.vis_update.specs.declared.area.Area.{Area}
-use Rattle.vis_update.specs.declared.plan.Part.{Part}
+use Rattle.vis_update.specs.declared.plan.Repaint.{Repaint}
 use Rattle.vis_update.specs.declared.plan.Plan.{Plan}
 use Rattle.vis_update.specs.declared.plan.Seat.{Seat}
 use Rattle.vis_update.specs.declared.plan.Touch.{Touch}
@@ -43,12 +43,12 @@ areas_then (old ∷ olds) [] = old ∷ olds
 areas_then (old ∷ olds) (a ∷ planned) = area_then old a ∷ areas_then olds planned
 
 -- a part of which nothing is drawn
-pub record IsEmptyPart (part : Part) : Type 0 where
+pub record IsEmptyPart (part : Repaint) : Type 0 where
   pub erase : (p : Point) → holds part.erase p ≡ false
   pub redraw : (p : Point) → holds part.redraw p ≡ false
 
 -- what is to be made white of a window's content, and drawn of its frame
-pub record IsPart (t : Touch) (before : State) (after : LayeredDesk) (serial : ℕ) (part : Part) : Type 0 where
+pub record IsPart (t : Touch) (before : State) (after : LayeredDesk) (serial : ℕ) (part : Repaint) : Type 0 where
   pub erase : (p : Point) → holds part.erase p
       ≡ ((on_screen after p && is_content_of serial (owner after p)) && not (had (change_of t) before.desk (owner after p) p))
   pub redraw : (p : Point) → holds part.redraw p
@@ -56,7 +56,7 @@ pub record IsPart (t : Touch) (before : State) (after : LayeredDesk) (serial : �
       && (draws_whole t serial || not (on_screen before.desk p && same_owner (owner before.desk p) (Frame serial))))
 
 -- each window has its part
-abbrev pub ArePlanParts : Touch → State → LayeredDesk → List WindowRecord → List Part → Type 0
+abbrev pub ArePlanParts : Touch → State → LayeredDesk → List WindowRecord → List Repaint → Type 0
 ArePlanParts t before after [] [] = Unit {0}
 ArePlanParts t before after (w ∷ ws) (part ∷ parts) = IsPart t before after w.serial part × ArePlanParts t before after ws parts
 ArePlanParts t before after [] (part ∷ parts) = ⊥
@@ -72,7 +72,7 @@ pub record IsPlan (t : Touch) (before : State) (after : LayeredDesk) (desktop : 
       ≡ ((on_screen after p && moves t (owner after p)) && had (change_of t) before.desk (owner after p) p)
 
 -- what a window's content has where it arrives, if it moves: what is not erased
-abbrev pub arrives : Option Point → Option Area → Part → PixelSet
+abbrev pub arrives : Option Point → Option Area → Repaint → PixelSet
 arrives (Some by) (Some a) part p = holds a.visible p && not (holds part.erase p)
 arrives (Some by) None part p = false
 arrives None a part p = false
@@ -105,7 +105,7 @@ module _ {V : Type 0} {H : V → Type 0} (loan : Taken V H → Loan) where
 
   -- what a window has after a call: what it had outside the changed area, and what it takes of the rest of that; what of that
   -- is to be drawn, and what it leaves
-  pub record IsSwept (t : Touch) (changed rest : PixelSet) (s : Seat V H) (a : Area) (part : Part) (left : PixelSet) : Type 0 where
+  pub record IsSwept (t : Touch) (changed rest : PixelSet) (s : Seat V H) (a : Area) (part : Repaint) (left : PixelSet) : Type 0 where
     pub visible : (p : Point) → holds a.visible p
         ≡ ((holds s.area.now.visible p && not (changed p)) || ((seat_stand loan s).content (minus p s.place) && (s.shown && rest p)))
     pub update : IsUpdateVisible s.area.now → (p : Point) → let q = came_from (way_of t s.serial) p in

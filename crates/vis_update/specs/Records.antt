@@ -11,8 +11,8 @@ use Rattle.def_iface.specs.News.{AllNews, no_news}
 use Rattle.def_iface.specs.Desk as layers
 use Rattle.def_iface.specs.declared.part.Part.{Part}
 use Rattle.def_iface.specs.declared.part.Part.TheVariants.{Picture}
-use Rattle.layer_list.specs.declared.layer.Layer.{Layer}
-use Rattle.layer_list.specs.Holders.{layer_has}
+use Rattle.window_list.specs.declared.layer.Layer.{Layer}
+use Rattle.window_list.specs.Holders.{layer_has}
 use Rattle.window_list.specs.declared.window.Heard.{Heard}
 use Rattle.window_list.specs.declared.window.UserState.{UserState}
 use Rattle.window_list.specs.declared.window.Window.{Window}

@@ -9,9 +9,9 @@ use Rattle.def_iface.specs.Desk.{LayeredDesk, on_screen}
 use Rattle.def_iface.specs.Owner.{Owner, owner, same_owner}
 use Rattle.def_iface.specs.Owner.Owner.{Content}
 use Rattle.def_iface.specs.Change.{Change, State, no_change, had, stale_by}
-use Rattle.layer_list.specs.declared.layer.Layer.{Layer}
-use Rattle.layer_list.specs.Holders.{part_at}
-use Rattle.layer_list.specs.Changes.{is_drawn_afresh, is_gained}
+use Rattle.window_list.specs.declared.layer.Layer.{Layer}
+use Rattle.window_list.specs.Holders.{part_at}
+use Rattle.window_list.specs.LayerChanges.{is_drawn_afresh, is_gained}
 use Rattle.vis_update.specs.declared.relaying.Relaying.{Relaying}
 use Rattle.vis_update.specs.Records.{WindowRecord}
 use Rattle.vis_update.specs.Areas.{is_content_of}

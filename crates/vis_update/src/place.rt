@@ -5,7 +5,7 @@ ghost use Rattle.def_iface.specs.Meaning.{IsWithin};
 ghost use Rattle.vis_update.specs.Places.{IsRegionsAt, is_placed};
 
 use def_iface::{Defined, Size, Taken, WindowRegions};
-use layer_list::move_by;
+use window_list::move_by;
 use std::alloc::{AllocError, Global};
 use tb_geom::{Point, Rect};
 

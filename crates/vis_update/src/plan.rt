@@ -13,19 +13,19 @@ use window_list::Window;
 
 /// What is to be drawn of a window.
 #[derive(Drop)]
-pub struct Part {
+pub struct Repaint {
     /// What of its content was not its own before, and becomes white.
     pub erase: Region,
     /// What of its frame is drawn.
     pub redraw: Region,
 }
 
-impl Part {
+impl Repaint {
     /// The part of a window of which nothing is drawn.
-    pub(crate) fn empty(alloc: Global) -> Part
+    pub(crate) fn empty(alloc: Global) -> Repaint
         ensures { IsEmptyPart result }
     {
-        Part {
+        Repaint {
             erase: Region::empty(alloc),
             redraw: Region::empty(alloc),
         }
@@ -65,7 +65,7 @@ pub struct Plan {
     /// The areas of all windows after the call, from front to back; None where one is as it was.
     pub areas: Vec<Option<Area>>,
     /// What is to be drawn of each, in the same order.
-    pub parts: Vec<Part>,
+    pub parts: Vec<Repaint>,
     /// The desktop after the call.
     pub desktop: Region,
     /// What of that was not the desktop's before.

@@ -8,7 +8,7 @@ ghost use Rattle.tb_geom.specs.Pixels.{holds};
 ghost use Rattle.def_iface.specs.declared.part.Part.{Part};
 ghost use Rattle.def_iface.specs.Desk.{LayeredDesk};
 ghost use Rattle.def_iface.specs.Change.{State};
-ghost use Rattle.layer_list.specs.declared.layer.Layer.{Layer};
+ghost use Rattle.window_list.specs.declared.layer.Layer.{Layer};
 ghost use Rattle.vis_update.specs.Relayings.{IsRelayered, IsRelaid, IsDrawn, IsGained, AreOfContent, region_has};
 
 use scan_region::Region;

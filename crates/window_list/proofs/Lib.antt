@@ -4,3 +4,7 @@ pub mod ListLemmas
 pub mod NumberLemmas
 pub mod ChangeLemmas
 pub mod ClassLemmas
+pub mod Parts
+pub mod Owned
+pub mod Gains
+pub mod Moved

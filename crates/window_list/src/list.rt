@@ -4,16 +4,15 @@ ghost use Rattle.std.specs.List.{remove, list_all, prefix_len};
 ghost use Rattle.std.specs.Option.{option_map};
 ghost use Rattle.tb_geom.specs.Rects.{in_plane};
 ghost use Rattle.def_iface.specs.Meaning.{is_fitting};
-ghost use Rattle.layer_list.specs.Holders.{fits_at};
+ghost use Rattle.window_list.specs.Holders.{fits_at};
 ghost use Rattle.window_list.specs.Classes.{front_place, back_place};
 ghost use Rattle.window_list.specs.Ranks.{moved_item};
 ghost use Rattle.window_list.specs.Lists.{has_serial, floats, leads, first_leading, with_new, dimmed, relit, serial_after, map_ranked, edit_at, IsLastBox, with_stand, with_picture, with_layers, with_origin, with_operation, IsPlacedAt};
 ghost use Rattle.window_list.specs.Changes.{keeps_size, has_short_title, IsNotifiedAt};
 
-use crate::{Placement, Ranks, UserState, Window};
+use crate::{Placement, Ranks, UserState, Window, Layers};
 use def_iface::{Defined, Stage, Taken, WindowChange};
 use draw_port::{Op, Picture};
-use layer_list::Layers;
 use std::alloc::{AllocError, Global};
 use tb_geom::{Point, Rect, Refusal};
 

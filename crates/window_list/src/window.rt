@@ -7,7 +7,7 @@ ghost use Rattle.window_list.specs.Changes.{has_short_title, with_change};
 use arrayvec::ArrayVec;
 use def_iface::{Size, Taken, WindowChange};
 use draw_port::Picture;
-use layer_list::Layers;
+use crate::Layers;
 use tb_geom::Point;
 
 /// A title: at most 255 bytes.

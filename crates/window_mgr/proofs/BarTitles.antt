@@ -16,8 +16,8 @@ use Rattle.def_iface.specs.Scratch.{scratch}
 use Rattle.def_iface.specs.Change as plain
 use Rattle.def_iface.proofs.Owning.{same_owner-self}
 use Rattle.def_iface.proofs.Painting.{scratch_is_owners}
-use Rattle.menu_bar.specs.declared.titles.BarTitle.{BarTitle}
-use Rattle.menu_bar.specs.Bars.{bar_picture}
+use Rattle.desk_ground.specs.declared.titles.BarTitle.{BarTitle}
+use Rattle.desk_ground.specs.Bars.{bar_picture}
 use Rattle.vis_update.specs.Areas.{IsGray, IsDesktop, AreAreas, stale_in}
 use Rattle.vis_update.specs.declared.area.Area.{Area}
 use Rattle.vis_update.specs.Records.{WindowRecord}

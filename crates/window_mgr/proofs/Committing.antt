@@ -17,7 +17,7 @@ use Rattle.def_iface.specs.Scratch.{scratch}
 use Rattle.def_iface.specs.Change as plain
 use Rattle.def_iface.proofs.Owning.{same_number, same_owner-true, is_other, owner_is_other, not_first}
 use Rattle.def_iface.proofs.Painting.{scratch_is_owners}
-use Rattle.vis_update.specs.declared.plan.Part.{Part}
+use Rattle.vis_update.specs.declared.plan.Repaint.{Repaint}
 use Rattle.vis_update.specs.declared.plan.Plan.{Plan}
 use Rattle.vis_update.specs.declared.plan.Touch.{Touch}
 use Rattle.vis_update.specs.Records.{WindowRecord, Look, layered_window}
@@ -37,7 +37,7 @@ use Rattle.vis_update.proofs.Others.{not_content, not_same_frame}
 
 module _ (look : Look) (t : Touch) (before : plain.State) (after : LayeredDesk) (p : Point) where
   -- a part whose window has not the pixel changes nothing
-  part_elsewhere : (w : WindowRecord) (part : Part) (value : Bool) → IsPart t before after w.serial part → is_other w.serial (owner after p) ≡ true → painted_part look.font w.definition w.place part p value ≡ value
+  part_elsewhere : (w : WindowRecord) (part : Repaint) (value : Bool) → IsPart t before after w.serial part → is_other w.serial (owner after p) ≡ true → painted_part look.font w.definition w.place part p value ≡ value
   part_elsewhere w part value its other =
       (λ i. if (its.redraw p ∙ ap (λ b. (layers.on_screen after p && b) && (draws_whole t w.serial || not (layers.on_screen before.desk p && same_owner (owner before.desk p) (Frame w.serial)))) (not_same_frame w.serial (owner after p) other)) i then w.definition.picture no_news look.font (minus p w.place)
       else (if (its.erase p ∙ ap (λ b. (layers.on_screen after p && b) && not (plain.had (change_of t) before.desk (owner after p) p)) (not_content w.serial (owner after p) other)) i then false else value))
@@ -52,7 +52,7 @@ module _ (look : Look) (t : Touch) (before : plain.State) (after : LayeredDesk) 
   AreApart [] = Unit {0}
   AreApart (w ∷ ws) = (is_other w.serial (owner after p) ≡ true) × AreApart ws
 
-  pub parts_elsewhere : (ws : List WindowRecord) (parts : List Part) (value : Bool) → ArePlanParts t before after ws parts → AreApart ws → painted_parts look.font ws parts p value ≡ value
+  pub parts_elsewhere : (ws : List WindowRecord) (parts : List Repaint) (value : Bool) → ArePlanParts t before after ws parts → AreApart ws → painted_parts look.font ws parts p value ≡ value
   parts_elsewhere [] [] value its apart = refl
   parts_elsewhere (w ∷ ws) (part ∷ parts) value its apart =
       ap (λ b. painted_parts look.font ws parts p b) (part_elsewhere w part value its.0 apart.0) ∙ parts_elsewhere ws parts value its.1 apart.1
@@ -67,14 +67,14 @@ module _ (look : Look) (t : Touch) (before : plain.State) (after : LayeredDesk) 
       (of w.serial first.0, apart_from s ws of first.1)
 
   -- the window of this serial has the pixel: its part alone tells
-  pub record IsAlone (s : ℕ) (found : layers.LayeredWindow) (ws : List WindowRecord) (parts : List Part) (value : Bool) : Type 0 where
+  pub record IsAlone (s : ℕ) (found : layers.LayeredWindow) (ws : List WindowRecord) (parts : List Repaint) (value : Bool) : Type 0 where
     pub window : WindowRecord
-    pub part : Part
+    pub part : Repaint
     pub is : layered_window look window ≡ found
     pub its : IsPart t before after s part
     pub tells : painted_parts look.font ws parts p value ≡ painted_part look.font window.definition window.place part p value
 
-  pub alone : (s : ℕ) (found : layers.LayeredWindow) (ws : List WindowRecord) (parts : List Part) (value : Bool) → ((n : ℕ) → (n == s) ≡ false → is_other n (owner after p) ≡ true) → ArePlanParts t before after ws parts → layers.AreWindows (map (layered_window look) ws) → layers.window_of s (map (layered_window look) ws) ≡ Some found → IsAlone s found ws parts value
+  pub alone : (s : ℕ) (found : layers.LayeredWindow) (ws : List WindowRecord) (parts : List Repaint) (value : Bool) → ((n : ℕ) → (n == s) ≡ false → is_other n (owner after p) ≡ true) → ArePlanParts t before after ws parts → layers.AreWindows (map (layered_window look) ws) → layers.window_of s (map (layered_window look) ws) ≡ Some found → IsAlone s found ws parts value
   alone s found [] [] value of its distinct e = absurd (cc)
   alone s found (w ∷ ws) (part ∷ parts) value of its distinct e = by_test (λ f. alone s found ws parts value of its.1 distinct.1.1 f) (w.serial == s) refl e
     where

@@ -16,8 +16,8 @@ use Rattle.def_iface.specs.Owner.Owner.{Desktop, Bar, Frame, Content}
 use Rattle.def_iface.specs.Scratch.{scratch}
 use Rattle.def_iface.proofs.Owning.{same_number}
 use Rattle.def_iface.proofs.Painting.{scratch_is_owners}
-use Rattle.desk_call.specs.declared.update.Layers.{Layers}
-use Rattle.layer_list.specs.Holders.{part_at, ArePartsApart}
+use Rattle.desk_call.specs.declared.update.LayerKind.{LayerKind}
+use Rattle.window_list.specs.Holders.{part_at, ArePartsApart}
 use Rattle.vis_update.specs.Areas.{is_content_of}
 use Rattle.vis_update.specs.Records.{Look, layered_window, record_of}
 use Rattle.window_list.specs.declared.window.Window.{Window}
@@ -38,14 +38,14 @@ use Rattle.window_mgr.proofs.Showing.{distinct_showing}
 -- ---- kinds of layers
 
 -- what is no content of a window is of no kind of it
-pub no_kind : (kind : Layers) (s : ℕ) (o : Owner) → is_content_of s o ≡ false → is_of_kind kind s o ≡ false
+pub no_kind : (kind : LayerKind) (s : ℕ) (o : Owner) → is_content_of s o ≡ false → is_of_kind kind s o ≡ false
 no_kind kind s Desktop e = refl
 no_kind kind s Bar e = refl
 no_kind kind s (Frame t) e = refl
 no_kind kind s (Content t a) e = ap (λ b. b && is_of kind a) e
 
 -- what is of a kind of a window is its content
-pub kind_content : (kind : Layers) (s : ℕ) (o : Owner) → is_of_kind kind s o ≡ true → is_content_of s o ≡ true
+pub kind_content : (kind : LayerKind) (s : ℕ) (o : Owner) → is_of_kind kind s o ≡ true → is_content_of s o ≡ true
 kind_content kind s Desktop e = absurd (false≢true e)
 kind_content kind s Bar e = absurd (false≢true e)
 kind_content kind s (Frame t) e = absurd (false≢true e)
@@ -97,7 +97,7 @@ module _ {V : Type 0} {H : V → Type 0} (loan : Taken V H → Loan) (t : Window
   owner_there p its = layer_there full (record_of loan w) p distinct (record_at look full.windows at (record_of loan w) distinct (record_there loan t slots whole at low w there)) its
 
   -- of which kind that is
-  pub kind_is : (kind : Layers) (p : Point) → is_content_of w.serial (owner desk p) ≡ true → is_of kind (part_at w.layers.layers (minus p w.layers.place)) ≡ is_of_kind kind w.serial (owner desk p)
+  pub kind_is : (kind : LayerKind) (p : Point) → is_content_of w.serial (owner desk p) ≡ true → is_of kind (part_at w.layers.layers (minus p w.layers.place)) ≡ is_of_kind kind w.serial (owner desk p)
   kind_is kind p its =
       ap (λ place. is_of kind (part_at w.layers.layers (minus p place))) layers_there
       ∙ ap (λ b. b && is_of kind (part_there p)) (sym (same_number w.serial))

@@ -16,8 +16,8 @@ use Rattle.def_iface.specs.Desk.{same_part}
 use Rattle.def_iface.specs.Owner.{Owner, owner, same_owner}
 use Rattle.def_iface.specs.Owner.Owner.{Desktop, Bar, Frame, Content}
 use Rattle.def_iface.proofs.Owning.{same_number}
-use Rattle.layer_list.specs.Holders.{part_at, is_covered}
-use Rattle.layer_list.proofs.Parts.{covered_is}
+use Rattle.window_list.specs.Holders.{part_at, is_covered}
+use Rattle.window_list.proofs.Parts.{covered_is}
 use Rattle.window_list.specs.declared.window.Window.{Window}
 use Rattle.vis_update.specs.Records.{WindowRecord, Look, record_of, layered_window}
 use Rattle.vis_update.specs.Areas.{is_content_of}

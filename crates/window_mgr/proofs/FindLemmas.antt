@@ -22,7 +22,7 @@ use Rattle.def_iface.specs.Owner.{Owner, owner, owner_among, same_owner}
 use Rattle.def_iface.specs.Owner.Owner.{Desktop, Bar, Frame, Content}
 use Rattle.def_iface.proofs.Owning.{same_number, same_owner-true, not_first}
 use Rattle.vis_update.specs.declared.area.Area.{Area}
-use Rattle.layer_list.specs.Holders.{part_at as layer_at}
+use Rattle.window_list.specs.Holders.{part_at as layer_at}
 use Rattle.vis_update.proofs.LayerOwners.{first_owner, owner_first}
 use Rattle.window_mgr.specs.declared.manager.WindowManager.{WindowManager}
 use Rattle.window_list.specs.declared.window.Window.{Window}

@@ -34,7 +34,7 @@ use Rattle.vis_update.specs.Records.{WindowRecord, Look, layered_window, record_
 use Rattle.window_list.specs.declared.window.Window.{Window}
 use Rattle.window_list.specs.declared.list.WindowList.{WindowList}
 use Rattle.window_list.specs.Changes.{keeps_size, with_change, IsNotifiedAt}
-use Rattle.layer_list.specs.Holders.{part_at}
+use Rattle.window_list.specs.Holders.{part_at}
 use Rattle.vis_update.proofs.LayerOwners.{owner_first}
 use Rattle.window_mgr.specs.declared.arrange.Activation.TheVariants.{Stays}
 use Rattle.window_mgr.specs.declared.manager.WindowManager.{WindowManager}

@@ -11,7 +11,7 @@ use Rattle.def_iface.specs.declared.part.Part.{Part}
 use Rattle.def_iface.specs.declared.taken.Taken.{Taken}
 use Rattle.def_iface.specs.Meaning.{Loan}
 use Rattle.def_iface.specs.Stocked.{SlotView}
-use Rattle.desk_call.specs.declared.update.Layers.{Layers}
+use Rattle.desk_call.specs.declared.update.LayerKind.{LayerKind}
 use Rattle.vis_update.specs.declared.area.Area.{Area}
 use Rattle.vis_update.specs.Areas.{is_content_of}
 use Rattle.window_list.specs.declared.window.Window.{Window}
@@ -29,7 +29,7 @@ use Rattle.window_mgr.proofs.Remarked as remarked
 
 module _ {V : Type 0} {H : V → Type 0} (loan : Taken V H → Loan) (t : WindowManager V H) (slots : List SlotView) (whole : IsWholeManager loan t slots) (at : ℕ) (low : at < length t.windows.records.items) (w : Window V H) (there : IsWindowAt t.windows.records.items at w) (a : Area) (read : a ≡ get_or t.areas.items at a) (shows : List ℕ → Part → PixelSet) where
   -- the layers of a kind were drawn, where the area and the window go by other names
-  pub kind_refreshed : (kind : Layers) (update : Pixels) → ((p : Point) → holds update p ≡ (holds a.update p && not (is_kind_there kind w p))) → (screen : Bits)
+  pub kind_refreshed : (kind : LayerKind) (update : Pixels) → ((p : Point) → holds update p ≡ (holds a.update p && not (is_kind_there kind w p))) → (screen : Bits)
       → (b : Area) → b ≡ get_or t.areas.items at b → (v : Window V H) → IsWindowAt t.windows.records.items at v
       → Draws (λ p. holds b.update p && is_kind_there kind v p) (λ p _. content_shown t.font (shows t.font) v p) t.screen screen
       → IsWholeManager loan (remarked.with_update loan t slots whole at low w there a read update screen) slots

@@ -11,9 +11,9 @@ use Rattle.def_iface.specs.Desk as layers
 use Rattle.def_iface.specs.Owner.{layer_bit}
 use Rattle.def_iface.proofs.Owning.{not_first, same_part-self, same_part-true}
 use Rattle.std.proofs.lemmas.List.Kept.{AllPairs-cons}
-use Rattle.layer_list.specs.declared.layer.Layer.{Layer}
-use Rattle.layer_list.specs.Holders.{ArePartsApart, layer_has, part_at}
-use Rattle.layer_list.proofs.Parts.{same_part-turned}
+use Rattle.window_list.specs.declared.layer.Layer.{Layer}
+use Rattle.window_list.specs.Holders.{ArePartsApart, layer_has, part_at}
+use Rattle.window_list.proofs.Parts.{same_part-turned}
 use Rattle.window_list.specs.declared.window.Window.{Window}
 use Rattle.vis_update.specs.Records.{WindowRecord, Look, content_layer, picture_layer, layered_window}
 use Rattle.window_mgr.specs.Whole.{LieThere}

@@ -22,9 +22,9 @@ use Rattle.def_iface.specs.Scratch.{scratch}
 use Rattle.def_iface.specs.Change as plain
 use Rattle.def_iface.specs.Change.{Change}
 use Rattle.def_iface.proofs.Owning.{same_number, same_owner-true, same_part-self, same_part-true}
-use Rattle.layer_list.specs.declared.layer.Layer.{Layer}
-use Rattle.layer_list.specs.Holders.{ArePartsApart, part_at, belongs_to, layer_has}
-use Rattle.layer_list.proofs.Parts.{IsFrontApart, belongs_to-none, front_apart}
+use Rattle.window_list.specs.declared.layer.Layer.{Layer}
+use Rattle.window_list.specs.Holders.{ArePartsApart, part_at, belongs_to, layer_has}
+use Rattle.window_list.proofs.Parts.{IsFrontApart, belongs_to-none, front_apart}
 use Rattle.vis_update.specs.declared.area.Area.{Area}
 use Rattle.vis_update.specs.Areas.{is_content_of, stale_in}
 use Rattle.window_list.specs.declared.window.Window.{Window}

@@ -19,7 +19,7 @@ use Rattle.def_iface.specs.Change as plain
 use Rattle.def_iface.specs.Change.{Change}
 use Rattle.def_iface.proofs.Owning.{same_number, same_owner-self}
 use Rattle.def_iface.proofs.Painting.{scratch_is_owners}
-use Rattle.layer_list.specs.Holders.{part_at, belongs_to}
+use Rattle.window_list.specs.Holders.{part_at, belongs_to}
 use Rattle.vis_update.specs.declared.area.Area.{Area}
 use Rattle.vis_update.specs.Areas.{IsArea, IsGray, IsDesktop, AreAreas, is_content_of, stale_in}
 use Rattle.window_list.specs.declared.window.Window.{Window}

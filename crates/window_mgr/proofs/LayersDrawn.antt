@@ -21,7 +21,7 @@ use Rattle.def_iface.specs.Scratch.{scratch}
 use Rattle.def_iface.specs.Change as plain
 use Rattle.def_iface.proofs.Owning.{same_number, same_owner-true, same_owner-self, same_part-true}
 use Rattle.def_iface.proofs.Painting.{scratch_is_owners}
-use Rattle.layer_list.specs.Holders.{PlacedLayers, part_at, belongs_to}
+use Rattle.window_list.specs.Holders.{PlacedLayers, part_at, belongs_to}
 use Rattle.vis_update.specs.declared.area.Area.{Area}
 use Rattle.vis_update.specs.declared.relaying.Relaying.{Relaying}
 use Rattle.vis_update.specs.Areas.{is_content_of}

@@ -12,10 +12,10 @@ use Rattle.def_iface.specs.declared.taken.Taken.{Taken}
 use Rattle.def_iface.specs.Meaning.{Loan}
 use Rattle.def_iface.specs.Desk.{LayeredDesk}
 use Rattle.def_iface.specs.Change.{State}
-use Rattle.layer_list.specs.declared.layer.Layer.{Layer}
-use Rattle.layer_list.specs.declared.layers.Relaid.{Relaid}
-use Rattle.layer_list.specs.Holders.{PlacedLayers, belongs_to}
-use Rattle.layer_list.specs.Changes.{is_drawn_afresh}
+use Rattle.window_list.specs.declared.layer.Layer.{Layer}
+use Rattle.window_list.specs.declared.layers.Relaid.{Relaid}
+use Rattle.window_list.specs.Holders.{PlacedLayers, belongs_to}
+use Rattle.window_list.specs.LayerChanges.{is_drawn_afresh}
 use Rattle.vis_update.specs.declared.area.Area.{Area}
 use Rattle.vis_update.specs.declared.relaying.Relaying.{Relaying}
 use Rattle.vis_update.specs.Areas.{stale_in}

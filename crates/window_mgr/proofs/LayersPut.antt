@@ -22,7 +22,7 @@ use Rattle.def_iface.specs.Scratch.{scratch}
 use Rattle.def_iface.specs.Change as plain
 use Rattle.def_iface.proofs.Owning.{same_number}
 use Rattle.def_iface.proofs.Painting.{scratch_is_owners}
-use Rattle.layer_list.specs.Holders.{PlacedLayers, part_at, fits_at}
+use Rattle.window_list.specs.Holders.{PlacedLayers, part_at, fits_at}
 use Rattle.vis_update.specs.declared.area.Area.{Area}
 use Rattle.vis_update.specs.declared.relaying.Relaying.{Relaying}
 use Rattle.vis_update.specs.Areas.{is_content_of, stale_in, AreAreas}

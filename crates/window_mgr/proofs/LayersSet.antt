@@ -23,8 +23,8 @@ use Rattle.def_iface.specs.Desk.{LayeredDesk}
 use Rattle.def_iface.specs.Owner.{owner, own_bit, same_owner, is_content}
 use Rattle.def_iface.specs.Owner.Owner.{Desktop}
 use Rattle.def_iface.specs.Change as plain
-use Rattle.layer_list.specs.declared.layer.Layer.{Layer}
-use Rattle.layer_list.specs.Holders.{PlacedLayers, ArePartsApart, belongs_to}
+use Rattle.window_list.specs.declared.layer.Layer.{Layer}
+use Rattle.window_list.specs.Holders.{PlacedLayers, ArePartsApart, belongs_to}
 use Rattle.vis_update.specs.declared.area.Area.{Area}
 use Rattle.vis_update.specs.declared.relaying.Relaying.{Relaying}
 use Rattle.vis_update.specs.Areas.{IsGray, IsDesktop, AreAreas, stale_in}

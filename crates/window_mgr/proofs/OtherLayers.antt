@@ -15,9 +15,9 @@ use Rattle.def_iface.specs.Meaning.{Loan}
 use Rattle.def_iface.specs.Desk as layers
 use Rattle.def_iface.specs.Owner.{frame_bit}
 use Rattle.def_iface.proofs.Owning.{same_number, not_first}
-use Rattle.layer_list.specs.declared.layer.Layer.{Layer}
-use Rattle.layer_list.specs.Holders.{PlacedLayers, ArePartsApart, fits_at}
-use Rattle.layer_list.proofs.Parts.{front_apart, same_part-turned}
+use Rattle.window_list.specs.declared.layer.Layer.{Layer}
+use Rattle.window_list.specs.Holders.{PlacedLayers, ArePartsApart, fits_at}
+use Rattle.window_list.proofs.Parts.{front_apart, same_part-turned}
 use Rattle.window_list.specs.declared.window.Window.{Window}
 use Rattle.window_list.specs.Lists.{edit, with_layers}
 use Rattle.vis_update.specs.Records.{WindowRecord, Look, content_layer, picture_layer, layered_window, record_of}

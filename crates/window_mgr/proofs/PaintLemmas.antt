@@ -15,7 +15,7 @@ use Rattle.bit_blit.specs.Draws.{DrawsOnce}
 use Rattle.bit_blit.proofs.OnceLemmas.{Once-on_map}
 use Rattle.def_iface.specs.declared.taken.Taken.{Taken}
 use Rattle.def_iface.specs.Meaning.{Loan}
-use Rattle.vis_update.specs.declared.plan.Part.{Part}
+use Rattle.vis_update.specs.declared.plan.Repaint.{Repaint}
 use Rattle.vis_update.specs.declared.plan.Plan.{Plan}
 use Rattle.window_list.specs.declared.window.Window.{Window}
 use Rattle.vis_update.specs.Records.{WindowRecord}
@@ -42,14 +42,14 @@ module _ {V : Type 0} {H : V → Type 0} (loan : Taken V H → Loan) where
       let long : length (map (record_of loan) ws) ≡ length ws = length-map ws (record_of loan) in
       subst IsSettled (get_or-map (record_of loan) ws i x (record_of loan x) low ∙ ap (record_of loan) (sym read)) (settled i (record_of loan x) (omega arith))
 
-  painted_snoc : (font : List ℕ) (ws : List WindowRecord) (parts : List Part) (w : WindowRecord) (part : Part) (p : Point) (value : Bool) → length parts ≡ length ws → painted_parts font (ws ++ w ∷ []) (parts ++ part ∷ []) p value ≡ painted_part font w.definition w.place part p (painted_parts font ws parts p value)
+  painted_snoc : (font : List ℕ) (ws : List WindowRecord) (parts : List Repaint) (w : WindowRecord) (part : Repaint) (p : Point) (value : Bool) → length parts ≡ length ws → painted_parts font (ws ++ w ∷ []) (parts ++ part ∷ []) p value ≡ painted_part font w.definition w.place part p (painted_parts font ws parts p value)
   painted_snoc font [] [] w part p value e = refl
   painted_snoc font (v ∷ ws) (r ∷ parts) w part p value e = let f : length parts ≡ length ws = omega arith in painted_snoc font ws parts w part p (painted_part font v.definition v.place r p value) f
   painted_snoc font [] (r ∷ parts) w part p value e = absurd (omega arith)
   painted_snoc font (v ∷ ws) [] w part p value e = absurd (omega arith)
 
   -- one window's part more
-  pub painted_more : (font : List ℕ) (ws : List (Window V H)) (parts : List Part) (i : ℕ) (x : Window V H) (part : Part) (old mid new : Bits) → i < length ws → length parts ≡ length ws → x ≡ get_or ws i x → part ≡ get_or parts i part
+  pub painted_more : (font : List ℕ) (ws : List (Window V H)) (parts : List Repaint) (i : ℕ) (x : Window V H) (part : Repaint) (old mid new : Bits) → i < length ws → length parts ≡ length ws → x ≡ get_or ws i x → part ≡ get_or parts i part
       → ArePainted font (map (record_of loan) (take i ws)) (take i parts) old mid → IsPainted font (loan x.taken).definition x.place part.erase part.redraw mid new → ArePainted font (map (record_of loan) (take (i + 1) ws)) (take (i + 1) parts) old new
   painted_more font ws parts i x part old mid new low same x_is part_is so one =
       let within : i < length parts = omega arith in
@@ -68,9 +68,9 @@ module _ {V : Type 0} {H : V → Type 0} (loan : Taken V H → Loan) where
       }
 
   -- and all of them
-  pub painted_all : (font : List ℕ) (ws : List (Window V H)) (parts : List Part) (i : ℕ) (old new : Bits) → i ≡ length ws → length parts ≡ length ws → ArePainted font (map (record_of loan) (take i ws)) (take i parts) old new → ArePainted font (map (record_of loan) ws) parts old new
+  pub painted_all : (font : List ℕ) (ws : List (Window V H)) (parts : List Repaint) (i : ℕ) (old new : Bits) → i ≡ length ws → length parts ≡ length ws → ArePainted font (map (record_of loan) (take i ws)) (take i parts) old new → ArePainted font (map (record_of loan) ws) parts old new
   painted_all font ws parts i old new all same so =
-      subst (λ (x : List (Window V H) × List Part). ArePainted font (map (record_of loan) x.0) x.1 old new) (λ k. ((ap (λ n. take n ws) all ∙ take-length ws) k, (ap (λ n. take n parts) (all ∙ sym same) ∙ take-length parts) k)) so
+      subst (λ (x : List (Window V H) × List Repaint). ArePainted font (map (record_of loan) x.0) x.1 old new) (λ k. ((ap (λ n. take n ws) all ∙ take-length ws) k, (ap (λ n. take n parts) (all ∙ sym same) ∙ take-length parts) k)) so
 
 -- a plan is drawn by moving what is copied, filling what is uncovered, and painting the windows' parts
 pub drawn_by : (plan : Plan) (by : Option Point) (font : List ℕ) (ws : List WindowRecord) (old moved filled new : Bits)

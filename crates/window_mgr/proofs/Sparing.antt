@@ -13,7 +13,7 @@ use Rattle.def_iface.specs.Owner.{Owner, owner, same_owner}
 use Rattle.def_iface.specs.Owner.Owner.{Desktop, Bar, Frame, Content}
 use Rattle.def_iface.specs.Change as plain
 use Rattle.def_iface.proofs.Owning.{same_number, is_other}
-use Rattle.vis_update.specs.declared.plan.Part.{Part}
+use Rattle.vis_update.specs.declared.plan.Repaint.{Repaint}
 use Rattle.vis_update.specs.declared.plan.Plan.{Plan}
 use Rattle.vis_update.specs.declared.plan.Touch.{Touch}
 use Rattle.vis_update.specs.Records.{WindowRecord, Look, layered_window}
@@ -47,15 +47,15 @@ none_and false x = refl
 
 module _ (look : Look) (t : Touch) (before : plain.State) (after : LayeredDesk) (p : Point) where
   -- a part whose window has not the pixel writes none
-  erase_elsewhere : (w : WindowRecord) (part : Part) → IsPart t before after w.serial part → is_other w.serial (owner after p) ≡ true → holds part.erase p ≡ false
+  erase_elsewhere : (w : WindowRecord) (part : Repaint) → IsPart t before after w.serial part → is_other w.serial (owner after p) ≡ true → holds part.erase p ≡ false
   erase_elsewhere w part its other =
       its.erase p ∙ ap (λ b. (layers.on_screen after p && b) && not (plain.had (change_of t) before.desk (owner after p) p)) (not_content w.serial (owner after p) other) ∙ none_and (layers.on_screen after p) _
 
-  redraw_elsewhere : (w : WindowRecord) (part : Part) → IsPart t before after w.serial part → is_other w.serial (owner after p) ≡ true → holds part.redraw p ≡ false
+  redraw_elsewhere : (w : WindowRecord) (part : Repaint) → IsPart t before after w.serial part → is_other w.serial (owner after p) ≡ true → holds part.redraw p ≡ false
   redraw_elsewhere w part its other =
       its.redraw p ∙ ap (λ b. (layers.on_screen after p && b) && (draws_whole t w.serial || not (layers.on_screen before.desk p && same_owner (owner before.desk p) (Frame w.serial)))) (not_same_frame w.serial (owner after p) other) ∙ none_and (layers.on_screen after p) _
 
-  pub written_elsewhere : (ws : List WindowRecord) (parts : List Part) → ArePlanParts t before after ws parts → AreApart look t before after p ws → (erased parts p ≡ 0) × (redrawn parts p ≡ false)
+  pub written_elsewhere : (ws : List WindowRecord) (parts : List Repaint) → ArePlanParts t before after ws parts → AreApart look t before after p ws → (erased parts p ≡ 0) × (redrawn parts p ≡ false)
   written_elsewhere [] [] its apart = (refl, refl)
   written_elsewhere (w ∷ ws) (part ∷ parts) its apart =
       let rest = written_elsewhere ws parts its.1 apart.1 in
@@ -67,8 +67,8 @@ module _ (look : Look) (t : Touch) (before : plain.State) (after : LayeredDesk) 
   written_elsewhere (w ∷ ws) [] its apart = absurd its
 
   -- the window of this serial has the pixel: its part alone writes it
-  pub record IsAlone (s : ℕ) (parts : List Part) : Type 0 where
-    pub part : Part
+  pub record IsAlone (s : ℕ) (parts : List Repaint) : Type 0 where
+    pub part : Repaint
     pub its : IsPart t before after s part
     pub erases : erased parts p ≡ one (holds part.erase p)
     pub redraws : redrawn parts p ≡ holds part.redraw p
@@ -77,7 +77,7 @@ module _ (look : Look) (t : Touch) (before : plain.State) (after : LayeredDesk) 
   or_none true = refl
   or_none false = refl
 
-  pub alone : (s : ℕ) (found : layers.LayeredWindow) (ws : List WindowRecord) (parts : List Part) → ((n : ℕ) → (n == s) ≡ false → is_other n (owner after p) ≡ true) → ArePlanParts t before after ws parts → layers.AreWindows (map (layered_window look) ws) → layers.window_of s (map (layered_window look) ws) ≡ Some found → IsAlone s parts
+  pub alone : (s : ℕ) (found : layers.LayeredWindow) (ws : List WindowRecord) (parts : List Repaint) → ((n : ℕ) → (n == s) ≡ false → is_other n (owner after p) ≡ true) → ArePlanParts t before after ws parts → layers.AreWindows (map (layered_window look) ws) → layers.window_of s (map (layered_window look) ws) ≡ Some found → IsAlone s parts
   alone s found [] [] of its distinct e = absurd (cc)
   alone s found (w ∷ ws) (part ∷ parts) of its distinct e = by_test (λ f. alone s found ws parts of its.1 distinct.1.1 f) (w.serial == s) refl e
     where

@@ -37,7 +37,7 @@ use Rattle.vis_update.specs.Records.{WindowRecord, Look, layered_window, record_
 use Rattle.vis_update.specs.Areas.{IsArea, is_content_of, stale_in}
 use Rattle.desk_call.specs.declared.window.WindowCall.TheVariants.{VisibleRegion, UpdateRegion}
 use Rattle.desk_call.specs.declared.window.WindowReply.{WindowReply}
-use Rattle.layer_list.specs.Holders.{part_at}
+use Rattle.window_list.specs.Holders.{part_at}
 use Rattle.vis_update.proofs.LayerOwners.{owner_first}
 use Rattle.window_mgr.specs.declared.manager.WindowManager.{WindowManager}
 use Rattle.window_mgr.specs.declared.tell.AskedRegion.{AskedRegion}

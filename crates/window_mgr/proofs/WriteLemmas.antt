@@ -6,17 +6,17 @@ use Rattle.tb_geom.specs.declared.point.Point.{Point}
 use Rattle.tb_geom.specs.Pixels.{holds}
 use Rattle.bit_map.specs.Bits.{Bits, on_map}
 use Rattle.bit_blit.specs.Draws.{DrawsOnce}
-use Rattle.vis_update.specs.declared.plan.Part.{Part}
+use Rattle.vis_update.specs.declared.plan.Repaint.{Repaint}
 use Rattle.vis_update.specs.declared.plan.Plan.{Plan}
 use Rattle.window_mgr.specs.Commits.{erased, redrawn, planned_times}
 use Rattle.window_paint.specs.Writes.{IsWrittenBy, one, nowhere, arrives}
 use Rattle.window_paint.proofs.WritesLemmas.{by_over, region_written}
 
-erased_snoc : (parts : List Part) (part : Part) (p : Point) → erased (parts ++ part ∷ []) p ≡ erased parts p + one (holds part.erase p)
+erased_snoc : (parts : List Repaint) (part : Repaint) (p : Point) → erased (parts ++ part ∷ []) p ≡ erased parts p + one (holds part.erase p)
 erased_snoc [] part p = omega arith
 erased_snoc (r ∷ parts) part p = let e = erased_snoc parts part p in omega (arith, e)
 
-redrawn_snoc : (parts : List Part) (part : Part) (p : Point) → redrawn (parts ++ part ∷ []) p ≡ false → (redrawn parts p ≡ false) × (holds part.redraw p ≡ false)
+redrawn_snoc : (parts : List Repaint) (part : Repaint) (p : Point) → redrawn (parts ++ part ∷ []) p ≡ false → (redrawn parts p ≡ false) × (holds part.redraw p ≡ false)
 redrawn_snoc [] part p out = (refl, or_first (holds part.redraw p) false out)
   where
     or_first : (a b : Bool) → (a || b) ≡ false → a ≡ false
@@ -30,7 +30,7 @@ redrawn_snoc (r ∷ parts) part p out = by_test (holds r.redraw p) refl (λ e. r
     by_test false e rest = let more = rest (ap (λ t. t || redrawn (parts ++ part ∷ []) p) (sym e) ∙ out) in (ap (λ t. t || redrawn parts p) e ∙ more.0, more.1)
 
 -- one window's part more
-pub parts_more : (parts : List Part) (i : ℕ) (part : Part) (old mid new : Bits) → i < length parts → part ≡ get_or parts i part → ((p : Point) → on_map mid p ≡ on_map old p)
+pub parts_more : (parts : List Repaint) (i : ℕ) (part : Repaint) (old mid new : Bits) → i < length parts → part ≡ get_or parts i part → ((p : Point) → on_map mid p ≡ on_map old p)
     → IsWrittenBy (erased (take i parts)) (redrawn (take i parts)) old mid → IsWrittenBy (λ p. one (holds part.erase p)) (holds part.redraw) mid new
     → IsWrittenBy (erased (take (i + 1) parts)) (redrawn (take (i + 1) parts)) old new
 parts_more parts i part old mid new low part_is same so more =
@@ -40,7 +40,7 @@ parts_more parts i part old mid new low part_is same so more =
     (λ p out. redrawn_snoc (take i parts) part p out) (λ p. let e = erased_snoc (take i parts) part p in omega (arith, e)) so more)
 
 -- and all of them
-pub parts_all : (parts : List Part) (i : ℕ) (old new : Bits) → i ≡ length parts → IsWrittenBy (erased (take i parts)) (redrawn (take i parts)) old new → IsWrittenBy (erased parts) (redrawn parts) old new
+pub parts_all : (parts : List Repaint) (i : ℕ) (old new : Bits) → i ≡ length parts → IsWrittenBy (erased (take i parts)) (redrawn (take i parts)) old new → IsWrittenBy (erased parts) (redrawn parts) old new
 parts_all parts i old new all so = subst (λ ps. IsWrittenBy (erased ps) (redrawn ps) old new) (ap (λ n. take n parts) all ∙ take-length parts) so
 
 -- pixels that arrive, the desktop that is new, and the windows' parts

@@ -1,7 +1,7 @@
 -- Other titles in the menu bar.
 use Rattle.std.specs.Prelude.{◌≡◌, List}
 use Rattle.def_iface.specs.Change.{no_change, IsChanged}
-use Rattle.menu_bar.specs.declared.titles.BarTitle.{BarTitle}
+use Rattle.desk_ground.specs.declared.titles.BarTitle.{BarTitle}
 use Rattle.window_mgr.specs.FullDesk.{FullState, layered_state}
 
 -- the menu bar has these titles and shows them; no other pixel changed, and what is to be redrawn is as it was

@@ -7,7 +7,7 @@ use Rattle.bit_map.specs.Bits.{Bits, on_map, bit}
 use Rattle.bit_map.specs.Patterns.{pattern_bit}
 use Rattle.bit_blit.specs.Draws.{Draws}
 use Rattle.def_iface.specs.Meaning.{Definition}
-use Rattle.vis_update.specs.declared.plan.Part.{Part}
+use Rattle.vis_update.specs.declared.plan.Repaint.{Repaint}
 use Rattle.vis_update.specs.declared.plan.Plan.{Plan}
 use Rattle.vis_update.specs.Records.{WindowRecord}
 use Rattle.desk_ground.specs.Screens.{desktop}
@@ -16,11 +16,11 @@ use Rattle.window_paint.specs.Moves.{everywhere, moved_bit}
 use Rattle.window_paint.specs.Writes.{IsWrittenBy, arrives, one}
 
 -- what the part of a window makes of a bit
-abbrev pub painted_part : List ℕ → Definition → Point → Part → Point → Bool → Bool
+abbrev pub painted_part : List ℕ → Definition → Point → Repaint → Point → Bool → Bool
 painted_part font d place part p value = painted_bit font d place part.erase part.redraw p value
 
 -- what the parts of windows make of it, one after another
-abbrev pub painted_parts : List ℕ → List WindowRecord → List Part → Point → Bool → Bool
+abbrev pub painted_parts : List ℕ → List WindowRecord → List Repaint → Point → Bool → Bool
 painted_parts font [] parts p value = value
 painted_parts font (w ∷ ws) [] p value = value
 painted_parts font (w ∷ ws) (part ∷ parts) p value =
@@ -31,16 +31,16 @@ abbrev pub uncovered_bit : Pixels → PixelSet → PixelSet
 uncovered_bit uncovered others p = if holds uncovered p then pattern_bit desktop p else others p
 
 -- the windows' parts were painted on a map
-abbrev pub ArePainted : List ℕ → List WindowRecord → List Part → Bits → Bits → Type 0
+abbrev pub ArePainted : List ℕ → List WindowRecord → List Repaint → Bits → Bits → Type 0
 ArePainted font ws parts = Draws everywhere (painted_parts font ws parts)
 
 -- how often the content that is new of windows' parts is made white at a pixel, all in all
-abbrev pub erased : List Part → Point → ℕ
+abbrev pub erased : List Repaint → Point → ℕ
 erased [] p = 0
 erased (part ∷ parts) p = one (holds part.erase p) + erased parts p
 
 -- the pixels of the parts of frames that are drawn
-abbrev pub redrawn : List Part → PixelSet
+abbrev pub redrawn : List Repaint → PixelSet
 redrawn [] p = false
 redrawn (part ∷ parts) p = holds part.redraw p || redrawn parts p
 

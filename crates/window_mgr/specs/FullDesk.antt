@@ -3,8 +3,8 @@ use Rattle.std.specs.Prelude.{ℕ, ◌<◌, ◌≤◌, List, ◌∷◌, [], Opti
 use Rattle.tb_geom.specs.Points.{PixelSet}
 use Rattle.bit_map.specs.Patterns.{pattern_bit}
 use Rattle.desk_ground.specs.Screens.{desktop}
-use Rattle.menu_bar.specs.declared.titles.MenuBar.{MenuBar}
-use Rattle.menu_bar.specs.Bars.{bar_picture}
+use Rattle.desk_ground.specs.declared.titles.MenuBar.{MenuBar}
+use Rattle.desk_ground.specs.Bars.{bar_picture}
 use Rattle.def_iface.specs.Stocked.{SlotView}
 use Rattle.def_iface.specs.declared.part.Part.{Part}
 use Rattle.def_iface.specs.Desk.{LayeredDesk}

@@ -12,7 +12,7 @@ use Rattle.def_iface.specs.declared.part.Part.{Part}
 use Rattle.def_iface.specs.Owner.{Owner, owner}
 use Rattle.def_iface.specs.Owner.Owner.{Content}
 use Rattle.def_iface.specs.Change.{Change, no_change, IsChanged}
-use Rattle.desk_call.specs.declared.update.Layers.{Layers}
+use Rattle.desk_call.specs.declared.update.LayerKind.{LayerKind}
 use Rattle.vis_update.specs.declared.area.Area.{Area}
 use Rattle.vis_update.specs.Areas.{is_content_of}
 use Rattle.window_paint.specs.Kinds.{is_of}
@@ -29,7 +29,7 @@ pub record IsRemarked (s : ℕ) (update : Pixels) (before after : FullState) : T
       → after.stale p ≡ (if is_content_of s (owner (layered_desk before.desk) p) then holds update p else before.stale p)
 
 -- the owner is a content layer of this window, one of these
-abbrev pub is_of_kind : Layers → ℕ → Owner → Bool
+abbrev pub is_of_kind : LayerKind → ℕ → Owner → Bool
 is_of_kind kind s (Content t part) = t == s && is_of kind part
 is_of_kind kind s _ = false
 

@@ -14,7 +14,7 @@ use crate::arrange::{Activates, Edit};
 use crate::standing::may_stand;
 use crate::{MoveWindow, SendBehind, ShowHide, WindowManager, WindowReply};
 use def_iface::{Defined, Taken};
-use layer_list::local;
+use window_list::local;
 use tb_geom::Refusal;
 
 impl WindowManager {

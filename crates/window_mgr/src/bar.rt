@@ -6,7 +6,7 @@ ghost use Rattle.window_mgr.specs.Updating.{LeavesState};
 
 use crate::WindowManager;
 use def_iface::{Defined, Taken};
-use menu_bar::{Titles, draw_bar};
+use desk_ground::{Titles, draw_bar};
 
 impl WindowManager {
     /// Shows other titles in the menu bar. It takes no memory.

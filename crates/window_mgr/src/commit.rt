@@ -13,9 +13,9 @@ use def_iface::{Defined, Taken};
 use desk_ground::DESKTOP;
 use strike_font::Font;
 use tb_geom::Point;
-use vis_update::{Part, Plan, settle};
+use vis_update::{Repaint, Plan, settle};
 use window_list::WindowList;
-use window_paint::{move_content, paint_anew};
+use window_paint::{move_content, paint_part};
 
 impl WindowManager {
     /// Draws what a plan says, once the windows are as they are to be, and keeps their areas.
@@ -48,7 +48,7 @@ impl WindowManager {
 }
 
 /// Paints the parts of windows: makes what of their content is new white, and draws their frames.
-fn paint_parts(screen: &mut BitMap, windows: &WindowList, parts: &[Part], font: &Font)
+fn paint_parts(screen: &mut BitMap, windows: &WindowList, parts: &[Repaint], font: &Font)
     requires settled { All IsSettled (map (record_of ⟦<Taken as Defined>⟧.loan) windows.now.records.items) }
     requires parts { length parts.now ≡ length windows.now.records.items }
     ensures painted { ArePainted font.now (map (record_of ⟦<Taken as Defined>⟧.loan) windows.now.records.items) parts.now
@@ -57,6 +57,6 @@ fn paint_parts(screen: &mut BitMap, windows: &WindowList, parts: &[Part], font: 
 {
     for at in 0..windows.len() {
         let part = &parts[at];
-        paint_anew(screen, &part.erase, &part.redraw, windows.at(at), font);
+        paint_part(screen, &part.erase, &part.redraw, windows.at(at), font);
     }
 }

@@ -6,8 +6,7 @@ ghost use Rattle.desk_ground.specs.Screens as screens;
 
 use bit_map::BitMap;
 use def_iface::{Defined, Taken};
-use desk_ground::{Ground, empty_ground};
-use menu_bar::{MenuBar, Titles};
+use desk_ground::{Ground, empty_ground, MenuBar, Titles};
 use scan_region::Region;
 use std::alloc::Global;
 use strike_font::Font;
@@ -44,7 +43,7 @@ pub struct NotBegun {
 
 /// What painting a desk from nothing needs of it: neither what the screen shows, nor any region that is kept.
 #[derive(Clone, Copy)]
-pub struct Parts<'a> {
+pub struct DeskView<'a> {
     /// The sides of the screen.
     pub width: i32,
     pub height: i32,
@@ -117,7 +116,7 @@ impl WindowManager {
     }
 
     /// What painting the desk from nothing needs of it.
-    pub fn parts(&self) -> Parts<'_>
+    pub fn parts(&self) -> DeskView<'_>
         ensures width { result.width ≡ pos self.now.screen.width }
         ensures height { result.height ≡ pos self.now.screen.height }
         ensures bar { result.bar ≡ self.now.bar.rows }
@@ -126,7 +125,7 @@ impl WindowManager {
         ensures windows { result.windows.now ≡ self.now.windows }
     {
         let bounds = self.screen.bounds();
-        Parts {
+        DeskView {
             width: bounds.right,
             height: bounds.bottom,
             bar: self.bar.rows,

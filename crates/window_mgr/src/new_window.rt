@@ -18,7 +18,7 @@ ghost use Rattle.window_mgr.specs.Whole.{IsWholeManager, IsSettled, LieThere};
 use crate::{NewWindow, WindowManager, WindowReply};
 use def_iface::{Defined, Stage, Stocked, Taken, WindowStock};
 use draw_port::Picture;
-use layer_list::Layers;
+use window_list::Layers;
 use std::alloc::{AllocError, Global};
 use tb_geom::{Point, Refusal};
 use vis_update::{

@@ -4,8 +4,8 @@ ghost use Rattle.std.specs.Prelude.{◌≡◌, ◌<◌, ℕ, slice_index_or, Lis
 ghost use Rattle.tb_geom.specs.Points.{PixelSet};
 ghost use Rattle.def_iface.specs.declared.part.Part.{Part};
 ghost use Rattle.def_iface.specs.Stocked.{SlotView};
-ghost use Rattle.layer_list.specs.declared.layer.Layer.{Layer};
-ghost use Rattle.layer_list.specs.Holders.{ArePartsApart};
+ghost use Rattle.window_list.specs.declared.layer.Layer.{Layer};
+ghost use Rattle.window_list.specs.Holders.{ArePartsApart};
 ghost use Rattle.window_mgr.specs.Edits.{IsWindowAt};
 ghost use Rattle.window_mgr.specs.Kept.{IsKept};
 ghost use Rattle.window_mgr.specs.Records.{state_of, state_showing};
@@ -16,12 +16,12 @@ use crate::WindowManager;
 use bit_blit::fill;
 use bit_map::{Mode, Pattern};
 use def_iface::{Defined, Taken};
-use layer_list::{Layers, Relaid};
+use window_list::{Layers, Relaid};
 use scan_region::Region;
 use std::alloc::AllocError;
 use tb_geom::{Point, Rect};
 use vis_update::{Relaying, relaying_of};
-use window_paint::{Showing, Toggling, invert_layer, paint_layer, repaint_layer};
+use window_paint::{Showing, Toggling, invert_layer, paint_layer, show_layer};
 
 impl WindowManager {
     /// What changes on the screen where the window at this index gets these layers, of which the one at the index `afresh`,
@@ -55,7 +55,7 @@ impl WindowManager {
     /// Draws the layer at this index of a window within a rectangle of the window, on the pixels that it owns and that are not to
     /// be redrawn. Where the screen was right, and the layer shows outside of the rectangle what it showed, it is shown anew so. It
     /// takes no memory.
-    pub fn redraw_layer<S: Showing>(&mut self, at: usize, index: usize, within: Rect, showing: &S)
+    pub fn show_layer<S: Showing>(&mut self, at: usize, index: usize, within: Rect, showing: &S)
         requires kept { IsKept ⟦<Taken as Defined>⟧.loan self.old }
         requires at { at < length self.old.windows.records.items }
         requires index { (w : _) → IsWindowAt self.old.windows.records.items at w → index < length w.layers.layers }
@@ -69,7 +69,7 @@ impl WindowManager {
             (state_showing (S.shows showing.now) (state_of ⟦<Taken as Defined>⟧.loan self.new slots)) }
     {
         let area = &self.areas[at];
-        repaint_layer(
+        show_layer(
             &mut self.screen,
             &area.visible,
             &area.update,

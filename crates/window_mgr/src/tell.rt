@@ -11,7 +11,7 @@ ghost use Rattle.window_mgr.specs.Telling.{AreRegionBytes, IsNotTold, kept_regio
 
 use crate::{WindowManager, WindowReply};
 use def_iface::{Defined, Taken};
-use layer_list::{local, move_by};
+use window_list::{local, move_by};
 use scan_region::Region;
 use std::alloc::Global;
 use tb_geom::{Point, Refusal};

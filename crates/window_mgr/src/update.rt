@@ -11,7 +11,7 @@ ghost use Rattle.window_mgr.specs.Updating.{LeavesState, LeavesShowing, IsRemark
 
 use crate::WindowManager;
 use def_iface::{Defined, Taken};
-use desk_call::Layers;
+use desk_call::LayerKind;
 use scan_region::Region;
 use tb_geom::Point;
 use vis_update::Area;
@@ -61,7 +61,7 @@ impl WindowManager {
 
     /// Draws what is to be redrawn of a window's layers of one kind, which is then no longer to be; what is left of the
     /// update region is given: what of it other layers have.
-    pub fn refresh<S: Showing>(&mut self, at: usize, kind: Layers, rest: Region, layers: &S)
+    pub fn serve_kind<S: Showing>(&mut self, at: usize, kind: LayerKind, rest: Region, layers: &S)
         requires kept { IsKept ⟦<Taken as Defined>⟧.loan self.old }
         requires at { at < length self.old.windows.records.items }
         requires whole { S.is_whole layers.now }
@@ -83,7 +83,7 @@ impl WindowManager {
     }
 
     /// Draws all that is to be redrawn of a window's content, of which nothing is then to be.
-    pub fn refresh_content<S: Showing>(&mut self, at: usize, layers: &S)
+    pub fn serve_all<S: Showing>(&mut self, at: usize, layers: &S)
         requires kept { IsKept ⟦<Taken as Defined>⟧.loan self.old }
         requires at { at < length self.old.windows.records.items }
         requires whole { S.is_whole layers.now }

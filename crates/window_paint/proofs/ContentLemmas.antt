@@ -11,9 +11,9 @@ use Rattle.def_iface.specs.declared.part.Part.{Part}
 use Rattle.def_iface.specs.declared.part.Part.TheVariants as part
 use Rattle.def_iface.specs.Desk.{same_part}
 use Rattle.def_iface.proofs.Owning.{same_part-self, same_part-true}
-use Rattle.layer_list.specs.declared.layer.Layer.{Layer}
-use Rattle.layer_list.specs.Holders.{layer_has, part_at, belongs_to, ArePartsApart}
-use Rattle.layer_list.proofs.Parts.{covered_is}
+use Rattle.window_list.specs.declared.layer.Layer.{Layer}
+use Rattle.window_list.specs.Holders.{layer_has, part_at, belongs_to, ArePartsApart}
+use Rattle.window_list.proofs.Parts.{covered_is}
 use Rattle.window_list.specs.declared.window.Window.{Window}
 use Rattle.window_paint.specs.Hidden.{is_hidden}
 use Rattle.window_paint.specs.Shown.{picture_shown, part_shown, content_shown}

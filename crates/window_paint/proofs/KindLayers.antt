@@ -12,10 +12,10 @@ use Rattle.def_iface.specs.declared.part.Part.{Part}
 use Rattle.def_iface.specs.declared.part.Part.TheVariants as part
 use Rattle.def_iface.specs.Desk.{same_part}
 use Rattle.def_iface.proofs.Owning.{same_part-self, same_part-true}
-use Rattle.desk_call.specs.declared.update.Layers.{Layers}
-use Rattle.desk_call.specs.declared.update.Layers.TheVariants.{Picture, Lists, Controls}
-use Rattle.layer_list.specs.declared.layer.Layer.{Layer}
-use Rattle.layer_list.specs.Holders.{layer_has, part_at, belongs_to, ArePartsApart}
+use Rattle.desk_call.specs.declared.update.LayerKind.{LayerKind}
+use Rattle.desk_call.specs.declared.update.LayerKind.TheVariants.{Picture, Lists, Controls}
+use Rattle.window_list.specs.declared.layer.Layer.{Layer}
+use Rattle.window_list.specs.Holders.{layer_has, part_at, belongs_to, ArePartsApart}
 use Rattle.window_list.specs.declared.window.Window.{Window}
 use Rattle.window_paint.specs.Hidden.{is_hidden}
 use Rattle.window_paint.specs.Shown.{picture_shown, content_shown}
@@ -23,7 +23,7 @@ use Rattle.window_paint.specs.Kinds.{is_of, is_kind_there}
 use Rattle.window_paint.proofs.ContentLemmas.{layer_is, picture_drawn}
 
 -- the picture is a kind by itself
-pub picture_kind : (kind : Layers) (q : Part) → is_of kind part.Picture ≡ true → is_of kind q ≡ same_part q part.Picture
+pub picture_kind : (kind : LayerKind) (q : Part) → is_of kind part.Picture ≡ true → is_of kind q ≡ same_part q part.Picture
 picture_kind Picture part.Picture e = refl
 picture_kind Picture (part.Control n) e = refl
 picture_kind Picture (part.List n) e = refl
@@ -31,11 +31,11 @@ picture_kind Lists q e = absurd (false≢true e)
 picture_kind Controls q e = absurd (false≢true e)
 
 -- the part is one of these layers, and of this kind
-abbrev pub is_among : Layers → List Layer → Part → Bool
+abbrev pub is_among : LayerKind → List Layer → Part → Bool
 is_among kind [] q = false
 is_among kind (l ∷ ls) q = (is_of kind l.part && same_part q l.part) || is_among kind ls q
 
-among_snoc : (kind : Layers) (ls : List Layer) (l : Layer) (q : Part) → is_among kind (ls ++ l ∷ []) q ≡ ((is_of kind l.part && same_part q l.part) || is_among kind ls q)
+among_snoc : (kind : LayerKind) (ls : List Layer) (l : Layer) (q : Part) → is_among kind (ls ++ l ∷ []) q ≡ ((is_of kind l.part && same_part q l.part) || is_among kind ls q)
 among_snoc kind [] l q = refl
 among_snoc kind (k ∷ ls) l q = ap (λ b. (is_of kind k.part && same_part q k.part) || b) (among_snoc kind ls l q) ∙ exchanged (is_of kind k.part && same_part q k.part) (is_of kind l.part && same_part q l.part) (is_among kind ls q)
   where
@@ -45,13 +45,13 @@ among_snoc kind (k ∷ ls) l q = ap (λ b. (is_of kind k.part && same_part q k.p
     exchanged false b c = refl
 
 -- one layer more
-pub among_more : (kind : Layers) (ls : List Layer) (i : ℕ) (l : Layer) → i < length ls → l ≡ get_or ls i l → (q : Part)
+pub among_more : (kind : LayerKind) (ls : List Layer) (i : ℕ) (l : Layer) → i < length ls → l ≡ get_or ls i l → (q : Part)
     → is_among kind (take (i + 1) ls) q ≡ ((is_of kind l.part && same_part q l.part) || is_among kind (take i ls) q)
 among_more kind ls i l low read q =
     ap (λ ks. is_among kind ks q) (take_more ls i l low ∙ ap (λ k. take i ls ++ k ∷ []) (sym read)) ∙ among_snoc kind (take i ls) l q
 
 -- a kind that is not the picture's: a pixel belongs to one of these layers of it where it belongs to it
-pub all_among : (kind : Layers) (ls : List Layer) (q : Point) → is_of kind part.Picture ≡ false → is_among kind ls (part_at ls q) ≡ is_of kind (part_at ls q)
+pub all_among : (kind : LayerKind) (ls : List Layer) (q : Point) → is_of kind part.Picture ≡ false → is_among kind ls (part_at ls q) ≡ is_of kind (part_at ls q)
 all_among kind [] q no_picture = sym no_picture
 all_among kind (l ∷ ls) q no_picture = by_test (layer_has l q) (all_among kind ls q no_picture)
   where
@@ -88,7 +88,7 @@ all_among kind (l ∷ ls) q no_picture = by_test (layer_has l q) (all_among kind
 
 -- ---- drawn
 
-module _ {V : Type 0} {H : V → Type 0} (kind : Layers) (font : List ℕ) (shows : Part → PixelSet) (w : Window V H) (region : PixelSet) where
+module _ {V : Type 0} {H : V → Type 0} (kind : LayerKind) (font : List ℕ) (shows : Part → PixelSet) (w : Window V H) (region : PixelSet) where
   abbrev its : Point → Part
   its p = part_at w.layers.layers (minus p w.layers.place)
 

@@ -1,6 +1,6 @@
 -- What of a window's picture lies behind its layers.
 use Rattle.tb_geom.specs.Points.{PixelSet, minus}
-use Rattle.layer_list.specs.Holders.{is_covered}
+use Rattle.window_list.specs.Holders.{is_covered}
 use Rattle.window_list.specs.declared.window.Window.{Window}
 
 -- a layer in front of the window's picture has the pixel of the screen

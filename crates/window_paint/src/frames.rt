@@ -37,7 +37,7 @@ pub fn paint_frame(map: &mut BitMap, region: &Region, window: &Window, within: R
 
 /// Makes what of a window's content is new white, and draws its frame on what of that is to be drawn. Both regions are of
 /// the screen; of a pixel that both have, the frame is drawn.
-pub fn paint_anew(map: &mut BitMap, new: &Region, frame: &Region, window: &Window, font: &Font)
+pub fn paint_part(map: &mut BitMap, new: &Region, frame: &Region, window: &Window, font: &Font)
     requires placed { in_plane window.now.place ≡ true }
     requires live { (⟦<Taken as Defined>⟧.loan window.now.taken).definition.stage ≡ Stage.Live }
     requires told { is_fitting (⟦<Taken as Defined>⟧.loan window.now.taken).definition

@@ -3,7 +3,7 @@ ghost use Rattle.std.specs.Prelude.{◌≡◌, ◌&&◌, true};
 ghost use Rattle.tb_geom.specs.Pixels.{holds};
 ghost use Rattle.tb_geom.specs.Rects.{in_plane};
 ghost use Rattle.bit_blit.specs.Draws.{Draws};
-ghost use Rattle.layer_list.specs.Holders.{ArePartsApart};
+ghost use Rattle.window_list.specs.Holders.{ArePartsApart};
 ghost use Rattle.window_paint.specs.Shown.{content_shown};
 ghost use Rattle.window_paint.specs.Kinds.{is_of, is_kind_there};
 
@@ -12,19 +12,19 @@ use crate::pictures::paint_picture;
 use crate::showing::Showing;
 use bit_map::BitMap;
 use def_iface::Part;
-use desk_call::Layers;
+use desk_call::LayerKind;
 use scan_region::Region;
 use strike_font::Font;
 use window_list::Window;
 
 /// Whether a part of a window's content is of these layers.
-pub fn is_of(kind: Layers, part: Part) -> bool
+pub fn is_of(kind: LayerKind, part: Part) -> bool
     ensures { result ≡ is_of kind part }
 {
     match (kind, part) {
-        (Layers::Picture, Part::Picture) => true,
-        (Layers::Lists, Part::List(_)) => true,
-        (Layers::Controls, Part::Control(_)) => true,
+        (LayerKind::Picture, Part::Picture) => true,
+        (LayerKind::Lists, Part::List(_)) => true,
+        (LayerKind::Controls, Part::Control(_)) => true,
         _ => false,
     }
 }
@@ -34,7 +34,7 @@ pub fn paint_kind<S: Showing>(
     map: &mut BitMap,
     region: &Region,
     window: &Window,
-    kind: Layers,
+    kind: LayerKind,
     layers: &S,
     font: &Font,
 )

@@ -6,8 +6,8 @@ ghost use Rattle.tb_geom.specs.Rects.{in_plane, rect_holds};
 ghost use Rattle.scan_region.specs.Cuts.{cut_holds, cut_meeting};
 ghost use Rattle.tb_geom.specs.declared.point.Point.{Point};
 ghost use Rattle.bit_blit.specs.Draws.{Draws};
-ghost use Rattle.layer_list.specs.declared.layer.Layer.{Layer};
-ghost use Rattle.layer_list.specs.Holders.{belongs_to, ArePartsApart};
+ghost use Rattle.window_list.specs.declared.layer.Layer.{Layer};
+ghost use Rattle.window_list.specs.Holders.{belongs_to, ArePartsApart};
 ghost use Rattle.window_paint.specs.Shown.{content_shown};
 
 use crate::pictures::paint_picture;
@@ -43,7 +43,7 @@ pub fn paint_layer<S: Showing>(
 
 /// Draws the layer at this index of a window anew within a rectangle of the window, on the pixels of a region of the screen that it
 /// owns, but for those of another region.
-pub fn repaint_layer<S: Showing>(
+pub fn show_layer<S: Showing>(
     map: &mut BitMap,
     region: &Region,
     but: &Region,

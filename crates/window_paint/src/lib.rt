@@ -4,7 +4,7 @@
 //! these, and shows what that one shows there: `content_shown`, in `specs/Shown`, says it of the window's record. A drawing
 //! here is on the pixels of a region of the map that the caller chooses, as what of the content is visible, or is to be
 //! redrawn; it takes no memory, and leaves every other pixel as it was. `paint_picture` draws what of the picture no layer in
-//! front of it hides, `paint_layer` draws what one layer owns (`repaint_layer` all of that but what another region has),
+//! front of it hides, `paint_layer` draws what one layer owns (`show_layer` all of that but what another region has),
 //! `paint_kind` what the layers of one kind own, and `paint_content` draws all of the content. An operation that was just
 //! added to the picture is drawn by itself, over what stands there (`paint_last_operation`).
 //!
@@ -14,7 +14,7 @@
 //! (`Toggling`).
 //!
 //! Around the content lies the window's frame, which its definition draws: `paint_frame` draws it within a rectangle of the
-//! window, and `paint_anew` over white content that is new. Where contents or pictures move, their pixels move on the map
+//! window, and `paint_part` over white content that is new. Where contents or pictures move, their pixels move on the map
 //! (`move_content`, `scroll_content`).
 //!
 //! Regions, maps and the places of windows and of their layers are in the coordinates of the screen. What a picture or a
@@ -28,9 +28,9 @@ mod moves;
 mod pictures;
 mod showing;
 
-pub use frames::{paint_anew, paint_frame};
+pub use frames::{paint_part, paint_frame};
 pub use kinds::{is_of, paint_kind};
-pub use layers::{invert_layer, meeting, paint_content, paint_layer, repaint_layer};
+pub use layers::{invert_layer, meeting, paint_content, paint_layer, show_layer};
 pub use moves::{move_content, scroll_content};
 pub use pictures::{paint_last_operation, paint_picture};
 pub use showing::{NothingShown, Showing, Toggling};

@@ -9,10 +9,10 @@ use Rattle.def_iface.specs.declared.part.Part.TheVariants as part
 use Rattle.def_iface.specs.Desk.{same_part}
 use Rattle.def_iface.specs.Owner.{Owner}
 use Rattle.def_iface.specs.Owner.Owner.{Desktop, Bar, Frame, Content}
-use Rattle.desk_call.specs.declared.update.Layers.{Layers}
-use Rattle.desk_call.specs.declared.update.Layers.TheVariants.{Picture, Lists, Controls}
-use Rattle.layer_list.specs.Holders.{part_at, is_covered, ArePartsApart}
-use Rattle.layer_list.proofs.Parts.{covered_is}
+use Rattle.desk_call.specs.declared.update.LayerKind.{LayerKind}
+use Rattle.desk_call.specs.declared.update.LayerKind.TheVariants.{Picture, Lists, Controls}
+use Rattle.window_list.specs.Holders.{part_at, is_covered, ArePartsApart}
+use Rattle.window_list.proofs.Parts.{covered_is}
 use Rattle.window_list.specs.declared.window.Window.{Window}
 use Rattle.window_paint.specs.Kinds.{is_of, is_kind_there}
 use Rattle.window_paint.proofs.KindLayers.{picture_kind}
@@ -33,22 +33,22 @@ there_true true = refl
 there_true false = refl
 
 -- one kind more is further
-pub further_with : (kind : Layers) (d : Kinds) → has_kind d kind ≡ false → IsFurther d (with_kind kind d)
+pub further_with : (kind : LayerKind) (d : Kinds) → has_kind d kind ≡ false → IsFurther d (with_kind kind d)
 further_with Picture d lacks = (λ i. there_true d.picture i && (there_itself d.lists i && there_itself d.controls i), λ same. false≢true (sym (ap (λ (k : Kinds). k.picture) same ∙ lacks)))
 further_with Lists d lacks = (λ i. there_itself d.picture i && (there_true d.lists i && there_itself d.controls i), λ same. false≢true (sym (ap (λ (k : Kinds). k.lists) same ∙ lacks)))
 further_with Controls d lacks = (λ i. there_itself d.picture i && (there_itself d.lists i && there_true d.controls i), λ same. false≢true (sym (ap (λ (k : Kinds). k.controls) same ∙ lacks)))
 
 -- what is further than that has the kind
-pub further_has : (kind : Layers) (d k : Kinds) → IsFurther (with_kind kind d) k → has_kind k kind ≡ true
+pub further_has : (kind : LayerKind) (d k : Kinds) → IsFurther (with_kind kind d) k → has_kind k kind ≡ true
 further_has Picture d k further = (and_parts k.picture _ further.0).0
 further_has Lists d k further = (and_parts k.lists _ (and_parts (if_there d.picture k.picture) _ further.0).1).0
 further_has Controls d k further = (and_parts (if_there d.lists k.lists) k.controls (and_parts (if_there d.picture k.picture) _ further.0).1).1
 
 -- and is further than the rest
-pub further_still : (kind : Layers) (d k : Kinds) → has_kind d kind ≡ false → IsFurther (with_kind kind d) k → IsFurther d k
+pub further_still : (kind : LayerKind) (d k : Kinds) → has_kind d kind ≡ false → IsFurther (with_kind kind d) k → IsFurther d k
 further_still kind d k lacks further = (covers kind further.0, λ same. false≢true (sym lacks ∙ ap (λ x. has_kind x kind) (sym same) ∙ further_has kind d k further))
   where
-    covers : (kind : Layers) → (if_there (with_kind kind d).picture k.picture && (if_there (with_kind kind d).lists k.lists && if_there (with_kind kind d).controls k.controls)) ≡ true
+    covers : (kind : LayerKind) → (if_there (with_kind kind d).picture k.picture && (if_there (with_kind kind d).lists k.lists && if_there (with_kind kind d).controls k.controls)) ≡ true
         → (if_there d.picture k.picture && (if_there d.lists k.lists && if_there d.controls k.controls)) ≡ true
     covers Picture e =
         let parts = and_parts k.picture _ e in
@@ -64,7 +64,7 @@ further_still kind d k lacks further = (covers kind further.0, λ same. false≢
 
 -- ---- owners of chosen kinds
 
-chosen_with : (kind : Layers) (d : Kinds) (a : Part) → is_chosen (with_kind kind d) a ≡ (is_of kind a || is_chosen d a)
+chosen_with : (kind : LayerKind) (d : Kinds) (a : Part) → is_chosen (with_kind kind d) a ≡ (is_of kind a || is_chosen d a)
 chosen_with Picture d part.Picture = refl
 chosen_with Picture d (part.Control n) = refl
 chosen_with Picture d (part.List n) = refl
@@ -75,7 +75,7 @@ chosen_with Controls d part.Picture = refl
 chosen_with Controls d (part.Control n) = refl
 chosen_with Controls d (part.List n) = refl
 
-pub chosen_of_with : (kind : Layers) (d : Kinds) (s : ℕ) (o : Owner) → is_chosen_of (with_kind kind d) s o ≡ (is_of_kind kind s o || is_chosen_of d s o)
+pub chosen_of_with : (kind : LayerKind) (d : Kinds) (s : ℕ) (o : Owner) → is_chosen_of (with_kind kind d) s o ≡ (is_of_kind kind s o || is_chosen_of d s o)
 chosen_of_with kind d s Desktop = refl
 chosen_of_with kind d s Bar = refl
 chosen_of_with kind d s (Frame t) = refl
@@ -102,7 +102,7 @@ none_chosen s (Content t a) = ap (λ b. t == s && b) (none a) ∙ never (t == s)
     never false = refl
 
 -- a layer of a kind that a choice has is chosen
-pub kind_chosen : (kind : Layers) (k : Kinds) (s : ℕ) (o : Owner) → has_kind k kind ≡ true → is_of_kind kind s o ≡ true → is_chosen_of k s o ≡ true
+pub kind_chosen : (kind : LayerKind) (k : Kinds) (s : ℕ) (o : Owner) → has_kind k kind ≡ true → is_of_kind kind s o ≡ true → is_chosen_of k s o ≡ true
 kind_chosen kind k s Desktop has e = absurd (false≢true e)
 kind_chosen kind k s Bar has e = absurd (false≢true e)
 kind_chosen kind k s (Frame t) has e = absurd (false≢true e)
@@ -110,7 +110,7 @@ kind_chosen kind k s (Content t a) has e =
     let parts = and_parts (t == s) (is_of kind a) e in
     λ i. parts.0 i && its kind a has parts.1 i
   where
-    its : (kind : Layers) (a : Part) → has_kind k kind ≡ true → is_of kind a ≡ true → is_chosen k a ≡ true
+    its : (kind : LayerKind) (a : Part) → has_kind k kind ≡ true → is_of kind a ≡ true → is_chosen k a ≡ true
     its Picture part.Picture has of = has
     its Picture (part.Control n) has of = absurd (false≢true of)
     its Picture (part.List n) has of = absurd (false≢true of)
@@ -134,7 +134,7 @@ left_drawn c d false true false p = refl
 left_drawn c d false false true p = refl
 left_drawn c d false false false p = refl
 
-pub others_kept : (kind which : Layers) (old mid new : Choices) → kind ≡ which → mid ≡ record old { drawn = with_kind which old.drawn } → ((k : Kinds) → IsFurther mid.drawn k → left_for new k ≡ left_for mid k)
+pub others_kept : (kind which : LayerKind) (old mid new : Choices) → kind ≡ which → mid ≡ record old { drawn = with_kind which old.drawn } → ((k : Kinds) → IsFurther mid.drawn k → left_for new k ≡ left_for mid k)
     → (k : Kinds) → IsFurther (with_kind kind old.drawn) k → left_for new k ≡ left_for old k
 others_kept kind which old mid new is changed others k further =
     others k (subst (λ d. IsFurther d k) (ap (λ x. with_kind x old.drawn) is ∙ sym (ap (λ (c : Choices). c.drawn) changed)) further)

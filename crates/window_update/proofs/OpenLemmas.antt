@@ -13,8 +13,8 @@ use Rattle.def_iface.specs.Owner.{Owner, owner, is_content}
 use Rattle.def_iface.specs.Owner.Owner.{Desktop, Bar, Frame, Content}
 use Rattle.def_iface.specs.Change.{stale_by}
 use Rattle.def_iface.proofs.Owning.{same_number, same_owner-self}
-use Rattle.desk_call.specs.declared.update.Layers.{Layers}
-use Rattle.layer_list.specs.Holders.{part_at}
+use Rattle.desk_call.specs.declared.update.LayerKind.{LayerKind}
+use Rattle.window_list.specs.Holders.{part_at}
 use Rattle.vis_update.specs.declared.area.Area.{Area}
 use Rattle.vis_update.specs.Areas.{is_content_of, stale_in}
 use Rattle.window_list.specs.declared.window.Window.{Window}
@@ -50,7 +50,7 @@ is_some_content s (Content t part) e = refl
 
 -- ---- a kind of layers, drawn
 
-module _ (kind : Layers) (s : ℕ) (before after : FullState) (c drawn : Choices) (kept : AreChoices s (layered_desk before.desk) before.stale c) (lacks : has_kind c.drawn kind ≡ false)
+module _ (kind : LayerKind) (s : ℕ) (before after : FullState) (c drawn : Choices) (kept : AreChoices s (layered_desk before.desk) before.stale c) (lacks : has_kind c.drawn kind ≡ false)
     (counted : drawn.drawn ≡ with_kind kind c.drawn) (others : (k : Kinds) → IsFurther (with_kind kind c.drawn) k → left_for drawn k ≡ left_for c k) (done : IsRefreshed (is_of_kind kind s) before after) where
   abbrev desk : LayeredDesk
   desk = layered_desk before.desk
@@ -147,7 +147,7 @@ module _ {V : Type 0} {H : V → Type 0} (loan : Taken V H → Loan) (t : Window
   choices_begun s is c its = subst (λ n. AreChoices n now stale c) is (begun c its)
 
   -- what a draw leaves is what of the update region the other kinds have
-  module _ (s : ℕ) (is : w.serial ≡ s) (c : Choices) (choices : AreChoices s now stale c) (kind : Layers) (lacks : has_kind c.drawn kind ≡ false) (left : Pixels) (left_is : (p : Point) → holds left p ≡ left_for c (with_kind kind c.drawn) p) where
+  module _ (s : ℕ) (is : w.serial ≡ s) (c : Choices) (choices : AreChoices s now stale c) (kind : LayerKind) (lacks : has_kind c.drawn kind ≡ false) (left : Pixels) (left_is : (p : Point) → holds left p ≡ left_for c (with_kind kind c.drawn) p) where
     mine : AreChoices w.serial now stale c
     mine = subst (λ n. AreChoices n now stale c) (sym is) choices
 
@@ -174,7 +174,7 @@ module _ {V : Type 0} {H : V → Type 0} (loan : Taken V H → Loan) (t : Window
         by_sides false on content e = refl
 
 -- after a draw
-pub choices_left : {V : Type 0} {H : V → Type 0} (loan : Taken V H → Loan) (shows : List ℕ → Part → PixelSet) (t : WindowManager V H) (kept : IsKept loan t) (new : WindowManager V H) (kind : Layers) (s : ℕ) (c drawn : Choices)
+pub choices_left : {V : Type 0} {H : V → Type 0} (loan : Taken V H → Loan) (shows : List ℕ → Part → PixelSet) (t : WindowManager V H) (kept : IsKept loan t) (new : WindowManager V H) (kind : LayerKind) (s : ℕ) (c drawn : Choices)
     → AreChoices s (layered_desk (desk_of loan t [])) (stale_in t.areas.items) c → has_kind c.drawn kind ≡ false
     → drawn.drawn ≡ with_kind kind c.drawn → ((k : Kinds) → IsFurther (with_kind kind c.drawn) k → left_for drawn k ≡ left_for c k)
     → LeavesShowing loan shows (IsRefreshed (is_of_kind kind s)) t new

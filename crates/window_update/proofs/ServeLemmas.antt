@@ -14,7 +14,7 @@ use Rattle.def_iface.specs.Stocked.{SlotView}
 use Rattle.desk_call.specs.declared.activity.Activity.{Activity}
 use Rattle.desk_call.specs.declared.activity.Activity.TheVariants.{Idle, Updating}
 use Rattle.desk_call.specs.declared.update.LayerDraw.{LayerDraw}
-use Rattle.desk_call.specs.declared.update.Layers.{Layers}
+use Rattle.desk_call.specs.declared.update.LayerKind.{LayerKind}
 use Rattle.desk_call.specs.declared.update.UpdateCall.{UpdateCall}
 use Rattle.desk_call.specs.declared.update.UpdateCall.TheVariants as asks
 use Rattle.desk_call.specs.declared.window.WindowReply.{WindowReply}
@@ -126,7 +126,7 @@ module _ {V : Type 0} {H : V → Type 0} (loan : Taken V H → Loan) (shows : Li
     same_height = ap (λ (d : FullDesk). nat_abs d.height) (refreshed kept.slots kept.whole).1.desk
 
   -- what is kept for the update is whole then
-  pub drawn_whole : (kind : Layers) (new : WindowManager V H) → LeavesShowing loan shows (AreDrawn kind s) t new → (u : Updates) (c : Choices) → IsWholeUpdates loan (Updating s) t u → has_kind u.choices.drawn kind ≡ false
+  pub drawn_whole : (kind : LayerKind) (new : WindowManager V H) → LeavesShowing loan shows (AreDrawn kind s) t new → (u : Updates) (c : Choices) → IsWholeUpdates loan (Updating s) t u → has_kind u.choices.drawn kind ≡ false
       → c.drawn ≡ with_kind kind u.choices.drawn → ((k : Kinds) → IsFurther (with_kind kind u.choices.drawn) k → left_for c k ≡ left_for u.choices k)
       → IsWholeUpdates loan (Updating s) new (record u { choices = c })
   drawn_whole kind new leaves u c whole lacks counted others =
@@ -153,7 +153,7 @@ are_drawn loan shows t kept d at stands u new leaves slots whole =
     (left.0, (free loan shows t kept d.window at stands slots, (refl, (record { activity = refl; begun = refl }, left.1))))
 
 -- layers that were drawn before in the update are drawn where nothing changes
-pub drawn_before : {V : Type 0} {H : V → Type 0} (loan : Taken V H → Loan) (shows : List ℕ → Part → PixelSet) (t : WindowManager V H) (kind : Layers) (s : ℕ) (c : Choices)
+pub drawn_before : {V : Type 0} {H : V → Type 0} (loan : Taken V H → Loan) (shows : List ℕ → Part → PixelSet) (t : WindowManager V H) (kind : LayerKind) (s : ℕ) (c : Choices)
     → AreChoices s (layered_desk (desk_of loan t [])) (stale_in t.areas.items) c → has_kind c.drawn kind ≡ true → LeavesShowing loan shows (AreDrawn kind s) t t
 drawn_before loan shows t kind s c choices has slots whole =
     (whole, stays_refreshed loan t slots whole shows (is_of_kind kind s) (λ p on e. choices.fresh p on (kind_chosen kind c.drawn s (owner (layered_desk (desk_of loan t [])) p) has e)))

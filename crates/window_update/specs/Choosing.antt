@@ -8,9 +8,9 @@ use Rattle.def_iface.specs.declared.part.Part.TheVariants as part
 use Rattle.def_iface.specs.Desk.{LayeredDesk, on_screen}
 use Rattle.def_iface.specs.Owner.{Owner, owner}
 use Rattle.def_iface.specs.Owner.Owner.{Content}
-use Rattle.desk_call.specs.declared.update.Layers.{Layers}
-use Rattle.desk_call.specs.declared.update.Layers.TheVariants.{Picture, Lists, Controls}
-use Rattle.layer_list.specs.Holders.{part_at}
+use Rattle.desk_call.specs.declared.update.LayerKind.{LayerKind}
+use Rattle.desk_call.specs.declared.update.LayerKind.TheVariants.{Picture, Lists, Controls}
+use Rattle.window_list.specs.Holders.{part_at}
 use Rattle.vis_update.specs.Areas.{is_content_of}
 use Rattle.window_list.specs.declared.window.Window.{Window}
 use Rattle.window_update.specs.declared.choices.Kinds.{Kinds}
@@ -21,13 +21,13 @@ use Rattle.window_update.specs.declared.choices.Choices.{Choices}
 abbrev pub no_kinds : Kinds
 no_kinds = record { picture = false; lists = false; controls = false }
 
-abbrev pub has_kind : Kinds → Layers → Bool
+abbrev pub has_kind : Kinds → LayerKind → Bool
 has_kind k Picture = k.picture
 has_kind k Lists = k.lists
 has_kind k Controls = k.controls
 
 -- the choice with this kind too
-abbrev pub with_kind : Layers → Kinds → Kinds
+abbrev pub with_kind : LayerKind → Kinds → Kinds
 with_kind Picture k = record k { picture = true }
 with_kind Lists k = record k { lists = true }
 with_kind Controls k = record k { controls = true }

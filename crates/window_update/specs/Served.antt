@@ -3,7 +3,7 @@ use Rattle.std.specs.Prelude.{◌≡◌, ℕ, true, List, [], ◌∷◌, ◌++�
 use Rattle.tb_geom.specs.declared.point.Point.{Point}
 use Rattle.def_iface.specs.Desk.{on_screen}
 use Rattle.def_iface.specs.Scratch.{scratch}
-use Rattle.desk_call.specs.declared.update.Layers.{Layers}
+use Rattle.desk_call.specs.declared.update.LayerKind.{LayerKind}
 use Rattle.desk_call.specs.declared.update.UpdateCall.{UpdateCall}
 use Rattle.desk_call.specs.declared.update.UpdateCall.TheVariants.{Begin, Draw, End}
 use Rattle.desk_call.specs.declared.window.WindowReply.TheVariants.{Done}
@@ -19,16 +19,16 @@ AreDone [] before after = after ≡ before
 AreDone (call ∷ calls) before after = (next : DeskState) × IsUpdateStep call (Ok Done) before next × AreDone calls next after
 
 -- the call that draws these layers of the window
-abbrev pub drawing : ℕ → Layers → UpdateCall
+abbrev pub drawing : ℕ → LayerKind → UpdateCall
 drawing s layers = Draw (record { window = s; layers = layers })
 
 -- the update of a window: begun, these layers drawn one after another, and ended
-abbrev pub update_drawing : ℕ → List Layers → List UpdateCall
+abbrev pub update_drawing : ℕ → List LayerKind → List UpdateCall
 update_drawing s kinds = Begin s ∷ map (drawing s) kinds ++ End s ∷ []
 
 -- the picture, the lists and the controls are all among these layers, in whichever order, each once or more
-abbrev pub AreAllKinds : List Layers → Type 0
-AreAllKinds kinds = (kind : Layers) → Contains kinds kind
+abbrev pub AreAllKinds : List LayerKind → Type 0
+AreAllKinds kinds = (kind : LayerKind) → Contains kinds kind
 
 -- no window's update region has a pixel
 abbrev pub AreAllServed : FullState → Type 0

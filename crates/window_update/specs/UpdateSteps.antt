@@ -8,7 +8,7 @@ use Rattle.def_iface.specs.declared.taken.Taken.{Taken}
 use Rattle.def_iface.specs.Meaning.{Loan}
 use Rattle.def_iface.specs.Change.{Change, no_change, IsChanged}
 use Rattle.desk_call.specs.declared.activity.Activity.TheVariants.{Idle, Updating}
-use Rattle.desk_call.specs.declared.update.Layers.{Layers}
+use Rattle.desk_call.specs.declared.update.LayerKind.{LayerKind}
 use Rattle.desk_call.specs.declared.update.UpdateCall.{UpdateCall}
 use Rattle.desk_call.specs.declared.update.UpdateCall.TheVariants.{Invalidate, Validate, Begin, Draw, End, Serve}
 use Rattle.desk_call.specs.declared.update.WindowArea.{WindowArea}
@@ -50,7 +50,7 @@ pub record IsUpdateBegun (s : ℕ) (before after : DeskState) : Type 0 where
   pub begun : (p : Point) → after.begun p ≡ update_of s before.windows p
 
 -- these layers of the window were drawn where they were to be
-abbrev pub AreDrawn : Layers → ℕ → FullState → FullState → Type 0
+abbrev pub AreDrawn : LayerKind → ℕ → FullState → FullState → Type 0
 AreDrawn kind s before after = IsRefreshed (is_of_kind kind s) before after
 
 -- what a call that nothing refuses leaves

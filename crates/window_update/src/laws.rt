@@ -2,7 +2,7 @@
 ghost use Rattle.std.specs.Prelude.{◌≡◌, ℕ, List, Result, Ok};
 ghost use Rattle.tb_geom.specs.declared.point.Point.{Point};
 ghost use Rattle.tb_geom.specs.declared.refusal.Refusal.{Refusal};
-ghost use Rattle.desk_call.specs.declared.update.Layers.{Layers};
+ghost use Rattle.desk_call.specs.declared.update.LayerKind.{LayerKind};
 ghost use Rattle.desk_call.specs.declared.update.UpdateCall.{UpdateCall};
 ghost use Rattle.desk_call.specs.declared.update.UpdateCall.TheVariants.{Serve};
 ghost use Rattle.desk_call.specs.declared.window.WindowReply.{WindowReply};
@@ -39,7 +39,7 @@ pub fn serving_a_window_leaves_the_others()
 /// however often, and it was ended.
 #[tactic(auto, using(crate::proofs::AnyOrder::drawn_in_any_order_is_served))]
 pub fn an_update_drawn_in_any_order_is_served()
-    ensures { (window : ℕ) (kinds : List Layers) (before after : DeskState) → AreAllKinds kinds
+    ensures { (window : ℕ) (kinds : List LayerKind) (before after : DeskState) → AreAllKinds kinds
         → AreDone (update_drawing window kinds) before after → IsUpdateStep (Serve window) (Ok Done) before after }
 {}
 

@@ -26,6 +26,6 @@ mod updates;
 mod waiting;
 
 pub use areas::update_form_refusal;
-pub use desk_call::{AreaRef, LayerDraw, Layers, UpdateCall, WindowArea};
+pub use desk_call::{AreaRef, LayerDraw, LayerKind, UpdateCall, WindowArea};
 pub use updates::Updates;
 pub use waiting::first_to_update;

@@ -22,7 +22,7 @@ use crate::right::agree;
 use crate::{AreaRef, Updates, WindowArea};
 use def_iface::{Defined, Taken};
 use desk_call::WindowReply;
-use layer_list::{local, move_by};
+use window_list::{local, move_by};
 use scan_region::Region;
 use std::alloc::{AllocError, Global};
 use tb_geom::{Point, Refusal};

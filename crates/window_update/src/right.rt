@@ -12,7 +12,7 @@ ghost use Rattle.window_update.specs.Sets.{judged_set};
 
 use crate::areas::JudgedArea;
 use bit_map::BitMap;
-use layer_list::local;
+use window_list::local;
 use scan_region::{Region, Span};
 use tb_geom::Point;
 

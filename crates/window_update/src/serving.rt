@@ -18,7 +18,7 @@ use crate::choices::Choices;
 use crate::{LayerDraw, Updates};
 use def_iface::{Defined, Taken};
 use desk_call::{Activity, WindowReply};
-use layer_list::{local, move_by};
+use window_list::{local, move_by};
 use scan_region::Region;
 use std::alloc::{AllocError, Global};
 use tb_geom::{Point, Refusal};
@@ -80,7 +80,7 @@ impl Updates {
             return Ok(WindowReply::Done);
         }
         let left = self.choices.draw(draw.layers);
-        windows.refresh(at, draw.layers, left, layers);
+        windows.serve_kind(at, draw.layers, left, layers);
         Ok(WindowReply::Done)
     }
 
@@ -118,7 +118,7 @@ pub(crate) fn serve<S: Showing>(
     let Some(at) = windows.find(window) else {
         return Err(Refusal::NoSuchWindow);
     };
-    windows.refresh_content(at, layers);
+    windows.serve_all(at, layers);
     *activity = Activity::Idle;
     Ok(WindowReply::Done)
 }

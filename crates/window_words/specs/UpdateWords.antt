@@ -1,8 +1,8 @@
 -- The words of the commands for what of a window is to be redrawn.
 use Rattle.std.specs.Prelude.{ℕ, List, [], ◌∷◌, codes}
 use Rattle.desk_call.specs.declared.update.AreaRef.TheVariants.{Rect, Region}
-use Rattle.desk_call.specs.declared.update.Layers.{Layers}
-use Rattle.desk_call.specs.declared.update.Layers.TheVariants.{Picture, Lists, Controls}
+use Rattle.desk_call.specs.declared.update.LayerKind.{LayerKind}
+use Rattle.desk_call.specs.declared.update.LayerKind.TheVariants.{Picture, Lists, Controls}
 use Rattle.desk_call.specs.declared.update.UpdateCall.{UpdateCall}
 use Rattle.desk_call.specs.declared.update.UpdateCall.TheVariants as calls
 use Rattle.desk_call.specs.declared.update.WindowArea.{WindowArea}
@@ -34,7 +34,7 @@ abbrev pub region_area_shape : Shape WindowArea
 region_area_shape = serial (λ window. hex (λ bytes. says (record { window = window; area = Region bytes })))
 
 -- some layers of a window are to be drawn
-abbrev pub layer_draw : Layers → ℕ → UpdateCall
+abbrev pub layer_draw : LayerKind → ℕ → UpdateCall
 layer_draw layers window = calls.Draw (record { window = window; layers = layers })
 
 -- the words that follow a first word, and what they ask

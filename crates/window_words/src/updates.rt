@@ -4,7 +4,7 @@ ghost use Rattle.line_words.specs.Shapes.{reading};
 ghost use Rattle.line_words.specs.Tables.{named};
 ghost use Rattle.window_words.specs.UpdateWords.{rect_area_shape, region_area_shape, layer_draw, update_verbs, update_shape};
 
-use desk_call::{AreaRef, LayerDraw, Layers, UpdateCall, WindowArea};
+use desk_call::{AreaRef, LayerDraw, LayerKind, UpdateCall, WindowArea};
 use line_words::{Words, named};
 use tb_geom::Refusal;
 
@@ -57,9 +57,9 @@ impl UpdateVerb {
             UpdateVerb::ValidateRect => Ok(UpdateCall::Validate(rect_area(words)?)),
             UpdateVerb::ValidateRegion => Ok(UpdateCall::Validate(region_area(words)?)),
             UpdateVerb::Begin => Ok(UpdateCall::Begin(words.last_serial()?)),
-            UpdateVerb::DrawPicture => Ok(layer_draw(Layers::Picture, words.last_serial()?)),
-            UpdateVerb::DrawLists => Ok(layer_draw(Layers::Lists, words.last_serial()?)),
-            UpdateVerb::DrawControls => Ok(layer_draw(Layers::Controls, words.last_serial()?)),
+            UpdateVerb::DrawPicture => Ok(layer_draw(LayerKind::Picture, words.last_serial()?)),
+            UpdateVerb::DrawLists => Ok(layer_draw(LayerKind::Lists, words.last_serial()?)),
+            UpdateVerb::DrawControls => Ok(layer_draw(LayerKind::Controls, words.last_serial()?)),
             UpdateVerb::End => Ok(UpdateCall::End(words.last_serial()?)),
             UpdateVerb::Serve => Ok(UpdateCall::Serve(words.last_serial()?)),
         }
@@ -87,7 +87,7 @@ fn region_area<'a>(words: Words<'a>) -> Result<WindowArea<'a>, Refusal>
 }
 
 /// Some layers of a window are to be drawn.
-fn layer_draw<'a>(layers: Layers, window: u64) -> UpdateCall<'a>
+fn layer_draw<'a>(layers: LayerKind, window: u64) -> UpdateCall<'a>
     ensures { result ≡ layer_draw layers window }
 {
     UpdateCall::Draw(LayerDraw { window, layers })

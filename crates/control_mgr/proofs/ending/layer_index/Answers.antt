@@ -2,7 +2,7 @@ use Rattle.std.proofs.Common.{sym, ap, ◌∙◌, arith}
 use Rattle.def_iface.specs.declared.part.Part.TheVariants as part
 use Rattle.def_iface.specs.Desk.{same_part}
 use Rattle.def_iface.proofs.StockLemmas.{position-first, position-nowhere}
-use Rattle.layer_list.specs.declared.layer.Layer.{Layer}
+use Rattle.window_list.specs.declared.layer.Layer.{Layer}
 use Rattle.control_mgr.proofs.ending.layer_index.Goals as goal
 
 pub returns-then-is_control-clause-first : goal.returns-then-is_control-clause-first

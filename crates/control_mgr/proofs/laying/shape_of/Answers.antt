@@ -7,7 +7,7 @@ use Rattle.tb_geom.specs.declared.rect.Rect.{Rect}
 use Rattle.tb_geom.specs.Points.{minus}
 use Rattle.tb_geom.specs.Rects.{is_in_range, moved_rect, rect_holds}
 use Rattle.def_iface.specs.ControlMeaning.{is_control_size}
-use Rattle.layer_list.proofs.Moved.{stays_with_box}
+use Rattle.window_list.proofs.Moved.{stays_with_box}
 use Rattle.control_mgr.proofs.laying.shape_of.Goals as goal
 
 pub move_by-requires : goal.move_by-requires

@@ -4,18 +4,18 @@ use Rattle.window_mgr.proofs.WriteLemmas.{parts_more, parts_all}
 use Rattle.window_mgr.proofs.PaintLemmas.{settled_in, painted_more, painted_all}
 use Rattle.window_mgr.proofs.commit.paint_parts.Goals as goal
 
-pub paint_anew-requires-clause-placed : goal.paint_anew-requires-clause-placed
-paint_anew-requires-clause-placed g c =
+pub paint_part-requires-clause-placed : goal.paint_part-requires-clause-placed
+paint_part-requires-clause-placed g c =
     let low : c.loop-at.at < length c.args.windows.now.records.items = search rules in
     (settled_in _ c.args.windows.now.records.items c.loop-at.at c.at.result.now low c.at.ensures c.requires.settled).placed
 
-pub paint_anew-requires-clause-live : goal.paint_anew-requires-clause-live
-paint_anew-requires-clause-live g c =
+pub paint_part-requires-clause-live : goal.paint_part-requires-clause-live
+paint_part-requires-clause-live g c =
     let low : c.loop-at.at < length c.args.windows.now.records.items = search rules in
     (settled_in _ c.args.windows.now.records.items c.loop-at.at c.at.result.now low c.at.ensures c.requires.settled).live
 
-pub paint_anew-requires-clause-told : goal.paint_anew-requires-clause-told
-paint_anew-requires-clause-told g c =
+pub paint_part-requires-clause-told : goal.paint_part-requires-clause-told
+paint_part-requires-clause-told g c =
     let low : c.loop-at.at < length c.args.windows.now.records.items = search rules in
     let its = settled_in _ c.args.windows.now.records.items c.loop-at.at c.at.result.now low c.at.ensures c.requires.settled in
     rw its.told its.fits
@@ -25,8 +25,8 @@ loop-at-preserved g c =
     let low : c.loop-at.at < length c.args.windows.now.records.items = search rules in
     let was = c.loop-at.invariant in
     record {
-      painted = painted_more _ c.args.font.now c.args.windows.now.records.items c.args.parts.now c.loop-at.at c.at.result.now c.index-parts-at.result c.args.screen.now c.loop-at.screen c.paint_anew.new.map low c.requires.parts c.at.ensures c.index-parts-at.is was.painted c.paint_anew.ensures.painted;
-      written = parts_more c.args.parts.now c.loop-at.at c.index-parts-at.result c.args.screen.now c.loop-at.screen c.paint_anew.new.map (omega (arith, low, c.requires.parts)) c.index-parts-at.is (λ p. on_map-same c.args.screen.now c.loop-at.screen p was.painted.width was.painted.height) was.written c.paint_anew.ensures.written;
+      painted = painted_more _ c.args.font.now c.args.windows.now.records.items c.args.parts.now c.loop-at.at c.at.result.now c.index-parts-at.result c.args.screen.now c.loop-at.screen c.paint_part.new.map low c.requires.parts c.at.ensures c.index-parts-at.is was.painted c.paint_part.ensures.painted;
+      written = parts_more c.args.parts.now c.loop-at.at c.index-parts-at.result c.args.screen.now c.loop-at.screen c.paint_part.new.map (omega (arith, low, c.requires.parts)) c.index-parts-at.is (λ p. on_map-same c.args.screen.now c.loop-at.screen p was.painted.width was.painted.height) was.written c.paint_part.ensures.written;
     }
 
 pub returns-clause-painted : goal.returns-clause-painted

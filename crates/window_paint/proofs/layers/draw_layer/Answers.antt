@@ -1,6 +1,6 @@
 use Rattle.std.proofs.Common.{◌≡◌, ap, rules}
 use Rattle.tb_geom.specs.Points.{minus}
-use Rattle.layer_list.specs.declared.layer.Layer.{Layer}
+use Rattle.window_list.specs.declared.layer.Layer.{Layer}
 use Rattle.window_paint.proofs.ContentLemmas.{layer_same}
 use Rattle.window_paint.proofs.CutLemmas.{drawn_as}
 use Rattle.window_paint.proofs.layers.draw_layer.Goals as goal

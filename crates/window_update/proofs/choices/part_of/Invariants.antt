@@ -2,7 +2,7 @@ use Rattle.std.proofs.Common.{◌≡◌, take}
 use Rattle.tb_geom.specs.declared.point.Point.{Point}
 use Rattle.tb_geom.specs.Points.{minus}
 use Rattle.tb_geom.specs.Pixels.{holds}
-use Rattle.layer_list.specs.Holders.{part_at}
+use Rattle.window_list.specs.Holders.{part_at}
 use Rattle.window_paint.proofs.KindLayers.{is_among}
 use Rattle.window_update.proofs.choices.part_of.Given as goal
 

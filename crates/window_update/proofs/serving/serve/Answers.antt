@@ -7,12 +7,12 @@ use Rattle.window_update.proofs.serving.serve.Goals as goal
 
 pub returns-clause-step : goal.returns-clause-step
 returns-clause-step g c = λ begun.
-    served _ (g.S.Showing.shows c.args.layers.now) c.args.windows.now c.requires.kept c.args.window c.in-Some.at c.in-Some.ensures c.refresh_content.new.self
-    (refreshed _ (g.S.Showing.shows c.args.layers.now) c.args.windows.now c.requires.kept c.args.window c.in-Some.at c.in-Some.ensures is_content_of c.refresh_content.new.self c.refresh_content.ensures)
+    served _ (g.S.Showing.shows c.args.layers.now) c.args.windows.now c.requires.kept c.args.window c.in-Some.at c.in-Some.ensures c.serve_all.new.self
+    (refreshed _ (g.S.Showing.shows c.args.layers.now) c.args.windows.now c.requires.kept c.args.window c.in-Some.at c.in-Some.ensures is_content_of c.serve_all.new.self c.serve_all.ensures)
     (record { activity = c.args.activity.now; begun = begun }) (record { activity = Idle; begun = begun }) (Ok Done) refl refl
 
 pub returns-clause-width : goal.returns-clause-width
-returns-clause-width g c = same_width _ (g.S.Showing.shows c.args.layers.now) c.args.windows.now c.requires.kept c.args.window c.in-Some.at c.in-Some.ensures is_content_of c.refresh_content.new.self c.refresh_content.ensures
+returns-clause-width g c = same_width _ (g.S.Showing.shows c.args.layers.now) c.args.windows.now c.requires.kept c.args.window c.in-Some.at c.in-Some.ensures is_content_of c.serve_all.new.self c.serve_all.ensures
 
 pub returns-clause-height : goal.returns-clause-height
-returns-clause-height g c = same_height _ (g.S.Showing.shows c.args.layers.now) c.args.windows.now c.requires.kept c.args.window c.in-Some.at c.in-Some.ensures is_content_of c.refresh_content.new.self c.refresh_content.ensures
+returns-clause-height g c = same_height _ (g.S.Showing.shows c.args.layers.now) c.args.windows.now c.requires.kept c.args.window c.in-Some.at c.in-Some.ensures is_content_of c.serve_all.new.self c.serve_all.ensures

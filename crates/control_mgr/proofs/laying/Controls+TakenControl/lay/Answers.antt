@@ -1,5 +1,5 @@
 use Rattle.std.proofs.Common.{◌≡◌, get_or, refl, ap, ◌∙◌, subst}
-use Rattle.layer_list.specs.Changes.{reshaped}
+use Rattle.window_list.specs.LayerChanges.{reshaped}
 use Rattle.window_mgr.proofs.Remarked.{area_there}
 use Rattle.control_mgr.proofs.LaidSo.{has_now}
 use Rattle.control_mgr.proofs.Lays.{after_laying, before_laying, its_shape, laid, may_so, may_tell, one_item, settled_laid}

@@ -8,24 +8,24 @@ tell-damage-requires-clause-tellable g c =
     state_tellable _ c.args.state spot.control c.args.self.now _ c.requires.spot.is.low c.requires.beside.whole.settled
     (state_set _ c.args.state spot.control c.args.self.now.list _ c.at_mut-control.ensures.value)
 
-pub redraw_layer-requires-clause-index : goal.redraw_layer-requires-clause-index
-redraw_layer-requires-clause-index g c w lies =
+pub show_layer-requires-clause-index : goal.show_layer-requires-clause-index
+show_layer-requires-clause-index g c w lies =
     subst (λ n. n < length w.layers.layers) (sym c.layer_index-layer.ensures) (layer_low _ _ c.args.windows.now c.args.self.now c.args.spot c.requires.spot c.requires.beside w lies)
 
-pub redraw_layer-requires-clause-whole : goal.redraw_layer-requires-clause-whole
-redraw_layer-requires-clause-whole g c =
+pub show_layer-requires-clause-whole : goal.show_layer-requires-clause-whole
+show_layer-requires-clause-whole g c =
     let spot = c.args.spot in
     let set = state_set _ c.args.state spot.control c.args.self.now.list _ c.at_mut-control.ensures.value in
-    state_settled _ c.args.state (record { setting = c.may_have.ensures.setting; highlight = c.may_have.ensures.highlight }) spot.control c.args.self.now c.tell-damage.new.self c.requires.beside.whole.settled
+    state_settled _ c.args.state (record { setting = c.say_bounds.ensures.setting; highlight = c.say_bounds.ensures.highlight }) spot.control c.args.self.now c.tell-damage.new.self c.requires.beside.whole.settled
     (state_changed _ c.args.state spot.control c.args.self.now c.tell-damage.new.self _ c.requires.spot.is.low set c.tell-damage.ensures.told)
 
 pub returns : goal.returns
 returns g c named is =
     let spot = c.args.spot in
     let set = state_set _ c.args.state spot.control c.args.self.now.list _ c.at_mut-control.ensures.value in
-    put_shown _ _ named c.args.state (record { setting = c.may_have.ensures.setting; highlight = c.may_have.ensures.highlight }) c.args.windows.now c.redraw_layer.new.self c.args.self.now c.tell-damage.new.self spot is
+    put_shown _ _ named c.args.state (record { setting = c.say_bounds.ensures.setting; highlight = c.say_bounds.ensures.highlight }) c.args.windows.now c.show_layer.new.self c.args.self.now c.tell-damage.new.self spot is
     (state_changed _ c.args.state spot.control c.args.self.now c.tell-damage.new.self _ c.requires.spot.is.low set c.tell-damage.ensures.told)
     c.tell-damage.ensures.next
     c.layer_index-layer.result c.layer_index-layer.ensures c.tell-damage.result
     (state_damaged _ c.args.state spot.control c.args.self.now c.tell-damage.new.self _ c.tell-damage.result set c.tell-damage.ensures.damage)
-    c.redraw_layer.ensures
+    c.show_layer.ensures

@@ -22,8 +22,8 @@ set_update-requires-clause-within g c a read p on =
 
 pub returns-in-None : goal.returns-in-None
 returns-in-None g c =
-    subst (λ o. IsShownOrMarked (list.list_loan-value g.dyn-1).it (window.loan-value g.dyn-2).it c.args.within o c.args.changes c.args.spot c.args.self.now c.args.windows.now c.redraw_layer.new.self) (sym c.in-None.is)
-    (λ x there. drawn_by _ _ c.args.windows.now c.args.self.now c.args.spot c.requires.spot x there c.args.within c.layer-layer.result c.layer-layer.ensures c.redraw_layer.new.self c.redraw_layer.ensures)
+    subst (λ o. IsShownOrMarked (list.list_loan-value g.dyn-1).it (window.loan-value g.dyn-2).it c.args.within o c.args.changes c.args.spot c.args.self.now c.args.windows.now c.show_layer.new.self) (sym c.in-None.is)
+    (λ x there. drawn_by _ _ c.args.windows.now c.args.self.now c.args.spot c.requires.spot x there c.args.within c.layer-layer.result c.layer-layer.ensures c.show_layer.new.self c.show_layer.ensures)
 
 pub returns-then-changes : goal.returns-then-changes
 returns-then-changes g c =

@@ -4,7 +4,7 @@ use Rattle.def_iface.specs.contracts.taken_list.TakenListDefinedList.TheImpl as 
 use Rattle.def_iface.specs.declared.part.Part.TheVariants as part
 use Rattle.list_cells.specs.Selections.{IsChange, selected_by}
 use Rattle.list_cells.proofs.SelectionLemmas.{selecting_by}
-use Rattle.list_paint.specs.Shown.{is_turned}
+use Rattle.list_view.specs.Shown.{is_turned}
 use Rattle.list_mgr.specs.Seen.{seen}
 use Rattle.window_mgr.proofs.Remarked.{area_there}
 use Rattle.control_mgr.proofs.Places.{read_is, there_is}

@@ -4,7 +4,7 @@ use Rattle.std.specs.Option.{is_some}
 use Rattle.std.proofs.lemmas.Int.{to_z-of_z}
 use Rattle.menu_list.specs.Lists.{menu_index}
 use Rattle.tb_geom.specs.declared.refusal.Refusal.TheVariants.{TooLong, TooMany}
-use Rattle.menu_edits.specs.EditRefusals.{is_long_text}
+use Rattle.menu_list.specs.EditRefusals.{is_long_text}
 use Rattle.menu_record.specs.Edits.{is_menu_id}
 use Rattle.menu_mgr.proofs.Made.{number_taken}
 use Rattle.menu_mgr.proofs.menus.Menus.judge.Goals as goal

@@ -3,7 +3,7 @@ use Rattle.def_iface.specs.contracts.taken.TakenDefined.TheImpl as window
 use Rattle.def_iface.specs.contracts.taken_menu.TakenMenuDefinedMenu.TheImpl as definition
 use Rattle.bit_map.specs.Bits.{Bits}
 use Rattle.desk_call.specs.declared.activity.Activity.TheVariants.{Pulling}
-use Rattle.menu_overlay.specs.Overlays.{IsShown}
+use Rattle.overlay.specs.Overlays.{IsShown}
 use Rattle.menu_mgr.specs.Pulling.{pulled_of}
 use Rattle.menu_mgr.specs.WholeMenus.{menus_of}
 use Rattle.menu_mgr.proofs.MovedSteps.{IsToldSo, still_hold, moved_on, stayed_on}

@@ -3,7 +3,7 @@ use Rattle.std.specs.Prelude.{IfSome}
 use Rattle.def_iface.specs.contracts.taken_menu.TakenMenuDefinedMenu.TheImpl as definition
 use Rattle.menu_list.specs.Seen.{seen}
 use Rattle.menu_list.proofs.ListLemmas.{read_there}
-use Rattle.menu_overlay.specs.Overlays.{IsShown}
+use Rattle.overlay.specs.Overlays.{IsShown}
 use Rattle.menu_mgr.specs.Pulling.{as_pulled}
 use Rattle.menu_mgr.proofs.SeenMenus.{live_there}
 use Rattle.menu_mgr.proofs.menus.Menus.show_pulled.Goals as goal

@@ -1,6 +1,6 @@
 use Rattle.std.proofs.Common.{◌<◌, length, pos, sym, refl, subst}
 use Rattle.std.specs.Prelude.{IfSome}
-use Rattle.layer_list.specs.Holders.{ArePartsApart}
+use Rattle.window_list.specs.Holders.{ArePartsApart}
 use Rattle.bit_blit.proofs.DrawsLemmas.{Draws-once}
 use Rattle.window_mgr.proofs.LayersSet.{whitened, some_afresh, none_afresh, still_there, read_there, placed_there, committed, layers_put}
 use Rattle.window_mgr.proofs.Remarked.{area_there}

@@ -1,4 +1,4 @@
-use Rattle.desk_call.specs.declared.update.Layers.TheVariants.{Picture, Lists, Controls}
+use Rattle.desk_call.specs.declared.update.LayerKind.TheVariants.{Picture, Lists, Controls}
 use Rattle.window_update.proofs.ChoiceLemmas.{others_kept}
 use Rattle.window_update.proofs.choices.Choices.draw.Goals as goal
 use Rattle.window_update.proofs.choices.Choices.draw.Goals.{in-Picture, in-Lists, in-Controls}

@@ -9,8 +9,8 @@ returns-then-has_drawn-clause-step g c = λ o.
     are_drawn _ (g.S.Showing.shows c.args.layers.now) c.args.windows.now c.requires.kept c.args.draw c.in-Some.at c.in-Some.ensures o c.args.windows.now
     (drawn_before _ (g.S.Showing.shows c.args.layers.now) c.args.windows.now c.args.draw.layers c.args.draw.window c.args.self.now.choices (c.requires.whole.choices c.args.draw.window refl) (sym c.has_drawn.ensures ∙ c.if-has_drawn.true))
 
-pub refresh-requires : goal.refresh-requires
-refresh-requires g c = record {
+pub serve_kind-requires : goal.serve_kind-requires
+serve_kind-requires g c = record {
   kept = c.requires.kept;
   at = c.in-Some.ensures.0;
   whole = c.requires.layers;
@@ -20,11 +20,11 @@ refresh-requires g c = record {
 
 pub returns-clause-step : goal.returns-clause-step
 returns-clause-step g c = λ o.
-    are_drawn _ (g.S.Showing.shows c.args.layers.now) c.args.windows.now c.requires.kept c.args.draw c.in-Some.at c.in-Some.ensures o c.refresh.new.self
-    (refreshed _ (g.S.Showing.shows c.args.layers.now) c.args.windows.now c.requires.kept c.args.draw.window c.in-Some.at c.in-Some.ensures (is_of_kind c.args.draw.layers) c.refresh.new.self c.refresh.ensures)
+    are_drawn _ (g.S.Showing.shows c.args.layers.now) c.args.windows.now c.requires.kept c.args.draw c.in-Some.at c.in-Some.ensures o c.serve_kind.new.self
+    (refreshed _ (g.S.Showing.shows c.args.layers.now) c.args.windows.now c.requires.kept c.args.draw.window c.in-Some.at c.in-Some.ensures (is_of_kind c.args.draw.layers) c.serve_kind.new.self c.serve_kind.ensures)
 
 pub returns-clause-whole : goal.returns-clause-whole
 returns-clause-whole g c =
-    drawn_whole _ (g.S.Showing.shows c.args.layers.now) c.args.windows.now c.requires.kept c.args.draw.window c.in-Some.at c.in-Some.ensures c.args.draw.layers c.refresh.new.self
-    (refreshed _ (g.S.Showing.shows c.args.layers.now) c.args.windows.now c.requires.kept c.args.draw.window c.in-Some.at c.in-Some.ensures (is_of_kind c.args.draw.layers) c.refresh.new.self c.refresh.ensures)
+    drawn_whole _ (g.S.Showing.shows c.args.layers.now) c.args.windows.now c.requires.kept c.args.draw.window c.in-Some.at c.in-Some.ensures c.args.draw.layers c.serve_kind.new.self
+    (refreshed _ (g.S.Showing.shows c.args.layers.now) c.args.windows.now c.requires.kept c.args.draw.window c.in-Some.at c.in-Some.ensures (is_of_kind c.args.draw.layers) c.serve_kind.new.self c.serve_kind.ensures)
     c.args.self.now c.draw-left.new.self c.requires.whole (sym c.has_drawn.ensures ∙ c.if-has_drawn.false) c.draw-left.ensures.drawn c.draw-left.ensures.others

@@ -1,5 +1,0 @@
-use Rattle.list_paint.proofs.TurnLemmas.{turned_shows}
-use Rattle.list_paint.proofs.laws.toggling_makes_what_is_shown.Goals as goal
-
-pub returns : goal.returns
-returns c = turned_shows

@@ -1,3 +1,0 @@
--- Lemmas on the menu bar.
-pub mod BarLemmas
-pub mod TitleLemmas

@@ -1,6 +1,0 @@
-use Rattle.std.proofs.Common.{rules}
-use Rattle.menu_overlay.proofs.ShownLemmas.{uncut}
-use Rattle.menu_overlay.proofs.drawing.draw_menu.Goals as goal
-
-pub returns : goal.returns
-returns g c = uncut c.args.within _ c.args.map.now c.draw.new.canvas.map.now _ (search rules) c.draw.ensures.drawn

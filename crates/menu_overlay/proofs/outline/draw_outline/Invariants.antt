@@ -1,5 +1,0 @@
-use Rattle.menu_overlay.proofs.OutlineLemmas.{AreLeft}
-use Rattle.menu_overlay.proofs.outline.draw_outline.Given as goal
-
-abbrev pub invariant-loop-line : goal.invariant-loop-line
-invariant-loop-line l = AreLeft l.bar l.lines l.line-index l.fn.map l.map
