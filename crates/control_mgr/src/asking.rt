@@ -20,9 +20,9 @@ use def_iface::{Defined, DefinedControl, Part, Taken, TakenControl};
 use desk_call::{
     ControlInfo, ControlOf, ControlReply, FoundControl, PointAtControl, PointInWindow,
 };
-use window_list::{local, picture_place};
 use tb_geom::{Point, Rect, Refusal};
 use window_items::Item;
+use window_list::{local, picture_place};
 use window_mgr::WindowManager;
 
 /// Whether a point of its window lies in a control's rectangle, widened by so much on each side.

@@ -18,11 +18,11 @@ use def_iface::{
     ControlStock, Defined, DefinedControl, Part, StockedControls, Taken, TakenControl,
 };
 use desk_call::{ControlOf, ControlReply};
-use window_list::Layers;
 use scan_region::Region;
 use std::alloc::AllocError;
 use tb_geom::Refusal;
 use vis_update::Relaying;
+use window_list::Layers;
 use window_mgr::WindowManager;
 
 /// The layers of a window without those of a control that is to end, and what changes by that on the screen.

@@ -16,9 +16,9 @@ use crate::Controls;
 use crate::spots::Spot;
 use def_iface::{Defined, DefinedControl, Size, Taken, TakenControl};
 use desk_call::{ControlOf, ControlReply, MoveControl, SizeControl};
-use window_list::{LayerShape, move_by};
 use std::alloc::{AllocError, Global};
 use tb_geom::{Point, Rect, Refusal};
+use window_list::{LayerShape, move_by};
 use window_mgr::WindowManager;
 
 /// The widest and highest that a control may be.
@@ -75,7 +75,11 @@ pub fn may_be_placed(taken: Option<&TakenControl>, place: Point, size: Size, win
 }
 
 /// The region of a control with this definition that lies so.
-pub(crate) fn shape_of(alloc: Global, taken: &TakenControl, lie: Lie) -> Result<LayerShape, AllocError>
+pub(crate) fn shape_of(
+    alloc: Global,
+    taken: &TakenControl,
+    lie: Lie,
+) -> Result<LayerShape, AllocError>
     requires { MayLieSo (⟦<TakenControl as DefinedControl>⟧.control_loan taken.now).definition lie }
     ensures { IfOk result (IsShapeOf (⟦<TakenControl as DefinedControl>⟧.control_loan taken.now).definition lie) }
 {

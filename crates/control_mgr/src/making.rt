@@ -22,12 +22,12 @@ use def_iface::{
 };
 use desk_call::{ControlCall, ControlReply, NewControl};
 use draw_port::ShortText;
-use window_list::{Layer, Layers};
 use scan_region::Region;
 use std::alloc::AllocError;
 use tb_geom::Refusal;
 use vis_update::Relaying;
 use window_items::Item;
+use window_list::{Layer, Layers};
 use window_mgr::WindowManager;
 
 /// As many controls as a window may have.

@@ -22,8 +22,8 @@ use crate::spots::Spot;
 use control_values::{ControlPart, ControlValues, Highlight};
 use def_iface::{Defined, DefinedControl, Taken, TakenControl};
 use desk_call::{Activity, ControlReply, PointAtControl, TrackedControl};
-use window_list::local;
 use tb_geom::{Point, Refusal};
+use window_list::local;
 use window_mgr::WindowManager;
 
 /// So far outside of a control's rectangle its thumb may be dragged.

@@ -15,10 +15,10 @@ use crate::Lists;
 use crate::spots::Spot;
 use def_iface::{Defined, DefinedList, Part, Taken, TakenList};
 use desk_call::{CellOf, CellText, ListDrawing, ListReply};
-use window_list::Layers;
 use scan_region::Region;
 use std::alloc::AllocError;
 use tb_geom::{Rect, Refusal};
+use window_list::Layers;
 use window_mgr::WindowManager;
 
 /// The index of a list's layer among these.

@@ -20,11 +20,11 @@ use def_iface::{
     StockedLists, Taken, TakenControl, TakenList,
 };
 use desk_call::{ControlOf, ListOf, ListReply};
-use window_list::Layers;
 use scan_region::Region;
 use std::alloc::AllocError;
 use tb_geom::Refusal;
 use window_items::Items;
+use window_list::Layers;
 use window_mgr::WindowManager;
 
 /// Ends the use of a list's definition.

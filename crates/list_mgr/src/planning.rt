@@ -12,12 +12,12 @@ use crate::new_bars::{Bar, horizontal_bar, vertical_bar, wanted_bar};
 use control_mgr::{Addition, Controls};
 use def_iface::{Defined, DefinedControl, DefinedList, Part, Taken, TakenControl, TakenList};
 use desk_call::NewList;
-use window_list::{Layer, Layers};
 use list_cells::ListCells;
 use scan_region::Region;
 use std::alloc::{AllocError, Global};
 use tb_geom::Refusal;
 use vis_update::Relaying;
+use window_list::{Layer, Layers};
 use window_mgr::WindowManager;
 
 /// The layers of a window with that of a new list behind them, and what changes by that on the screen.

@@ -7,7 +7,7 @@ use bit_map::BitMap;
 use def_iface::{DefinedList, ListDef, ListStock, Size, Stage, TakenList};
 use draw_port::{Canvas, Cut};
 use list_cells::{Cell, ClickKeys, ListCells, Selecting, SelectionFlags};
-use list_view::{paint_list, toggle_cells, Axis, ListView};
+use list_view::{Axis, ListView, paint_list, toggle_cells};
 use std::alloc::Global;
 use strike_font::Font;
 use tb_geom::{Point, Rect, Refusal};

@@ -1,4 +1,4 @@
--- Lemmas on views.
+-- Lemmas on views; then on lists as they are drawn: cell by cell, and what a change of the selection turns.
 pub mod AxisLemmas
 pub mod ViewLemmas
 pub mod LineLemmas

@@ -1,4 +1,4 @@
-//! How the cells of a list lie in its view (*Inside Macintosh* IV, "The List Manager Package").
+//! How the cells of a list lie in its view (*Inside Macintosh* IV, "The List Manager Package"), and how they are drawn there.
 //!
 //! A `ListView` is the rectangle of a window in which a list is seen, with the size of its cells and the cell in the
 //! rectangle's top left corner. From that corner on the cells lie side by side, and what reaches out of the view is cut away:
@@ -6,15 +6,9 @@
 //! point; `columns_end` and `rows_end` say how far those reach that show. `scrolled` brings another cell to the corner
 //! (LScroll), as far as there are cells to be seen, and also where some were deleted. Beside the view and below it is room for
 //! two scroll bars, of which `vertical_bar` and `horizontal_bar` say where they lie, and `vertical_values` and
-//! `horizontal_values` what they are set to. What the cells hold is in `list_cells`; no window and no drawing is known here,
-//! and nothing takes memory.
+//! `horizontal_values` what they are set to. What the cells hold is in `list_cells`.
 //!
-//! `laws` has what the definitions imply.
-//!
-//! TO BE JOINED:
-//! What a list shows, drawn on a canvas cell by cell, and its selection, inverted where it stands.
-//!
-//! A list shows its cells in its view (`list_view`). At each point of the window it shows what the cell shows that lies there,
+//! A list shows its cells in its view. At each point of the window it shows what the cell shows that lies there,
 //! drawn by the list's definition from the cell's bytes and whether it is selected, and white where no cell lies:
 //! `list_shown`, in `specs/Shown`, says it of the definition, the view and the cells. `paint_list` draws that on a canvas
 //! whose origin is the 0 0 of the list's window. `toggle_cells` inverts what a call highlights otherwise that is about to
@@ -25,6 +19,8 @@
 //! Both go from cell to cell of those that show, each on a canvas of its own: within the cell's rectangle, cut to the view,
 //! with the cell's corner as its 0 0. What is drawn of a cell is a `CellPen`. No record and no window is known here: the
 //! definition, the view and the cells are handed in as they are. Nothing takes memory.
+//!
+//! `laws` has what the definitions imply.
 #![tactic(auto)]
 
 mod axis;

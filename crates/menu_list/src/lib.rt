@@ -11,13 +11,11 @@
 //! The list is generic in the definition of a menu, so that no contract here speaks of a box; the lemmas of
 //! `proofs/SeenLemmas.antt` say the same of a list in which each definition is seen as something else.
 //!
-//! TO BE JOINED:
-//! The calls that change menus as data: their items, which of them are in the menu bar, and which title is highlighted.
-//!
-//! What each leaves and answers stands in `specs/MenuEdits.antt`, and why it is refused in `specs/EditRefusals.antt` (*Inside
-//! Macintosh* I, "The Menu Manager": AppendMenu, SetItem, InsertMenu, DeleteMenu, EnableItem, DisableItem, CheckItem, MenuKey,
-//! HiliteMenu). `edit` performs one on a list of menus, whatever stands there for their definitions: it is generic in that, and
-//! knows nothing of boxes, of windows or of pixels. The calls that make and end menus or pull them down are the Menu Manager's.
+//! `edit` performs a call that changes menus as data: their items, which of them are in the menu bar, and which title is
+//! highlighted. What each leaves and answers stands in `specs/MenuEdits.antt`, and why it is refused in
+//! `specs/EditRefusals.antt` (*Inside Macintosh* I, "The Menu Manager": AppendMenu, SetItem, InsertMenu, DeleteMenu,
+//! EnableItem, DisableItem, CheckItem, MenuKey, HiliteMenu). It knows nothing of boxes, of windows or of pixels. The calls that
+//! make and end menus or pull them down are the Menu Manager's.
 #![tactic(auto)]
 
 mod bar;

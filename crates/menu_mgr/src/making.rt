@@ -14,7 +14,7 @@ ghost use Rattle.tb_geom.specs.Refusals.{first_refusal};
 
 use crate::{MenuCall, MenuReply, Menus, NewMenu};
 use def_iface::{DefinedMenu, MenuStock, Stage, StockedMenus, TakenMenu};
-use menu_list::{index_of, Listed, MenuList};
+use menu_list::{Listed, MenuList, index_of};
 use menu_record::Menu;
 use tb_geom::Refusal;
 

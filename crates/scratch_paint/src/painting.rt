@@ -15,7 +15,7 @@ use bit_map::BitMap;
 use def_iface::{
     Defined, DefinedControl, DefinedList, DefinedMenu, Taken, TakenControl, TakenList, TakenMenu,
 };
-use desk_ground::{Ground, empty_ground, draw_bar};
+use desk_ground::{Ground, draw_bar, empty_ground};
 use desk_toolbox::Toolbox;
 use scan_region::Region;
 use std::alloc::{AllocError, Global};

@@ -16,12 +16,12 @@ ghost use Rattle.scratch_paint.specs.Paints.{IsLocalContent, layers_value, look_
 use bit_map::BitMap;
 use def_iface::{Defined, Part, Taken, WindowRegions};
 use draw_port::Canvas;
-use window_list::{Layer, move_by, Window, picture_place};
 use scan_region::Region;
 use std::alloc::{AllocError, Global};
 use strike_font::Font;
 use tb_geom::Point;
 use vis_update::regions_of;
+use window_list::{Layer, Window, move_by, picture_place};
 use window_paint::{Showing, meeting};
 
 /// Paints a window, if it is visible, on the gray region: its frame, and its content over that.

@@ -10,10 +10,10 @@ ghost use Rattle.striped_layers.specs.Relaying.{IsRelaying};
 
 use crate::stripes::Stripes;
 use def_iface::{Defined, Part, Taken};
-use window_list::{Layer, Layers, Relaid, LayerShape};
 use scan_region::Region;
 use std::alloc::Global;
 use tb_geom::{Point, Rect, Refusal};
+use window_list::{Layer, LayerShape, Layers, Relaid};
 use window_mgr::WindowManager;
 
 /// New layers of a window, and the index of the one that is to be drawn afresh, if one is.

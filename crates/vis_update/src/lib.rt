@@ -26,7 +26,7 @@ mod sweep;
 pub use area::Area;
 pub use hand::{changed_with, changed_without, lost_of};
 pub use place::{is_placed_alone, is_placed_with, regions_of};
-pub use plan::{Repaint, Plan, Seat, Touch, seat_of, settle};
+pub use plan::{Plan, Repaint, Seat, Touch, seat_of, settle};
 pub use relaying::{Relaying, relaying_of};
 pub use scrolling::{Scrolled, scroll_of};
 pub use sweep::plan_of;

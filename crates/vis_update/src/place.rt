@@ -5,9 +5,9 @@ ghost use Rattle.def_iface.specs.Meaning.{IsWithin};
 ghost use Rattle.vis_update.specs.Places.{IsRegionsAt, is_placed};
 
 use def_iface::{Defined, Size, Taken, WindowRegions};
-use window_list::move_by;
 use std::alloc::{AllocError, Global};
 use tb_geom::{Point, Rect};
+use window_list::move_by;
 
 /// Whether the rectangle, local to a window, and the one moved to the window's place have all sides
 /// in the range of coordinates.

@@ -151,7 +151,12 @@ impl Layers {
     }
 
     /// The layers where the one at this index is shown or not, and lies here, and is to be drawn afresh.
-    pub fn with_shape(&self, alloc: Global, at: usize, shape: LayerShape) -> Result<Relaid, AllocError>
+    pub fn with_shape(
+        &self,
+        alloc: Global,
+        at: usize,
+        shape: LayerShape,
+    ) -> Result<Relaid, AllocError>
         requires at { at < length self.now.layers }
         requires lies { (l : Layer) → l ≡ slice_index_or self.now.layers at l → IsLayerAt self.now.place (with_shape shape l) }
         requires apart { ArePartsApart self.now.layers }

@@ -1,4 +1,4 @@
-//! The windows of a desk, as one list from front to back.
+//! The windows of a desk, as one list from front to back, and the layers of each window's content.
 //!
 //! A window's record (`Window`) holds all that is its own: its serial, its place and size and those that it goes back to
 //! where it is zoomed, its title, its picture and its definition. A record can only be changed by the list that it lies
@@ -21,19 +21,16 @@
 //!
 //! `picture_place` is where the 0 0 of a window's picture lies on the screen.
 //!
-//! TO BE JOINED:
-//! The layers of a window's content in front of its picture: its controls and its lists.
-//!
-//! A pixel of the content belongs to the first layer from the front that is shown and holds it, and where there is none
-//! to the picture. `Layers` keeps, beside the layers, what each owns and what all cover, moved to where the window lies on
-//! the screen; so a call that draws one of them takes no memory, and a call that moves the window takes none for them. What
-//! a window shows of a layer is what the layer owns, less what lies in front of the window: no call on windows changes the
-//! first, and no change of layers the second.
+//! A window has layers in front of its picture: its controls and its lists (`Layer`). A pixel of the content belongs to the
+//! first layer from the front that is shown and holds it, and where there is none to the picture. `Layers` keeps, beside the
+//! layers, what each owns and what all cover, moved to where the window lies on the screen; so a call that draws one of them
+//! takes no memory, and a call that moves the window takes none for them. What a window shows of a layer is what the layer
+//! owns, less what lies in front of the window: no call on windows changes the first, and no change of layers the second.
 //!
 //! `local` and `move_by` are the step between a window's own coordinates and those of the screen, for points and for regions.
 //!
-//! A change answers the whole new `Layers`, or that there is no memory, and leaves the old ones as they are until the caller
-//! puts the new ones in their place.
+//! A change of layers answers the whole new `Layers`, or that there is no memory, and leaves the old ones as they are until the
+//! caller puts the new ones in their place.
 #![tactic(auto)]
 
 mod layer;

@@ -10,7 +10,7 @@ ghost use Rattle.window_list.specs.Ranks.{moved_item};
 ghost use Rattle.window_list.specs.Lists.{has_serial, floats, leads, first_leading, with_new, dimmed, relit, serial_after, map_ranked, edit_at, IsLastBox, with_stand, with_picture, with_layers, with_origin, with_operation, IsPlacedAt};
 ghost use Rattle.window_list.specs.Changes.{keeps_size, has_short_title, IsNotifiedAt};
 
-use crate::{Placement, Ranks, UserState, Window, Layers};
+use crate::{Layers, Placement, Ranks, UserState, Window};
 use def_iface::{Defined, Stage, Taken, WindowChange};
 use draw_port::{Op, Picture};
 use std::alloc::{AllocError, Global};

@@ -4,10 +4,10 @@ ghost use Rattle.std.specs.Prelude.{◌≡◌, ◌≤◌, true, length};
 ghost use Rattle.window_list.specs.Lists.{dimmed, leads, relit};
 ghost use Rattle.window_list.specs.Changes.{has_short_title, with_change};
 
+use crate::Layers;
 use arrayvec::ArrayVec;
 use def_iface::{Size, Taken, WindowChange};
 use draw_port::Picture;
-use crate::Layers;
 use tb_geom::Point;
 
 /// A title: at most 255 bytes.

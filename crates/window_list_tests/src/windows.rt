@@ -4,12 +4,12 @@ ghost use Rattle.def_iface.specs.Meaning.{is_fitting};
 
 use def_iface::{Defined, Size, Stage, Taken, WindowChange, WindowDef, WindowStock};
 use draw_port::{Op, Picture, Shape};
-use window_list::{Layers, Heard, Placement, Ranks, Title, Window, WindowList};
 use std::alloc::Global;
 use std::test::Fail;
 use tb_geom::Refusal;
 use test_pixels::{point, rect};
 use titled_window::Titled;
+use window_list::{Heard, Layers, Placement, Ranks, Title, Window, WindowList};
 
 #[test]
 fn values_keep_their_order(rt: HostRuntime) -> Result<(), Fail> {

@@ -14,8 +14,8 @@ use crate::arrange::{Activates, Edit};
 use crate::standing::may_stand;
 use crate::{MoveWindow, SendBehind, ShowHide, WindowManager, WindowReply};
 use def_iface::{Defined, Taken};
-use window_list::local;
 use tb_geom::Refusal;
+use window_list::local;
 
 impl WindowManager {
     /// Brings a window to the front of its class; a visible ordinary one becomes active where it is selected.

@@ -13,7 +13,7 @@ use def_iface::{Defined, Taken};
 use desk_ground::DESKTOP;
 use strike_font::Font;
 use tb_geom::Point;
-use vis_update::{Repaint, Plan, settle};
+use vis_update::{Plan, Repaint, settle};
 use window_list::WindowList;
 use window_paint::{move_content, paint_part};
 

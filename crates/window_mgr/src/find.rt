@@ -13,8 +13,8 @@ ghost use Rattle.window_mgr.specs.Whole.{IsSettled};
 
 use crate::{Found, WindowManager, WindowPart};
 use def_iface::{Defined, Hit, Taken};
-use window_list::{local, Window};
 use tb_geom::{Point, Refusal};
+use window_list::{Window, local};
 
 impl WindowManager {
     /// Whose the point of the screen is. OutOfRange where it lies outside the range of coordinates.

@@ -57,4 +57,4 @@ pub use desk_call::{
     SizeWindow, WindowCall, WindowInfo, WindowPart, WindowReply, Zoom, ZoomWindow,
 };
 pub use forms::form_refusal;
-pub use manager::{NotBegun, DeskView, WindowManager};
+pub use manager::{DeskView, NotBegun, WindowManager};

@@ -6,7 +6,7 @@ ghost use Rattle.desk_ground.specs.Screens as screens;
 
 use bit_map::BitMap;
 use def_iface::{Defined, Taken};
-use desk_ground::{Ground, empty_ground, MenuBar, Titles};
+use desk_ground::{Ground, MenuBar, Titles, empty_ground};
 use scan_region::Region;
 use std::alloc::Global;
 use strike_font::Font;

@@ -18,13 +18,12 @@ ghost use Rattle.window_mgr.specs.Whole.{IsWholeManager, IsSettled, LieThere};
 use crate::{NewWindow, WindowManager, WindowReply};
 use def_iface::{Defined, Stage, Stocked, Taken, WindowStock};
 use draw_port::Picture;
-use window_list::Layers;
 use std::alloc::{AllocError, Global};
 use tb_geom::{Point, Refusal};
 use vis_update::{
     Area, Plan, Seat, Touch, changed_with, is_placed_alone, is_placed_with, lost_of, plan_of,
 };
-use window_list::{Heard, Title, Window};
+use window_list::{Heard, Layers, Title, Window};
 
 /// As many windows as there may be.
 const MOST_WINDOWS: usize = 64;

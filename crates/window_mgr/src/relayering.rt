@@ -16,11 +16,11 @@ use crate::WindowManager;
 use bit_blit::fill;
 use bit_map::{Mode, Pattern};
 use def_iface::{Defined, Taken};
-use window_list::{Layers, Relaid};
 use scan_region::Region;
 use std::alloc::AllocError;
 use tb_geom::{Point, Rect};
 use vis_update::{Relaying, relaying_of};
+use window_list::{Layers, Relaid};
 use window_paint::{Showing, Toggling, invert_layer, paint_layer, show_layer};
 
 impl WindowManager {

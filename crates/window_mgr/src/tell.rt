@@ -11,11 +11,11 @@ ghost use Rattle.window_mgr.specs.Telling.{AreRegionBytes, IsNotTold, kept_regio
 
 use crate::{WindowManager, WindowReply};
 use def_iface::{Defined, Taken};
-use window_list::{local, move_by};
 use scan_region::Region;
 use std::alloc::Global;
 use tb_geom::{Point, Refusal};
 use vis_update::Area;
+use window_list::{local, move_by};
 
 /// Which of a window's regions is told.
 #[derive(Clone, Copy)]

@@ -11,8 +11,8 @@ ghost use Rattle.window_mgr.specs.Records.{desk_of};
 use crate::standing::may_stand;
 use crate::{WindowManager, WindowReply, Zoom, ZoomWindow};
 use def_iface::{Defined, Size, Taken};
-use window_list::{local, Placement, UserState, Window};
 use tb_geom::{Point, Rect, Refusal};
+use window_list::{Placement, UserState, Window, local};
 
 impl WindowManager {
     /// Zooms a window, and tells its definition. One that is zoomed so already stays.

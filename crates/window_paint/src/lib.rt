@@ -28,7 +28,7 @@ mod moves;
 mod pictures;
 mod showing;
 
-pub use frames::{paint_part, paint_frame};
+pub use frames::{paint_frame, paint_part};
 pub use kinds::{is_of, paint_kind};
 pub use layers::{invert_layer, meeting, paint_content, paint_layer, show_layer};
 pub use moves::{move_content, scroll_content};

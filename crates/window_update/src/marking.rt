@@ -22,11 +22,11 @@ use crate::right::agree;
 use crate::{AreaRef, Updates, WindowArea};
 use def_iface::{Defined, Taken};
 use desk_call::WindowReply;
-use window_list::{local, move_by};
 use scan_region::Region;
 use std::alloc::{AllocError, Global};
 use tb_geom::{Point, Refusal};
 use vis_update::Area;
+use window_list::{local, move_by};
 use window_mgr::WindowManager;
 use window_paint::{Showing, paint_content};
 

@@ -12,9 +12,9 @@ ghost use Rattle.window_update.specs.Sets.{judged_set};
 
 use crate::areas::JudgedArea;
 use bit_map::BitMap;
-use window_list::local;
 use scan_region::{Region, Span};
 use tb_geom::Point;
+use window_list::local;
 
 /// Whether two maps have the same bits in what of a region lies in an area, which is in the coordinates of a window at
 /// this place.

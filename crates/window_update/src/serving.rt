@@ -18,10 +18,10 @@ use crate::choices::Choices;
 use crate::{LayerDraw, Updates};
 use def_iface::{Defined, Taken};
 use desk_call::{Activity, WindowReply};
-use window_list::{local, move_by};
 use scan_region::Region;
 use std::alloc::{AllocError, Global};
 use tb_geom::{Point, Refusal};
+use window_list::{local, move_by};
 use window_mgr::WindowManager;
 use window_paint::Showing;
 
