@@ -22,7 +22,7 @@ use window_mgr::{
     Drawing, MoveWindow, NewPicture, NewWindow, ScrollPicture, SendBehind, SizeWindow, WindowCall,
     WindowManager,
 };
-use window_update::{LayerDraw, Layers as Kind, UpdateCall, Updates};
+use window_update::{LayerDraw, LayerKind as Kind, UpdateCall, Updates};
 
 const ORIGIN: Point = Point { h: 0, v: 0 };
 

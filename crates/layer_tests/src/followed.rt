@@ -12,7 +12,7 @@ use std::test::Fail;
 use std_wdef::{StdWindow, Variation};
 use tb_geom::{Rect, Refusal};
 use test_pixels::{point, rect};
-use window_update::Layers as Kind;
+use window_update::LayerKind as Kind;
 
 const BUTTON: Part = Part::Control(1);
 

@@ -8,6 +8,7 @@ ghost use Rattle.list_cells.specs.Grids.{Grid};
 ghost use Rattle.list_cells.specs.Selections.{IsSelecting};
 ghost use Rattle.list_view.specs.Shown.{list_shown, is_turned};
 
+use crate::ListView;
 use crate::drawn::DrawnList;
 use crate::pens::{CellPicture, CellToggle};
 use crate::walk::draw_rows;
@@ -15,7 +16,6 @@ use bit_map::{Mode, Pattern};
 use def_iface::Stage;
 use draw_port::Canvas;
 use list_cells::{ListCells, Selecting};
-use list_view::ListView;
 
 /// Gives each pixel of the canvas, whose origin is the 0 0 of the list's window, the value that the list shows there in the
 /// canvas's font: what the cell shows that lies there, and white where none does.

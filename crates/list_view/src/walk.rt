@@ -10,10 +10,10 @@ ghost use Rattle.list_view.specs.Views.{IsCell, cell_rect};
 ghost use Rattle.list_view.specs.Shown.{in_cell};
 ghost use Rattle.list_view.specs.Walks.{AreDrawn, is_in_row, shown_value};
 
+use crate::ListView;
 use crate::pens::CellPen;
 use draw_port::{Canvas, placed_within};
 use list_cells::{Cell, ListCells};
-use list_view::ListView;
 use tb_geom::Point;
 
 /// Where the corner of a cell lies on the map, where the 0 0 of its window lies at `origin`.

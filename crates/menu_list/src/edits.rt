@@ -7,8 +7,8 @@ ghost use Rattle.menu_list.specs.EditSteps.{IsEdit};
 ghost use Rattle.menu_list.specs.MenuEdits.{title_number};
 ghost use Rattle.menu_list.specs.EditRefusals.{is_no_place};
 
+use crate::MenuList;
 use desk_call::{AppendItems, CheckItem, InsertMenu, ItemOfMenu, ItemText, MenuCall, MenuReply};
-use menu_list::MenuList;
 use tb_geom::Refusal;
 
 /// The index of the menu of this number. NoSuchMenu where there is none.

@@ -20,7 +20,7 @@ ghost use Rattle.vis_update.specs.Seats.{IsPlacedSeat, IsNearSeat, IsArranged, a
 ghost use Rattle.vis_update.specs.Plans.{IsSwept, IsPlan, IsShare, IsBeside, IsLosing, IsLeftAlone, area_then, arrives};
 
 use crate::place::regions_of;
-use crate::{Area, Part, Plan, Seat, Touch};
+use crate::{Area, Plan, Repaint, Seat, Touch};
 use def_iface::{Defined, Taken, WindowRegions};
 use scan_region::Region;
 use std::alloc::{AllocError, Global};
@@ -32,7 +32,7 @@ use tb_geom::{Point, Rect};
 struct Swept {
     /// None where it has what it had.
     area: Option<Area>,
-    part: Part,
+    part: Repaint,
     left: Region,
 }
 
@@ -92,7 +92,7 @@ fn with_copied(
     alloc: Global,
     copied: Region,
     area: &Option<Area>,
-    part: &Part,
+    part: &Repaint,
     by: Option<Point>,
 ) -> Result<Region, AllocError>
     ensures { IfOk result (λ region. (p : Point) → holds region p ≡ (holds copied p || arrives by area.now part.now p)) }
@@ -251,7 +251,7 @@ impl Seat<'_> {
         if self.stays(lost, &rest, touch) {
             return Ok(Swept {
                 area: None,
-                part: Part::empty(alloc),
+                part: Repaint::empty(alloc),
                 left: rest,
             });
         }
@@ -279,7 +279,7 @@ impl Seat<'_> {
                 update,
                 frame,
             }),
-            part: Part { erase, redraw },
+            part: Repaint { erase, redraw },
             left,
         })
     }

@@ -7,7 +7,7 @@ ghost use Rattle.window_list.specs.Holders.{ArePartsApart};
 ghost use Rattle.window_paint.specs.Kinds.{is_of, is_kind_there};
 ghost use Rattle.window_update.specs.Choosing.{has_kind, with_kind, left_for, IsFurther, AreChoicesOf};
 
-use crate::Layers;
+use crate::LayerKind;
 use scan_region::Region;
 use std::alloc::{AllocError, Global};
 use std::mem;
@@ -84,8 +84,8 @@ impl Choices {
         ensures { IfOk result (AreChoicesOf window.now update.now) }
     {
         let picture = update.diff(alloc, window.layers.covered())?;
-        let lists = part_of(alloc, window, Layers::Lists, update)?;
-        let controls = part_of(alloc, window, Layers::Controls, update)?;
+        let lists = part_of(alloc, window, LayerKind::Lists, update)?;
+        let controls = part_of(alloc, window, LayerKind::Controls, update)?;
         Ok(Choices {
             alloc,
             drawn: Kinds {
@@ -100,26 +100,26 @@ impl Choices {
     }
 
     /// Whether the layers of this kind were drawn.
-    pub(crate) fn has_drawn(&self, kind: Layers) -> bool
+    pub(crate) fn has_drawn(&self, kind: LayerKind) -> bool
         ensures { result ≡ has_kind self.now.drawn kind }
     {
         match kind {
-            Layers::Picture => self.drawn.picture,
-            Layers::Lists => self.drawn.lists,
-            Layers::Controls => self.drawn.controls,
+            LayerKind::Picture => self.drawn.picture,
+            LayerKind::Lists => self.drawn.lists,
+            LayerKind::Controls => self.drawn.controls,
         }
     }
 
     /// Counts the layers of this kind as drawn, and gives what is then left of the update region.
-    pub(crate) fn draw(&mut self, kind: Layers) -> Region
+    pub(crate) fn draw(&mut self, kind: LayerKind) -> Region
         ensures drawn { self.new.drawn ≡ with_kind kind self.old.drawn }
         ensures left { (p : Point) → holds result p ≡ left_for self.old (with_kind kind self.old.drawn) p }
         ensures others { (k : Kinds) → IsFurther (with_kind kind self.old.drawn) k → left_for self.new k ≡ left_for self.old k }
     {
         match kind {
-            Layers::Picture => self.drawn.picture = true,
-            Layers::Lists => self.drawn.lists = true,
-            Layers::Controls => self.drawn.controls = true,
+            LayerKind::Picture => self.drawn.picture = true,
+            LayerKind::Lists => self.drawn.lists = true,
+            LayerKind::Controls => self.drawn.controls = true,
         }
         self.take()
     }
@@ -152,7 +152,7 @@ impl Choices {
 fn part_of(
     alloc: Global,
     window: &Window,
-    kind: Layers,
+    kind: LayerKind,
     region: &Region,
 ) -> Result<Region, AllocError>
     requires apart { ArePartsApart window.now.layers.layers }
