@@ -22,7 +22,7 @@ use Rattle.def_iface.specs.Meaning.{Loan}
 use Rattle.window_list.specs.declared.layer.Layer.{Layer}
 use Rattle.window_list.specs.declared.layers.Relaid.{Relaid}
 use Rattle.window_list.specs.LayerChanges.{is_gained}
-use Rattle.window_list.specs.Holders.{ArePartsApart, PlacedLayers}
+use Rattle.window_list.specs.Holders.{ArePartsApart, PlacedLayers, layer_index}
 use Rattle.desk_call.specs.declared.control.ControlOf.{ControlOf}
 use Rattle.desk_call.specs.declared.update.LayerKind.TheVariants as kinds
 use Rattle.vis_update.specs.declared.relaying.Relaying.{Relaying}
@@ -38,7 +38,7 @@ use Rattle.control_mgr.specs.declared.ending.Ending.{Ending}
 use Rattle.control_mgr.specs.declared.spots.Spot.{Spot}
 use Rattle.control_mgr.specs.ControlDesks.{ControlRecord, index_of}
 use Rattle.control_mgr.specs.ControlSteps.{AreLayersOf}
-use Rattle.control_mgr.specs.Ending.{IsEnding, IsReadyToEnd, IsTakenOut, layer_index}
+use Rattle.control_mgr.specs.Ending.{IsEnding, IsReadyToEnd, IsTakenOut}
 use Rattle.control_mgr.specs.Spots.{IsSpotOf}
 use Rattle.control_mgr.specs.WholeControls.{records_of}
 use Rattle.control_mgr.proofs.Edited.{AreNoControls, no_control}
@@ -65,7 +65,7 @@ index_further n i (c ∷ cs) (l ∷ ls) h =
     ∙ ap (λ o. cond (c.serial == n) (Some i) o) (index_further n (i + 1) cs ls h.1)
 
 -- where its control stands among the window's
-pub index_among : (n : ℕ) (cs : List ControlRecord) (ls : List Layer) → AreLayersOf cs ls → layer_index n ls ≡ position (has_serial n) cs
+pub index_among : (n : ℕ) (cs : List ControlRecord) (ls : List Layer) → AreLayersOf cs ls → layer_index (part.Control n) ls ≡ position (has_serial n) cs
 index_among n cs ls h = position_from-zero (is_its n) ls ∙ index_further n 0 cs ls h ∙ sym (position_from-zero (has_serial n) cs)
 
 none_found : (o : Option ℕ) (cs : List ControlRecord) → option_map (λ at. place_among at cs) o ≡ None → o ≡ None
@@ -107,14 +107,14 @@ module _ {V : Type 0} {H : V → Type 0} (loan : Taken V H → Loan) {W : Type 0
       subst (λ (x : ℕ × PlacedLayers). AreLayersOf (items_of x.0 cs) x.1.layers) (λ i. (ready.stands.1 w lies i, ready.laid.layers w lies i))
       (at_window loan (λ r. AreLayersOf (items_of r.serial cs) r.layers) u.windows.records.items at w low lies ready.beside.whole.joined)
 
-  index_is : layer_index c.control ls.layers ≡ option_map (λ k. place_among k cs) (index_of c cs)
+  index_is : layer_index (part.Control c.control) ls.layers ≡ option_map (λ k. place_among k cs) (index_of c cs)
   index_is = index_among c.control (items_of c.window cs) ls.layers joined ∙ sym (position-items_of c.window c.control cs)
 
   -- where there is no layer, there is no control
-  pub not_there : layer_index c.control ls.layers ≡ None → index_of c cs ≡ None
+  pub not_there : layer_index (part.Control c.control) ls.layers ≡ None → index_of c cs ≡ None
   not_there e = none_found (index_of c cs) cs (sym index_is ∙ e)
 
-  module _ (i : ℕ) (is : layer_index c.control ls.layers ≡ Some i) where
+  module _ (i : ℕ) (is : layer_index (part.Control c.control) ls.layers ≡ Some i) where
     its : (at : ℕ) × (index_of c cs ≡ Some at) × (place_among at cs ≡ i)
     its = place_found (index_of c cs) i cs (sym index_is ∙ is)
 
@@ -149,7 +149,7 @@ module _ {V : Type 0} {H : V → Type 0} (loan : Taken V H → Loan) {W : Type 0
       }
 
 -- the layers without it
-pub taken_out : (at n i : ℕ) (ls layers : PlacedLayers) (r : Relaying) → layer_index n ls.layers ≡ Some i → i < length ls.layers → ArePartsApart ls.layers
+pub taken_out : (at n i : ℕ) (ls layers : PlacedLayers) (r : Relaying) → layer_index (part.Control n) ls.layers ≡ Some i → i < length ls.layers → ArePartsApart ls.layers
     → layers ≡ record ls { layers = remove ls.layers i } → IsTakenOut at n ls (record { window = at; layers = layers; relaying = r })
 taken_out at n i ls layers r is low apart layers_are = record { window = refl; index = i; found = is; layers = layers_are; apart = apart_out ls i low apart layers layers_are }
 

@@ -1,16 +1,14 @@
 -- Controls that are ended, as the code does it.
 use Rattle.std.specs.Prelude.{◌≡◌, ℕ, List, MatchOption, Option, None, Some}
-use Rattle.std.specs.List.{position, remove}
+use Rattle.std.specs.List.{remove}
 use Rattle.tb_geom.specs.Pixels.{Pixels}
 use Rattle.window_items.specs.Items.{place_among}
 use Rattle.def_iface.specs.declared.part.Part.TheVariants as part
 use Rattle.def_iface.specs.declared.taken.Taken.{Taken}
 use Rattle.def_iface.specs.declared.taken_control.TakenControl.{TakenControl}
 use Rattle.def_iface.specs.ControlMeaning.{ControlLoan}
-use Rattle.def_iface.specs.Desk.{same_part}
 use Rattle.def_iface.specs.Meaning.{Loan}
-use Rattle.window_list.specs.declared.layer.Layer.{Layer}
-use Rattle.window_list.specs.Holders.{ArePartsApart, PlacedLayers}
+use Rattle.window_list.specs.Holders.{ArePartsApart, PlacedLayers, layer_index}
 use Rattle.desk_call.specs.declared.control.ControlOf.{ControlOf}
 use Rattle.window_list.specs.declared.window.Window.{Window}
 use Rattle.window_mgr.specs.declared.manager.WindowManager.{WindowManager}
@@ -23,15 +21,11 @@ use Rattle.control_mgr.specs.Planned.{IsLaidSo}
 use Rattle.control_mgr.specs.Spots.{IsSpotOf}
 use Rattle.control_mgr.specs.WholeControls.{AreBeside, records_of}
 
--- where the layer of the control of this serial stands
-abbrev pub layer_index : ℕ → List Layer → Option ℕ
-layer_index serial ls = position (λ l. same_part l.part (part.Control serial)) ls
-
 -- the layers of the window at this place without that of the control of this serial, and they are apart
 pub record IsTakenOut (at serial : ℕ) (ls : PlacedLayers) (e : Ending) : Type 0 where
   pub window : e.window ≡ at
   pub index : ℕ
-  pub found : layer_index serial ls.layers ≡ Some index
+  pub found : layer_index (part.Control serial) ls.layers ≡ Some index
   pub layers : e.layers ≡ record ls { layers = remove ls.layers index }
   pub apart : ArePartsApart e.layers.layers
 

@@ -1,7 +1,5 @@
 //! Controls that are ended: planned with all growth, and then ended, which takes no memory.
 ghost use Rattle.std.specs.Prelude.{◌≡◌, ◌<◌, [], IfOk, IfSome, length};
-ghost use Rattle.def_iface.specs.Desk.{same_part};
-ghost use Rattle.def_iface.specs.declared.part.Part.TheVariants as parts;
 ghost use Rattle.window_list.specs.Holders.{ArePartsApart};
 ghost use Rattle.desk_call.specs.declared.control.ControlCall.TheVariants as asks;
 ghost use Rattle.window_mgr.specs.DeskStates.{Opened};
@@ -9,7 +7,7 @@ ghost use Rattle.window_mgr.specs.Kept.{IsKept};
 ghost use Rattle.window_mgr.specs.Records.{desk_of};
 ghost use Rattle.window_mgr.specs.Relayered.{AreLayersPut};
 ghost use Rattle.control_mgr.specs.ControlSteps.{IsControlDisposed, IsControlStep, IsEndedIfThere};
-ghost use Rattle.control_mgr.specs.Ending.{IsEnding, IsPlannedEnd, IsPutIfPlanned, IsReadyToEnd, IsTakenOut, layer_index, layers_left, update_left};
+ghost use Rattle.control_mgr.specs.Ending.{IsEnding, IsPlannedEnd, IsPutIfPlanned, IsReadyToEnd, IsTakenOut, layers_left, update_left};
 ghost use Rattle.control_mgr.specs.WholeControls.{AreWholeControls, LeavesOver, controls_state, records_of};
 
 use crate::Controls;
@@ -55,29 +53,6 @@ pub fn update_left<'a>(planned: &'a Option<Ending>, update: &'a Region) -> &'a R
     }
 }
 
-/// Whether the part is the control of this serial.
-fn is_control(part: Part, serial: u64) -> bool
-    ensures { result ≡ same_part part (parts.Control serial) }
-{
-    match part {
-        Part::Control(own) => own == serial,
-        _ => false,
-    }
-}
-
-/// The index of the layer of the control of this serial, if it has one of these.
-fn layer_index(layers: &Layers, serial: u64) -> Option<usize>
-    ensures first { result ≡ layer_index serial layers.now.layers }
-    ensures within { IfSome result (λ at. at < length layers.now.layers) }
-{
-    for at in 0..layers.len() {
-        if is_control(layers.at(at).part, serial) {
-            return Some(at);
-        }
-    }
-    None
-}
-
 impl Controls<TakenControl> {
     /// The layers of the window at this index without those of a control of it, and what changes by that on the screen, or
     /// nothing where the window will not have the control. `layers` are the window's layers when the control will be ended, and
@@ -99,7 +74,7 @@ impl Controls<TakenControl> {
             → IsReadyToEnd ⟦<Taken as Defined>⟧.loan ⟦<TakenControl as DefinedControl>⟧.control_loan control window layers.now update.now windows.now u m
             → IsPlannedEnd ⟦<Taken as Defined>⟧.loan ⟦<TakenControl as DefinedControl>⟧.control_loan control u m planned) }
     {
-        let Some(layer) = layer_index(layers, control.control) else {
+        let Some(layer) = layers.find(Part::Control(control.control)) else {
             return Ok(None);
         };
         let relaid = layers.without(self.alloc, layer)?;

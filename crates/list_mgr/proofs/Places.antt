@@ -13,6 +13,8 @@ use Rattle.def_iface.specs.Meaning.{Loan}
 use Rattle.def_iface.specs.Desk.{same_part}
 use Rattle.def_iface.proofs.Owning.{same_number}
 use Rattle.window_list.specs.declared.layer.Layer.{Layer}
+use Rattle.window_list.specs.Holders.{layer_index}
+use Rattle.window_list.proofs.Found.{found_low, found_part, not_found}
 use Rattle.window_items.specs.declared.item.Item.{Item}
 use Rattle.list_mgr.specs.declared.list_record.ListRecord.{ListRecord}
 use Rattle.list_mgr.specs.Seen.{seen}
@@ -29,7 +31,7 @@ use Rattle.control_mgr.specs.ControlSteps.{behind_controls}
 use Rattle.control_mgr.proofs.Places.{IsThere, at_window, get_is, read_is, within}
 use Rattle.list_mgr.specs.declared.lists.Lists.{Lists}
 use Rattle.list_mgr.specs.declared.spots.Spot.{Spot}
-use Rattle.list_mgr.specs.Changing.{IsItsLayer, IsLayerFound}
+use Rattle.list_mgr.specs.Changing.{IsItsLayer}
 use Rattle.list_mgr.specs.ListDesks.{KeptList, ListsState}
 use Rattle.list_mgr.specs.ListSteps.{AreListLayers, IsLayerOf}
 use Rattle.list_mgr.specs.Spots.{IsSpotOf}
@@ -159,19 +161,22 @@ module _ {V : Type 0} {H : V → Type 0} (loan : Taken V H → Loan) {X : Type 0
     here : is_in_at w.serial s.list ls ≡ true
     here = ap (λ n. is_in_at n s.list ls) (is.window.1 w lies) ∙ list_in l.window l.list s.list ls is.list
 
+    abbrev low : (at : ℕ) → layer_index (part.List its.item.serial) w.layers.layers ≡ Some at → at < length w.layers.layers
+    low at found = found_low (part.List its.item.serial) w.layers.layers at found
+
     -- where a layer of its part was found, or none
-    pub layer_is_its : (at : ℕ) → IsLayerFound (part.List its.item.serial) w.layers.layers (Some at) → IsItsLayer list_loan m s w.layers.layers at
+    layer_is_its : (at : ℕ) → layer_index (part.List its.item.serial) w.layers.layers ≡ Some at → IsItsLayer list_loan m s w.layers.layers at
     layer_is_its at found = record {
       list = its.item;
       there = its.there;
-      low = found.0;
-      is = λ k read. own_layer ls w.serial w.layers.layers s.list its.item at k (subst AreListsApart same whole.apart) joined its.there (get_is w.layers.layers at k found.0 read) (found.1 k read);
+      low = low at found;
+      is = λ k read. own_layer ls w.serial w.layers.layers s.list its.item at k (subst AreListsApart same whole.apart) joined its.there (get_is w.layers.layers at k (low at found) read) (found_part (part.List its.item.serial) w.layers.layers at found k read);
     }
 
-    pub some_is_found : IsLayerFound (part.List its.item.serial) w.layers.layers None → ⊥
+    some_is_found : layer_index (part.List its.item.serial) w.layers.layers ≡ None → ⊥
     some_is_found none =
         let has = some_layer ls w.serial w.layers.layers s.list its.item joined here its.there in
-        false≢true (sym (none has.0 has.1 (within w.layers.layers has.0 has.1 has.2))
+        false≢true (sym (not_found (part.List its.item.serial) w.layers.layers none has.0 has.1 (within w.layers.layers has.0 has.1 has.2))
         ∙ ap (λ (k : Layer). same_part k.part (part.List its.item.serial)) (sym (read_is w.layers.layers has.0 has.1 has.2)) ∙ same_list its.item.serial has.1.part has.3.part)
 
     its_serial : (x : Item (ListRecord (TakenList X L))) → x ≡ get_or m.list.items.items s.list x → part.List x.serial ≡ part.List its.item.serial
@@ -181,7 +186,7 @@ module _ {V : Type 0} {H : V → Type 0} (loan : Taken V H → Loan) {X : Type 0
         ap (λ (y : KeptList). part.List y.serial) same
 
     -- what was found of the part of the list that was read
-    pub found_its : (x : Item (ListRecord (TakenList X L))) → x ≡ get_or m.list.items.items s.list x → (o : Option ℕ) → IsLayerFound (part.List x.serial) w.layers.layers o
+    pub found_its : (x : Item (ListRecord (TakenList X L))) → x ≡ get_or m.list.items.items s.list x → (o : Option ℕ) → o ≡ layer_index (part.List x.serial) w.layers.layers
         → (at : ℕ) × (o ≡ Some at) × IsItsLayer list_loan m s w.layers.layers at
-    found_its x read None found = absurd (some_is_found (subst (λ q. IsLayerFound q w.layers.layers None) (its_serial x read) found))
-    found_its x read (Some at) found = (at, refl, layer_is_its at (subst (λ q. IsLayerFound q w.layers.layers (Some at)) (its_serial x read) found))
+    found_its x read None found = absurd (some_is_found (ap (λ q. layer_index q w.layers.layers) (sym (its_serial x read)) ∙ sym found))
+    found_its x read (Some at) found = (at, refl, layer_is_its at (ap (λ q. layer_index q w.layers.layers) (sym (its_serial x read)) ∙ sym found))

@@ -8,7 +8,6 @@ use Rattle.def_iface.specs.declared.part.Part.{Part}
 use Rattle.def_iface.specs.declared.part.Part.TheVariants as part
 use Rattle.def_iface.specs.declared.taken.Taken.{Taken}
 use Rattle.def_iface.specs.declared.taken_list.TakenList.{TakenList}
-use Rattle.def_iface.specs.Desk.{same_part}
 use Rattle.def_iface.specs.ListMeaning.{ListLoan}
 use Rattle.def_iface.specs.Meaning.{Loan}
 use Rattle.def_iface.specs.Stocked.{SlotView}
@@ -36,11 +35,6 @@ use Rattle.list_mgr.specs.Within.{IsPartDrawnWithin}
 abbrev pub IsSameOrNot : {X : Type 0} → Bool → X → X → Type 0
 IsSameOrNot true after before = after ≡ before → ⊥
 IsSameOrNot false after before = after ≡ before
-
--- a layer of this part lies here, or none of these is one
-abbrev pub IsLayerFound : Part → List Layer → Option ℕ → Type 0
-IsLayerFound q ls None = (at : ℕ) (l : Layer) → at < length ls → same_part (slice_index_or ls at l).part q ≡ false
-IsLayerFound q ls (Some at) = (at < length ls) × ((l : Layer) → l ≡ slice_index_or ls at l → l.part ≡ q)
 
 module _ {X : Type 0} {L : X → Type 0} (list_loan : TakenList X L → ListLoan) where
   -- the layer at this place is that of the list that stands here

@@ -1,11 +1,10 @@
 //! What changes of a list but its selection: its cells, how far it is scrolled, and whether it is drawn.
 ghost use Rattle.std.specs.Prelude.{◌≡◌, false, not, MatchResult};
 ghost use Rattle.std.specs.Str.{bytes_eq};
-ghost use Rattle.def_iface.specs.declared.part.Part.TheVariants as part;
 ghost use Rattle.desk_call.specs.declared.list.ListCall.TheVariants as asks;
 ghost use Rattle.window_mgr.specs.Edits.{IsWindowAt};
 ghost use Rattle.window_mgr.specs.Kept.{IsKept};
-ghost use Rattle.list_mgr.specs.Changing.{IsDrawing, IsItsLayer, IsLayerFound, IsMark, IsShownOrMarked};
+ghost use Rattle.list_mgr.specs.Changing.{IsDrawing, IsItsLayer, IsMark, IsShownOrMarked};
 ghost use Rattle.list_mgr.specs.ListSteps.{IsListStep};
 ghost use Rattle.list_mgr.specs.Spots.{IsSpot};
 ghost use Rattle.list_mgr.specs.WholeLists.{AreBeside, IsChangedOver};
@@ -20,18 +19,6 @@ use std::alloc::AllocError;
 use tb_geom::{Rect, Refusal};
 use window_list::Layers;
 use window_mgr::WindowManager;
-
-/// The index of a list's layer among these.
-fn layer_of(layers: &Layers, serial: u64) -> Option<usize>
-    ensures { IsLayerFound (part.List serial) layers.now.layers result }
-{
-    for at in 0..layers.len() {
-        if layers.at(at).part.is(Part::List(serial)) {
-            return Some(at);
-        }
-    }
-    None
-}
 
 /// Whether two texts differ.
 fn differ(old: &[u8], new: &[u8]) -> bool
@@ -49,7 +36,8 @@ impl Lists<TakenList> {
             → IsItsLayer ⟦<TakenList as DefinedList>⟧.list_loan self.now spot w.layers.layers result }
     {
         let serial = self.list.items[spot.list].serial;
-        layer_of(&windows.list().at(spot.window).layers, serial).unwrap()
+        let layers = &windows.list().at(spot.window).layers;
+        layers.find(Part::List(serial)).unwrap()
     }
 
     /// The update region of a list's window with all that the list owns, where its drawing is off; while it is on, this takes no

@@ -1,6 +1,5 @@
 //! The layers of a window of the library changed, as whoever keeps its controls and lists would.
-ghost use Rattle.std.specs.Prelude.{◌≡◌, ◌<◌, ◌≤◌, false, length, List, IfOk, IfSome, IfNone, All};
-ghost use Rattle.def_iface.specs.Desk.{same_part};
+ghost use Rattle.std.specs.Prelude.{◌≡◌, ◌<◌, ◌≤◌, length, List, IfOk};
 ghost use Rattle.def_iface.specs.Stocked.{SlotView};
 ghost use Rattle.window_list.specs.Holders.{ArePartsApart, IsLayerAt};
 ghost use Rattle.window_mgr.specs.Kept.{IsKept};
@@ -73,19 +72,6 @@ fn rank_among(layers: &Layers, part: Part) -> usize
     layers.len()
 }
 
-/// The index of the layer of this part, if there is one.
-fn index_of(layers: &Layers, part: Part) -> Option<usize>
-    ensures some { IfSome result (λ i. i < length layers.now.layers) }
-    ensures none { IfNone result (All (λ l. same_part part l.part ≡ false) layers.now.layers) }
-{
-    for at in 0..layers.len() {
-        if part.is(layers.at(at).part) {
-            return Some(at);
-        }
-    }
-    None
-}
-
 /// The layers with this one, put in, or so where there is one of its part.
 fn with_layer(alloc: Global, layers: &Layers, layer: Layer) -> Result<Relaying, Refusal>
     requires lies { IsLayerAt layers.now.place layer }
@@ -95,7 +81,7 @@ fn with_layer(alloc: Global, layers: &Layers, layer: Layer) -> Result<Relaying, 
     if layer.part.is(Part::Picture) {
         return Err(Refusal::BadSyntax);
     }
-    match index_of(layers, layer.part) {
+    match layers.find(layer.part) {
         Some(at) => with_shape(alloc, layers, at, layer),
         None => {
             let at = rank_among(layers, layer.part);
@@ -134,7 +120,7 @@ fn without(alloc: Global, layers: &Layers, part: Part) -> Result<Relaying, Refus
     requires apart { ArePartsApart layers.now.layers }
     ensures { IfOk result (IsRelaying layers.now) }
 {
-    let Some(at) = index_of(layers, part) else {
+    let Some(at) = layers.find(part) else {
         return Err(Refusal::OutOfRange);
     };
     let relaid = layers.without(alloc, at)?;

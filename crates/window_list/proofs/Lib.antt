@@ -6,6 +6,7 @@ pub mod NumberLemmas
 pub mod ChangeLemmas
 pub mod ClassLemmas
 pub mod Parts
+pub mod Found
 pub mod Owned
 pub mod Gains
 pub mod Moved

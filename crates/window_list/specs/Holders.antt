@@ -1,6 +1,7 @@
 -- The layers of a window's content in front of its picture, and the one that a pixel belongs to. Points are in the window's
 -- own coordinates.
-use Rattle.std.specs.Prelude.{◌≡◌, Bool, true, false, ◌&&◌, ◌||◌, if◌then◌else◌, List, [], ◌∷◌, All, AllPairs}
+use Rattle.std.specs.Prelude.{◌≡◌, ℕ, Bool, true, false, ◌&&◌, ◌||◌, if◌then◌else◌, List, [], ◌∷◌, Option, All, AllPairs}
+use Rattle.std.specs.List.{position}
 use Rattle.tb_geom.specs.declared.point.Point.{Point}
 use Rattle.tb_geom.specs.Points.{PixelSet}
 use Rattle.tb_geom.specs.Pixels.{holds}
@@ -33,6 +34,10 @@ part_at (l ∷ ls) p = if layer_has l p then l.part else part_at ls p
 -- the pixel belongs to this part
 abbrev pub belongs_to : Part → List Layer → PixelSet
 belongs_to part ls p = same_part (part_at ls p) part
+
+-- where the layer of this part stands
+abbrev pub layer_index : Part → List Layer → Option ℕ
+layer_index part ls = position (λ l. same_part l.part part) ls
 
 -- each layer is another part, and none is the picture
 abbrev pub ArePartsApart : List Layer → Type 0

@@ -1,11 +1,11 @@
 //! The list, its changes, and the one loop that says what each layer owns.
-ghost use Rattle.std.specs.Prelude.{◌≡◌, ◌<◌, ◌≤◌, true, None, Some, All, [], length, slice_index_or, IfOk};
+ghost use Rattle.std.specs.Prelude.{◌≡◌, ◌<◌, ◌≤◌, true, None, Some, All, [], length, slice_index_or, IfOk, IfSome};
 ghost use Rattle.std.specs.List.{insert, remove, list_all};
 ghost use Rattle.tb_geom.specs.declared.point.Point.{Point};
 ghost use Rattle.tb_geom.specs.Points.{minus};
 ghost use Rattle.tb_geom.specs.Pixels.{holds};
 ghost use Rattle.tb_geom.specs.Rects.{in_plane};
-ghost use Rattle.window_list.specs.Holders.{is_covered, belongs_to, part_at, fits_at, ArePartsApart, IsLayerAt};
+ghost use Rattle.window_list.specs.Holders.{is_covered, belongs_to, layer_index, part_at, fits_at, ArePartsApart, IsLayerAt};
 ghost use Rattle.window_list.specs.LayerChanges.{with_shape, is_gained, reshaped};
 
 use crate::layer::{Layer, LayerShape};
@@ -89,6 +89,14 @@ impl Layers {
         ensures { result.now ≡ slice_index_or self.now.layers at result.now }
     {
         &self.layers[at]
+    }
+
+    /// Where the layer of this part stands, if there is one.
+    pub fn find(&self, part: Part) -> Option<usize>
+        ensures first { result ≡ layer_index part self.now.layers }
+        ensures within { IfSome result (λ at. at < length self.now.layers) }
+    {
+        self.layers.iter().position(|layer| layer.part.is(part))
     }
 
     /// What the layer at this index owns of the screen, as far as its window's content reaches there.

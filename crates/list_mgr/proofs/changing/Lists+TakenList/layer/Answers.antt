@@ -10,7 +10,7 @@ pub unwrap-requires : goal.unwrap-requires
 unwrap-requires g c =
     let v = c.at.result.now in
     let found = found_its _ _ c.requires.spot.of c.args.windows.now c.args.self.now c.args.spot c.requires.spot.is v (c.at.ensures ∙ ap (λ ls. get_or ls.records.items c.args.spot.window v) c.list.ensures)
-    _ refl c.requires.beside.whole c.index.result.now c.index.ensures c.layer_of.result c.layer_of.ensures in
+    _ refl c.requires.beside.whole c.index.result.now c.index.ensures c.find.result c.find.ensures.first in
     subst IsSome (sym found.1) refl
 
 pub returns : goal.returns
@@ -18,7 +18,7 @@ returns g c w lies =
     let v = c.at.result.now in
     let v_is = c.at.ensures ∙ ap (λ ls. get_or ls.records.items c.args.spot.window v) c.list.ensures in
     let found = found_its _ _ c.requires.spot.of c.args.windows.now c.args.self.now c.args.spot c.requires.spot.is v v_is
-    _ refl c.requires.beside.whole c.index.result.now c.index.ensures c.layer_of.result c.layer_of.ensures in
+    _ refl c.requires.beside.whole c.index.result.now c.index.ensures c.find.result c.find.ensures.first in
     let both : Some found.0 ≡ Some c.unwrap.result = sym found.1 ∙ c.unwrap.ensures in
     let same : found.0 ≡ c.unwrap.result = cc in
     subst (λ x. IsItsLayer (list.list_loan-value g.dyn-1).it c.args.self.now c.args.spot x.layers.layers c.unwrap.result) (one_item c.args.windows.now.windows.records.items c.args.spot.window v w c.requires.spot.is.window.0 v_is lies)
