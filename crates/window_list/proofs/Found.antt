@@ -9,14 +9,16 @@ use Rattle.def_iface.proofs.Owning.{same_part-true}
 use Rattle.window_list.specs.declared.layer.Layer.{Layer}
 use Rattle.window_list.specs.Holders.{layer_index}
 
-none_from : {X : Type 0} (p : X → Bool) (i : ℕ) (xs : List X) → position_from p i xs ≡ None → (at : ℕ) (d : X) → at < length xs → p (get_or xs at d) ≡ false
-none_from p i [] e at d low = absurd (omega arith)
-none_from p i (x ∷ xs) e at d low = by_test (p x) refl e at low
-  where
-    by_test : (b : Bool) → p x ≡ b → cond b (Some i) (position_from p (i + 1) xs) ≡ None → (at : ℕ) → at < suc (length xs) → p (get_or (x ∷ xs) at d) ≡ false
-    by_test true is e at low = absurd (cc)
-    by_test false is e zero low = is
-    by_test false is e (suc at) low = none_from p (i + 1) xs e at d (omega arith)
+module _ {X : Type 0} (p : X → Bool) where
+  further : (b : Bool) (i : ℕ) (x : X) (xs : List X) → p x ≡ b → cond b (Some i) (position_from p (i + 1) xs) ≡ None → (at : ℕ) (d : X) → at < suc (length xs)
+      → (position_from p (i + 1) xs ≡ None → (at : ℕ) (d : X) → at < length xs → p (get_or xs at d) ≡ false) → p (get_or (x ∷ xs) at d) ≡ false
+  further true i x xs is e at d low rest = absurd (cc)
+  further false i x xs is e zero d low rest = is
+  further false i x xs is e (suc at) d low rest = rest e at d (omega arith)
+
+  none_from : (i : ℕ) (xs : List X) → position_from p i xs ≡ None → (at : ℕ) (d : X) → at < length xs → p (get_or xs at d) ≡ false
+  none_from i [] e at d low = absurd (omega arith)
+  none_from i (x ∷ xs) e at d low = further (p x) i x xs refl e at d low (none_from (i + 1) xs)
 
 -- no layer is of the part
 pub not_found : (part : Part) (ls : List Layer) → layer_index part ls ≡ None → (at : ℕ) (l : Layer) → at < length ls → same_part (get_or ls at l).part part ≡ false
@@ -29,4 +31,4 @@ found_low part (l ∷ ls) at e = (position-Some (λ (x : Layer). same_part x.par
 -- the layer that was found is of the part
 pub found_part : (part : Part) (ls : List Layer) (at : ℕ) → layer_index part ls ≡ Some at → (l : Layer) → l ≡ get_or ls at l → l.part ≡ part
 found_part part ls at e l is =
-    same_part-true l.part part (ap (λ (x : Layer). same_part x.part part) is ∙ (position-Some (λ (x : Layer). same_part x.part part) ls at l e).1.0)
+    same_part-true l.part part (ap (λ (x : Layer). same_part x.part part) is ∙ (position-Some (λ (x : Layer). same_part x.part part) ls at l e).1)
