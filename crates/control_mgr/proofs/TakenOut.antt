@@ -35,7 +35,7 @@ use Rattle.window_mgr.specs.Relayered.{HasUpdate, IsGainedAt, IsPartAt, IsPlanOf
 use Rattle.window_mgr.proofs.Steps.{found}
 use Rattle.control_mgr.specs.declared.controls.Controls.{Controls}
 use Rattle.control_mgr.specs.declared.ending.Ending.{Ending}
-use Rattle.control_mgr.specs.declared.spots.Spot.{Spot}
+use Rattle.control_mgr.specs.declared.spots.ControlAt.{ControlAt}
 use Rattle.control_mgr.specs.ControlDesks.{ControlRecord, index_of}
 use Rattle.control_mgr.specs.ControlSteps.{AreLayersOf}
 use Rattle.control_mgr.specs.Ending.{IsEnding, IsReadyToEnd, IsTakenOut}
@@ -118,7 +118,7 @@ module _ {V : Type 0} {H : V → Type 0} (loan : Taken V H → Loan) {W : Type 0
     its : (at : ℕ) × (index_of c cs ≡ Some at) × (place_among at cs ≡ i)
     its = place_found (index_of c cs) i cs (sym index_is ∙ is)
 
-    abbrev spot : Spot
+    abbrev spot : ControlAt
     spot = record { window = at; control = its.0 }
 
     spot_is : IsSpotOf loan control_loan c u m spot

@@ -12,7 +12,7 @@ ghost use Rattle.control_mgr.specs.Spots.{IsSpot, IsSpotOf, with_state};
 ghost use Rattle.control_mgr.specs.WholeControls.{AreBeside, LeavesControls, records_of};
 
 use crate::Controls;
-use crate::spots::Spot;
+use crate::spots::ControlAt;
 use control_values::{ControlValues, Highlight};
 use def_iface::{Defined, DefinedControl, Taken, TakenControl};
 use desk_call::{ControlNumber, ControlOf, ControlReply, ControlTitle};
@@ -55,7 +55,7 @@ impl Controls<TakenControl> {
     }
 
     /// Gives a control this state, and draws it within the damage where it is not to be redrawn. Takes no memory.
-    pub(crate) fn put(&mut self, windows: &mut WindowManager, spot: Spot, state: State)
+    pub(crate) fn put(&mut self, windows: &mut WindowManager, spot: ControlAt, state: State)
         requires kept { IsKept ⟦<Taken as Defined>⟧.loan windows.old }
         requires beside { AreBeside ⟦<TakenControl as DefinedControl>⟧.control_loan ⟦<Taken as Defined>⟧.loan windows.old self.old }
         requires spot { IsSpot ⟦<Taken as Defined>⟧.loan ⟦<TakenControl as DefinedControl>⟧.control_loan windows.old self.old spot }

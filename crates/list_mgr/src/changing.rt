@@ -11,7 +11,7 @@ ghost use Rattle.list_mgr.specs.WholeLists.{AreBeside, IsChangedOver};
 ghost use Rattle.list_mgr.specs.Within.{IsWhereRight};
 
 use crate::Lists;
-use crate::spots::Spot;
+use crate::spots::ListAt;
 use def_iface::{Defined, DefinedList, Part, Taken, TakenList};
 use desk_call::{CellOf, CellText, ListDrawing, ListReply};
 use scan_region::Region;
@@ -29,7 +29,7 @@ fn differ(old: &[u8], new: &[u8]) -> bool
 
 impl Lists<TakenList> {
     /// The index of a list's layer among the layers of its window.
-    pub(crate) fn layer(&self, windows: &WindowManager, spot: Spot) -> usize
+    pub(crate) fn layer(&self, windows: &WindowManager, spot: ListAt) -> usize
         requires beside { AreBeside ⟦<TakenList as DefinedList>⟧.list_loan ⟦<Taken as Defined>⟧.loan windows.now self.now }
         requires spot { IsSpot ⟦<Taken as Defined>⟧.loan ⟦<TakenList as DefinedList>⟧.list_loan windows.now self.now spot }
         ensures { (w : _) → IsWindowAt windows.now.windows.records.items spot.window w
@@ -45,7 +45,7 @@ impl Lists<TakenList> {
     pub(crate) fn mark(
         &self,
         windows: &WindowManager,
-        spot: Spot,
+        spot: ListAt,
     ) -> Result<Option<Region>, AllocError>
         requires kept { IsKept ⟦<Taken as Defined>⟧.loan windows.now }
         requires beside { AreBeside ⟦<TakenList as DefinedList>⟧.list_loan ⟦<Taken as Defined>⟧.loan windows.now self.now }
@@ -69,7 +69,7 @@ impl Lists<TakenList> {
     pub(crate) fn show(
         &self,
         windows: &mut WindowManager,
-        spot: Spot,
+        spot: ListAt,
         within: Rect,
         mark: Option<Region>,
         changes: bool,
