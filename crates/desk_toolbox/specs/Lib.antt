@@ -13,3 +13,4 @@ pub mod Reached
 pub mod Activations
 pub mod Economy
 pub mod Ordered
+pub mod Boxed

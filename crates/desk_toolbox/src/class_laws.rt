@@ -29,7 +29,8 @@ pub fn floating_windows_stand_in_front()
 /// A window that floats is not active, nor was it told last that it is.
 #[tactic(auto, using(crate::proofs::ClassLaws::never_active, crate::proofs::ClassLaws::never_told))]
 pub fn a_floating_window_is_never_active()
-    ensures active { (window : ℕ) (s : ToolboxState) → IsConsistent s → IsOfClass true window s.desk.windows.desk.windows
+    ensures active { (window : ℕ) (s : ToolboxState) → IsConsistent s
+        → IsOfClass true window s.desk.windows.desk.windows
         → s.desk.windows.desk.active ≢ Some window }
     ensures told { (window : ℕ) (s : ToolboxState) → IsConsistent s → IsOfClass true window s.desk.windows.desk.windows
         → s.events.told ≢ Some window }
@@ -46,7 +47,9 @@ pub fn no_activate_event_is_told_of_a_floating_window()
 /// Over any run a window that is not disposed of stays of its class.
 #[tactic(auto, using(crate::proofs::ClassLaws::class_is_for_good))]
 pub fn a_class_is_for_good()
-    ensures { (floating : Bool) (window : ℕ) (first last : ToolboxState) (calls : List Call) (answers : List (Result Reply Refusal))
+    ensures { (floating : Bool) (window : ℕ) (first last : ToolboxState) (calls : List Call)
+        (answers : List (Result Reply Refusal))
         → IsConsistent first → IsRunOfCalls first calls answers last → IsNeverDisposed window calls answers
-        → IsOfClass floating window first.desk.windows.desk.windows → IsOfClass floating window last.desk.windows.desk.windows }
+        → IsOfClass floating window first.desk.windows.desk.windows
+        → IsOfClass floating window last.desk.windows.desk.windows }
 {}

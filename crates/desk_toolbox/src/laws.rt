@@ -99,11 +99,14 @@ pub fn reasons_stand_in_the_written_order()
     ensures area { (judged : Option Refusal) (missing wrong : Bool)
         → AreInOrder (area_refusals judged missing ++ (wrong, StalePixels) ∷ []) }
     ensures frame { (call : FrameCall) (desk : FullDesk) → AreInOrder (frame_refusals call desk) }
-    ensures outline { (call : OutlineCall) (activity : Activity) (desk : FullDesk) → AreInOrder (outline_refusals call activity desk) }
-    ensures control { (call : ControlCall) (desk : FullDesk) (s : ControlsState) → AreInOrder (control_refusals call desk s) }
+    ensures outline { (call : OutlineCall) (activity : Activity) (desk : FullDesk)
+        → AreInOrder (outline_refusals call activity desk) }
+    ensures control { (call : ControlCall) (desk : FullDesk) (s : ControlsState)
+        → AreInOrder (control_refusals call desk s) }
     ensures control_form { (n : NewControl) (slots : List ControlSlot) (busy missing : Bool)
         → AreInOrder (control_form_refusals (controls.New n) slots ++ (busy, Busy) ∷ (missing, NoSuchWindow) ∷ []) }
-    ensures list { (call : ListCall) (desk : FullDesk) (c : ControlsState) (s : ListsState) → AreInOrder (list_refusals call desk c s) }
+    ensures list { (call : ListCall) (desk : FullDesk) (c : ControlsState) (s : ListsState)
+        → AreInOrder (list_refusals call desk c s) }
     ensures list_form { (n : NewList) (slots : List ListSlot) (bars : List ControlSlot) (busy missing : Bool)
         → AreInOrder (list_form_refusals (list_calls.New n) slots bars ++ (busy, Busy) ∷ (missing, NoSuchWindow) ∷ []) }
     ensures menu { (call : MenuCall) (menus : MenusState) → AreInOrder (menu_refusals call menus) }
@@ -126,7 +129,8 @@ pub fn what_is_told_comes_first_in_the_order()
 pub fn steps_keep_the_kinds()
     ensures windows { (call : Call) (answer : Result Reply Refusal) (before after : ToolboxState)
         → IsStep call answer before after
-        → map (λ slot. slot.kind) after.desk.windows.desk.stock ≡ map (λ slot. slot.kind) before.desk.windows.desk.stock }
+        → map (λ slot. slot.kind) after.desk.windows.desk.stock
+        ≡ map (λ slot. slot.kind) before.desk.windows.desk.stock }
     ensures controls { (call : Call) (answer : Result Reply Refusal) (before after : ToolboxState)
         → IsStep call answer before after
         → map (λ slot. slot.kind) after.controls.stock ≡ map (λ slot. slot.kind) before.controls.stock }
@@ -142,9 +146,11 @@ pub fn steps_keep_the_kinds()
 #[tactic(auto, using(crate::proofs::Runs::step_is_right, crate::proofs::Runs::step_contents_are_right))]
 pub fn steps_stay_right()
     ensures right { (call : Call) (answer : Result Reply Refusal) (before after : ToolboxState)
-        → IsRightState before.desk.windows → AreContentsRight before → IsStep call answer before after → IsRightState after.desk.windows }
+        → IsRightState before.desk.windows → AreContentsRight before → IsStep call answer before after
+        → IsRightState after.desk.windows }
     ensures contents { (call : Call) (answer : Result Reply Refusal) (before after : ToolboxState)
-        → IsRightState before.desk.windows → AreContentsRight before → IsStep call answer before after → AreContentsRight after }
+        → IsRightState before.desk.windows → AreContentsRight before → IsStep call answer before after
+        → AreContentsRight after }
 {}
 
 /// The windows that a run makes have serials that follow each other: none is used again.
@@ -174,9 +180,11 @@ pub fn lists_are_counted()
 #[tactic(auto, using(crate::proofs::Runs::run_is_right, crate::proofs::Runs::run_contents_are_right))]
 pub fn runs_stay_right()
     ensures right { (first last : ToolboxState) (calls : List Call) (answers : List (Result Reply Refusal))
-        → IsRightState first.desk.windows → AreContentsRight first → IsRunOfCalls first calls answers last → IsRightState last.desk.windows }
+        → IsRightState first.desk.windows → AreContentsRight first → IsRunOfCalls first calls answers last
+        → IsRightState last.desk.windows }
     ensures contents { (first last : ToolboxState) (calls : List Call) (answers : List (Result Reply Refusal))
-        → IsRightState first.desk.windows → AreContentsRight first → IsRunOfCalls first calls answers last → AreContentsRight last }
+        → IsRightState first.desk.windows → AreContentsRight first → IsRunOfCalls first calls answers last
+        → AreContentsRight last }
 {}
 
 /// After any run from a right state that leaves no pixel in any window's update region, the whole screen shows what
@@ -217,8 +225,10 @@ pub fn screen_scratch_is_owners()
 pub fn the_pulled_menu_is_in_front()
     ensures menu { (s : ToolboxState) (p : Point) → is_on_menu s p ≡ true
         → (screen_owner s p ≡ PulledMenu) × (screen_of s p ≡ screen_bit s PulledMenu p) }
-    ensures base { (s : ToolboxState) (p : Point) → on_screen (layered_desk s.desk.windows.desk) p ≡ true → is_on_menu s p ≡ false
-        → (screen_owner s p ≡ Base (owner (layered_desk s.desk.windows.desk) p)) × (screen_of s p ≡ with_outline s s.desk.windows.image p) }
+    ensures base { (s : ToolboxState) (p : Point) → on_screen (layered_desk s.desk.windows.desk) p ≡ true
+        → is_on_menu s p ≡ false
+        → (screen_owner s p ≡ Base (owner (layered_desk s.desk.windows.desk) p))
+        × (screen_of s p ≡ with_outline s s.desk.windows.image p) }
 {}
 
 /// The outline is in front of all: along it the base image shows inverted where gray is black, and else as it is, where no menu
@@ -242,7 +252,8 @@ pub fn an_outline_leaves_the_desk_alone()
 /// A call on menus leaves every update region, and of the base image all that the contents of windows show.
 #[tactic(auto, using(crate::proofs::LeftByMenus::menus_leave_windows))]
 pub fn calls_on_menus_leave_windows_alone()
-    ensures { (call : MenuCall) (answer : Result Reply Refusal) (before after : ToolboxState) → IsRightState before.desk.windows
+    ensures { (call : MenuCall) (answer : Result Reply Refusal) (before after : ToolboxState)
+        → IsRightState before.desk.windows
         → IsStep (Menu call) answer before after
         → (p : Point) → on_screen (layered_desk before.desk.windows.desk) p ≡ true
         → (after.desk.windows.stale p ≡ before.desk.windows.stale p)
@@ -276,7 +287,8 @@ pub fn a_control_is_found_by_the_owner_of_the_pixel()
     ensures { (asked : PointInWindow) (answer : Result Reply Refusal) (before after : ToolboxState)
         → is_missing asked.window before.desk.windows.desk.windows ≡ false → in_plane asked.point ≡ true
         → IsStep (Control (controls.Find asked)) answer before after
-        → (answer ≡ Ok (reply.Control (control_reply.Found (found_on_screen before asked)))) × IsToolboxUnchanged before after }
+        → (answer ≡ Ok (reply.Control (control_reply.Found (found_on_screen before asked))))
+        × IsToolboxUnchanged before after }
 {}
 
 /// A desk that just began is consistent.

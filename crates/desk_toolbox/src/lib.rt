@@ -16,12 +16,14 @@
 
 mod answering;
 pub mod class_laws;
+mod desk;
 mod events;
 pub mod laws;
 mod outlining;
 mod toolbox;
 pub mod update_laws;
 
+pub use desk::Desk;
 pub use desk_call::{
     Activity, AppendItems, AreaRef, Call, CheckItem, Choice, ControlCall, ControlInfo,
     ControlNumber, ControlOf, ControlReply, ControlTitle, DragWindow, DraggedWindow, Drawing,

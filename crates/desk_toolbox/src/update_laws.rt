@@ -29,7 +29,8 @@ ghost use Rattle.desk_toolbox.specs.ToolboxStates.{ToolboxState};
 /// they were at the begin.
 #[tactic(auto, using(crate::proofs::ServedRuns::drawn_update_is_served, crate::proofs::ServedRuns::drawn_update_leaves_nothing, crate::proofs::ServedRuns::drawn_update_leaves_others))]
 pub fn an_update_whose_layers_were_drawn_is_served()
-    ensures served { (window : ℕ) (first last : ToolboxState) (calls : List Call) (answers : List (Result Reply Refusal))
+    ensures served { (window : ℕ) (first last : ToolboxState) (calls : List Call)
+        (answers : List (Result Reply Refusal))
         → IsConsistent first → IsNotEnded window calls → IsAllDrawn window calls answers
         → IsRunOfCalls first (begun_until window calls (Update (End window))) (answered_until answers done) last
         → IsUpdateStep (Serve window) (Ok Done) first.desk last.desk }
@@ -37,7 +38,8 @@ pub fn an_update_whose_layers_were_drawn_is_served()
         → IsConsistent first → IsNotEnded window calls → IsAllDrawn window calls answers
         → IsRunOfCalls first (begun_until window calls (Update (End window))) (answered_until answers done) last
         → IsEmpty (update_of window last.desk.windows) }
-    ensures others { (window other : ℕ) (first last : ToolboxState) (calls : List Call) (answers : List (Result Reply Refusal))
+    ensures others { (window other : ℕ) (first last : ToolboxState) (calls : List Call)
+        (answers : List (Result Reply Refusal))
         → IsConsistent first → IsNotEnded window calls → IsAllDrawn window calls answers
         → IsRunOfCalls first (begun_until window calls (Update (End window))) (answered_until answers done) last
         → other ≢ window → (p : Point) → update_of other last.desk.windows p ≡ update_of other first.desk.windows p }
@@ -47,7 +49,8 @@ pub fn an_update_whose_layers_were_drawn_is_served()
 #[tactic(auto, using(crate::proofs::ServedRuns::drawn_in_order_is_served))]
 pub fn an_update_drawn_in_any_order_is_served()
     ensures { (window : ℕ) (kinds : List LayerKind) (first last : ToolboxState) → AreAllKinds kinds
-        → IsRunOfCalls first (map Update (update_drawing window kinds)) (map (λ call. done) (update_drawing window kinds)) last
+        → IsRunOfCalls first (map Update (update_drawing window kinds))
+        (map (λ call. done) (update_drawing window kinds)) last
         → IsStep (Update (Serve window)) done first last }
 {}
 
@@ -64,11 +67,14 @@ pub fn an_update_served_at_once_leaves_nothing()
 /// just where it is stale too. So it lies in no two update regions, and in a right state each stale pixel lies in one.
 #[tactic(auto, using(crate::proofs::RegionLaws::visible_where_owned, crate::proofs::RegionLaws::update_where_stale, crate::proofs::RegionLaws::updates_are_apart, crate::proofs::RegionLaws::stale_is_in_one))]
 pub fn regions_are_what_contents_own()
-    ensures visible { (window : ℕ) (s : FullState) (p : Point) → IsInRegion visible_of window s p ↔ IsOfContent window s p }
+    ensures visible { (window : ℕ) (s : FullState) (p : Point) → IsInRegion visible_of window s p
+        ↔ IsOfContent window s p }
     ensures update { (window : ℕ) (s : FullState) (p : Point)
         → IsInRegion update_of window s p ↔ (IsOfContent window s p × (s.stale p ≡ true)) }
-    ensures apart { (v w : ℕ) (s : FullState) (p : Point) → IsInRegion update_of v s p → IsInRegion update_of w s p → v ≡ w }
-    ensures stale { (s : FullState) (p : Point) → IsRightState s → on_screen (layered_desk s.desk) p ≡ true → s.stale p ≡ true
+    ensures apart { (v w : ℕ) (s : FullState) (p : Point) → IsInRegion update_of v s p → IsInRegion update_of w s p
+        → v ≡ w }
+    ensures stale { (s : FullState) (p : Point) → IsRightState s → on_screen (layered_desk s.desk) p ≡ true
+        → s.stale p ≡ true
         → (window : ℕ) × IsInRegion update_of window s p }
 {}
 
@@ -89,12 +95,16 @@ pub fn regions_are_told()
 /// the update region as empty.
 #[tactic(auto, using(crate::proofs::ServedRuns::open_visible_is_told, crate::proofs::ServedRuns::open_update_is_told))]
 pub fn regions_of_an_open_update_are_told()
-    ensures visible { (window : ℕ) (first last : ToolboxState) (calls : List Call) (answers : List (Result Reply Refusal)) (answer : WindowReply)
+    ensures visible { (window : ℕ) (first last : ToolboxState) (calls : List Call)
+        (answers : List (Result Reply Refusal)) (answer : WindowReply)
         → IsNotEnded window calls
-        → IsRunOfCalls first (begun_until window calls (Window (VisibleRegion window))) (answered_until answers (Ok (reply.Window answer))) last
+        → IsRunOfCalls first (begun_until window calls (Window (VisibleRegion window)))
+        (answered_until answers (Ok (reply.Window answer))) last
         → IsRegionTold (update_of window first.desk.windows) answer }
-    ensures update { (window : ℕ) (first last : ToolboxState) (calls : List Call) (answers : List (Result Reply Refusal)) (answer : WindowReply)
+    ensures update { (window : ℕ) (first last : ToolboxState) (calls : List Call)
+        (answers : List (Result Reply Refusal)) (answer : WindowReply)
         → IsNotEnded window calls
-        → IsRunOfCalls first (begun_until window calls (Window (UpdateRegion window))) (answered_until answers (Ok (reply.Window answer))) last
+        → IsRunOfCalls first (begun_until window calls (Window (UpdateRegion window)))
+        (answered_until answers (Ok (reply.Window answer))) last
         → IsRegionTold (λ p. false) answer }
 {}

@@ -14,7 +14,7 @@ use Rattle.def_iface.specs.Stocks.{AllSlots}
 use Rattle.desk_toolbox.specs.declared.toolbox.Toolbox.{Toolbox}
 use Rattle.desk_toolbox.specs.WholeToolbox.{toolbox_state}
 use Rattle.scratch_paint.specs.Differences.{difference_count, differences_of, row_differences}
-use Rattle.scratch_paint.specs.Screens.{no_slots}
+use Rattle.desk_toolbox.specs.Boxed.{no_slots}
 use Rattle.script_runner.specs.Checks.{IsCheckLine, check_text}
 use Rattle.script_runner.specs.SessionViews.{state_with}
 
