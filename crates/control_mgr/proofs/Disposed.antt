@@ -10,7 +10,7 @@ use Rattle.window_items.specs.Items.{items_of, count_of, has_serial, is_before, 
 use Rattle.control_mgr.specs.Seen.{all_seen, kept_seen, seen}
 use Rattle.window_items.proofs.SeenLemmas.{place_among-seen, remove-seen, slice_get-seen}
 use Rattle.window_items.proofs.WindowLemmas.{items_of-remove, items_of-remove_other, count_of-remove, count_of-remove_other, is_in_at-other, slice_get-items_of}
-use Rattle.def_iface.specs.declared.part.Part.{Part}
+use Rattle.desk_layers.specs.declared.part.Part.{Part}
 use Rattle.def_iface.specs.declared.taken.Taken.{Taken}
 use Rattle.def_iface.specs.declared.taken_control.TakenControl.{TakenControl}
 use Rattle.def_iface.specs.declared.window_def.Stage.TheVariants.{Live}

@@ -16,17 +16,17 @@ use Rattle.control_mgr.specs.declared.control.Control.{Control}
 use Rattle.window_items.specs.Items.{item_index}
 use Rattle.control_mgr.specs.Seen.{all_seen, kept_seen, seen}
 use Rattle.window_items.proofs.SeenLemmas.{item_index-seen}
-use Rattle.def_iface.specs.declared.part.Part.{Part}
-use Rattle.def_iface.specs.declared.part.Part.TheVariants as part
+use Rattle.desk_layers.specs.declared.part.Part.{Part}
+use Rattle.desk_layers.specs.declared.part.Part.TheVariants as part
 use Rattle.def_iface.specs.declared.taken.Taken.{Taken}
 use Rattle.def_iface.specs.declared.taken_control.TakenControl.{TakenControl}
 use Rattle.def_iface.specs.ControlMeaning.{ControlLoan}
-use Rattle.def_iface.specs.Desk.{LayeredDesk, on_screen}
+use Rattle.desk_layers.specs.Desk.{LayeredDesk, on_screen}
 use Rattle.def_iface.specs.Meaning.{Loan}
-use Rattle.def_iface.specs.Owner.{Owner, owner}
-use Rattle.def_iface.specs.Owner.Owner.{Desktop, Bar, Frame, Content}
+use Rattle.desk_layers.specs.Owner.{Owner, owner}
+use Rattle.desk_layers.specs.Owner.Owner.{Desktop, Bar, Frame, Content}
 use Rattle.def_iface.specs.Stocked.{SlotView}
-use Rattle.def_iface.proofs.Owning.{same_number}
+use Rattle.desk_layers.proofs.Owning.{same_number}
 use Rattle.window_list.specs.Holders.{part_at}
 use Rattle.desk_call.specs.declared.control.ControlCall.TheVariants as asks
 use Rattle.desk_call.specs.declared.control.ControlOf.{ControlOf}

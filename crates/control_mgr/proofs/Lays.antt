@@ -13,8 +13,8 @@ use Rattle.window_items.specs.Items.{items_of, edit_at, is_in_at, place_among, w
 use Rattle.control_mgr.specs.Seen.{all_seen, kept_seen, seen}
 use Rattle.window_items.proofs.SeenLemmas.{edit_at-seen, length-seen, place_among-seen}
 use Rattle.window_items.proofs.WindowLemmas.{items_of-edit_at, slice_get-items_of}
-use Rattle.def_iface.specs.declared.part.Part.{Part}
-use Rattle.def_iface.specs.declared.part.Part.TheVariants as part
+use Rattle.desk_layers.specs.declared.part.Part.{Part}
+use Rattle.desk_layers.specs.declared.part.Part.TheVariants as part
 use Rattle.def_iface.specs.declared.taken.Taken.{Taken}
 use Rattle.def_iface.specs.declared.taken_control.TakenControl.{TakenControl}
 use Rattle.def_iface.specs.ControlMeaning.{ControlDefinition, ControlLoan, SameControlRegions, is_control_size}

@@ -17,8 +17,8 @@ use Rattle.window_items.proofs.LawLemmas.{still_before}
 use Rattle.window_items.proofs.SeenLemmas.{append-seen}
 use Rattle.window_items.proofs.WindowLemmas.{items_of-push, items_of-push_other, count_of-length, count_of-push, count_of-push_other}
 use Rattle.control_values.specs.Settings.{Setting, settled}
-use Rattle.def_iface.specs.declared.part.Part.{Part}
-use Rattle.def_iface.specs.declared.part.Part.TheVariants as part
+use Rattle.desk_layers.specs.declared.part.Part.{Part}
+use Rattle.desk_layers.specs.declared.part.Part.TheVariants as part
 use Rattle.def_iface.specs.declared.taken.Taken.{Taken}
 use Rattle.def_iface.specs.declared.taken_control.TakenControl.{TakenControl}
 use Rattle.def_iface.specs.ControlMeaning.{ControlDefinition, ControlLoan, IsControlBegun, is_fitting_control}

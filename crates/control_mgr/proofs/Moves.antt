@@ -9,7 +9,7 @@ use Rattle.tb_geom.specs.Points.{PixelSet}
 use Rattle.tb_geom.specs.Rects.{is_in_range, moved_rect}
 use Rattle.tb_geom.specs.Refusals.{first_refusal}
 use Rattle.control_mgr.specs.Fields.{with_place, with_shown, with_size}
-use Rattle.def_iface.specs.declared.part.Part.{Part}
+use Rattle.desk_layers.specs.declared.part.Part.{Part}
 use Rattle.def_iface.specs.declared.size.Size.{Size}
 use Rattle.def_iface.specs.declared.taken.Taken.{Taken}
 use Rattle.def_iface.specs.declared.taken_control.TakenControl.{TakenControl}

@@ -10,12 +10,12 @@ use Rattle.tb_geom.specs.Pixels.{Pixels}
 use Rattle.window_items.specs.Items.{are_before, items_of, count_of, has_serial, serial_after}
 use Rattle.window_items.proofs.SeenLemmas.{length-seen}
 use Rattle.window_items.proofs.WindowLemmas.{count_of-push}
-use Rattle.def_iface.specs.declared.part.Part.{Part}
-use Rattle.def_iface.specs.declared.part.Part.TheVariants as part
+use Rattle.desk_layers.specs.declared.part.Part.{Part}
+use Rattle.desk_layers.specs.declared.part.Part.TheVariants as part
 use Rattle.def_iface.specs.declared.taken.Taken.{Taken}
 use Rattle.def_iface.specs.declared.taken_control.TakenControl.{TakenControl}
 use Rattle.def_iface.specs.ControlMeaning.{ControlDefinition, ControlLoan}
-use Rattle.def_iface.specs.Desk.{same_part}
+use Rattle.desk_layers.specs.Desk.{same_part}
 use Rattle.def_iface.specs.Meaning.{Loan}
 use Rattle.window_list.specs.declared.layer.Layer.{Layer}
 use Rattle.window_list.specs.Holders.{ArePartsApart, PlacedLayers}

@@ -5,9 +5,9 @@ use Rattle.std.specs.List.{list_any, remove}
 use Rattle.std.proofs.lemmas.Bool.{false≢true}
 use Rattle.std.proofs.lemmas.Bool.Decides.{nat_tests}
 use Rattle.window_items.specs.Items.{items_of, edit_at, has_serial, is_in}
-use Rattle.def_iface.specs.declared.part.Part.TheVariants as part
-use Rattle.def_iface.specs.Owner.{Owner, same_owner}
-use Rattle.def_iface.specs.Owner.Owner.{Content}
+use Rattle.desk_layers.specs.declared.part.Part.TheVariants as part
+use Rattle.desk_layers.specs.Owner.{Owner, same_owner}
+use Rattle.desk_layers.specs.Owner.Owner.{Content}
 use Rattle.desk_call.specs.declared.control.ControlOf.{ControlOf}
 use Rattle.control_mgr.specs.ControlDesks.{ControlDesk, ControlRecord, ControlsState, with_serial}
 use Rattle.control_mgr.specs.ControlSteps.{IsChangedTo}

@@ -14,14 +14,14 @@ use Rattle.control_values.specs.Parts.{number_of}
 use Rattle.control_values.specs.Settings.{Setting, settled}
 use Rattle.window_items.specs.Items.{items_of, edit_at, serial_after, with_kept}
 use Rattle.control_mgr.specs.Fields.{with_highlight, with_place, with_shown, with_size, with_title, with_values}
-use Rattle.def_iface.specs.declared.part.Part.{Part}
-use Rattle.def_iface.specs.declared.part.Part.TheVariants as part
+use Rattle.desk_layers.specs.declared.part.Part.{Part}
+use Rattle.desk_layers.specs.declared.part.Part.TheVariants as part
 use Rattle.def_iface.specs.declared.window_def.Stage.TheVariants.{Closed}
 use Rattle.def_iface.specs.ControlMeaning.{ControlDefinition, ControlLoan, IsControlBegun, SameControlLook}
 use Rattle.def_iface.specs.ControlNews.{no_control_news, new_control_news}
-use Rattle.def_iface.specs.Desk.{on_screen}
-use Rattle.def_iface.specs.Owner.{Owner, owner}
-use Rattle.def_iface.specs.Owner.Owner.{Content}
+use Rattle.desk_layers.specs.Desk.{on_screen}
+use Rattle.desk_layers.specs.Owner.{Owner, owner}
+use Rattle.desk_layers.specs.Owner.Owner.{Content}
 use Rattle.def_iface.specs.Slots.{IsPutBack, IsTaken, is_left}
 use Rattle.window_list.specs.declared.layer.Layer.{Layer}
 use Rattle.desk_call.specs.declared.activity.Activity.{Activity}

@@ -16,10 +16,11 @@ ghost use Rattle.control_mgr.specs.WholeControls.{AreBeside, LeavesControls, rec
 
 use crate::{Control, Controls};
 use control_values::ControlPart;
-use def_iface::{Defined, DefinedControl, Part, Taken, TakenControl};
+use def_iface::{Defined, DefinedControl, Taken, TakenControl};
 use desk_call::{
     ControlInfo, ControlOf, ControlReply, FoundControl, PointAtControl, PointInWindow,
 };
+use desk_layers::Part;
 use tb_geom::{Point, Rect, Refusal};
 use window_items::Item;
 use window_list::{local, picture_place};

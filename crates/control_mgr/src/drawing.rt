@@ -14,7 +14,8 @@ ghost use Rattle.control_mgr.specs.Settled.{AreSettled};
 
 use crate::Controls;
 use bit_map::{Mode, Pattern};
-use def_iface::{DefinedControl, Part, Stage, TakenControl};
+use def_iface::{DefinedControl, Stage, TakenControl};
+use desk_layers::Part;
 use draw_port::Canvas;
 use window_list::picture_place;
 use window_paint::Showing;

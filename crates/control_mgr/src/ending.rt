@@ -12,10 +12,9 @@ ghost use Rattle.control_mgr.specs.WholeControls.{AreWholeControls, LeavesOver, 
 
 use crate::Controls;
 use crate::closing::put_away;
-use def_iface::{
-    ControlStock, Defined, DefinedControl, Part, StockedControls, Taken, TakenControl,
-};
+use def_iface::{ControlStock, Defined, DefinedControl, StockedControls, Taken, TakenControl};
 use desk_call::{ControlOf, ControlReply};
+use desk_layers::Part;
 use scan_region::Region;
 use std::alloc::AllocError;
 use tb_geom::Refusal;

@@ -18,9 +18,10 @@ use crate::setting::say_bounds;
 use crate::{Control, Controls};
 use control_values::{ControlValues, Highlight};
 use def_iface::{
-    ControlStock, Defined, DefinedControl, Part, Stage, StockedControls, Taken, TakenControl,
+    ControlStock, Defined, DefinedControl, Stage, StockedControls, Taken, TakenControl,
 };
 use desk_call::{ControlCall, ControlReply, NewControl};
+use desk_layers::Part;
 use draw_port::ShortText;
 use scan_region::Region;
 use std::alloc::AllocError;

@@ -1,4 +1,4 @@
-//! The interfaces of definitions, the stock that they wait in, and the desk as plain data.
+//! The interfaces of definitions, and the stock that they wait in.
 //!
 //! A definition is the code behind a kind of window, control, menu or list (*Inside Macintosh* I, "The Window Manager",
 //! "The Control Manager" and "The Menu Manager", "Defining Your Own ..."; IV, "The List Manager Package"): it answers which
@@ -31,16 +31,13 @@
 //! the desk shows the frame's pixels alone, so such a definition may fill all of the canvas and put the rest on top, whatever
 //! that gives to pixels outside its frame.
 //!
-//! Two laws say what all of this is for. The desk as plain data is a stack of layers: the desktop, the windows from back to
-//! front, each a frame and content layers on it (a `Part` each: controls, lists, the picture), and the menu bar. The first
-//! law: painting all of it from nothing, back to front, gives each pixel the value of its owner, the one layer to which the
-//! pixel belongs. The second: a call that moves, uncovers or draws pixels, and does so soundly, keeps a right screen right,
-//! where right means that each pixel which waits for no update has the very value that painting from nothing would give it.
+//! One law says what being told is for: once a definition is told all there is to tell, what it shows is a function of that
+//! alone, whatever it was told before.
 //!
-//! Modules: `size` has the sizes of windows, `lines` the lines of their outlines, `part` the layers of a window's content;
+//! Modules: `size` has the sizes of windows, `lines` the lines of their outlines;
 //! `window_def`, `control_def`, `menu_def` and `list_def` the traits; `keeping` and `control_keeping` what most definitions keep
 //! of what they are told; `stock`, and for each trait a module `.._stock`, the slots; `taken`, and `taken_..`, the definition
-//! out of its slot; `laws` the laws.
+//! out of its slot; `laws` the law.
 #![tactic(auto)]
 
 mod control_def;
@@ -53,7 +50,6 @@ mod list_def;
 mod list_stock;
 mod menu_def;
 mod menu_stock;
-mod part;
 mod size;
 mod slots;
 mod stock;
@@ -73,7 +69,6 @@ pub use list_def::{ListChange, ListDef};
 pub use list_stock::{ListStock, ReturnedList, StockedLists};
 pub use menu_def::{MenuChange, MenuDef};
 pub use menu_stock::{MenuStock, ReturnedMenu, StockedMenus};
-pub use part::Part;
 pub use size::Size;
 pub use stock::{Stock, StockedAll};
 pub use taken::{Defined, Taken};

@@ -15,7 +15,7 @@ use Rattle.desk_call.specs.declared.window.WindowCall.TheVariants as asks
 use Rattle.desk_call.specs.declared.window.WindowReply.{WindowReply}
 use Rattle.desk_call.specs.Gates.{window_standing}
 use Rattle.window_list.specs.Lists.{serial_after}
-use Rattle.def_iface.specs.Desk as layers
+use Rattle.desk_layers.specs.Desk as layers
 use Rattle.vis_update.specs.Records.{Look, WindowRecord, layered_window}
 use Rattle.vis_update.specs.Touches.{is_this}
 use Rattle.window_mgr.specs.Effects.{effect_of, places}

@@ -5,9 +5,9 @@ use Rattle.tb_geom.specs.declared.point.Point.{Point}
 use Rattle.tb_geom.specs.declared.refusal.Refusal.{Refusal}
 use Rattle.tb_geom.specs.Points.{PixelSet}
 use Rattle.def_iface.specs.declared.taken.Taken.{Taken}
-use Rattle.def_iface.specs.Desk.{LayeredDesk, on_screen}
+use Rattle.desk_layers.specs.Desk.{LayeredDesk, on_screen}
 use Rattle.def_iface.specs.Meaning.{Loan}
-use Rattle.def_iface.specs.Owner.{owner}
+use Rattle.desk_layers.specs.Owner.{owner}
 use Rattle.def_iface.specs.Stocked.{SlotView}
 use Rattle.desk_call.specs.declared.activity.Activity.{Activity}
 use Rattle.desk_call.specs.declared.activity.Activity.TheVariants.{Idle, Updating, Tracking, Pulling, TrackingControl, Dragging, Growing}

@@ -5,8 +5,9 @@ ghost use Rattle.window_mgr.specs.Whole.{IsWholeManager};
 ghost use Rattle.window_update.specs.WholeUpdates.{IsWholeUpdates};
 
 use bit_map::{BitMap, Mode, Pattern};
-use def_iface::{Defined, Part, Size, Stocked, Taken, WindowStock};
+use def_iface::{Defined, Size, Stocked, Taken, WindowStock};
 use desk_call::{Activity, PictureRef};
+use desk_layers::Part;
 use draw_port::{Op, Picture, Shade, Shape as Form};
 use lent_ops::{OpRef, ShapeRef};
 use plain_layers::desk::{Owner, Painting, PlainDesk, PlainLayer, PlainWindow, seen_from};

@@ -8,7 +8,7 @@ use Rattle.tb_geom.specs.Refusals.{first_refusal}
 use Rattle.def_iface.specs.declared.taken.Taken.{Taken}
 use Rattle.def_iface.specs.declared.taken_control.TakenControl.{TakenControl}
 use Rattle.def_iface.specs.ControlMeaning.{ControlLoan}
-use Rattle.def_iface.specs.Desk.{IsDesk}
+use Rattle.desk_layers.specs.Desk.{IsDesk}
 use Rattle.def_iface.specs.Meaning.{Loan}
 use Rattle.window_list.specs.Holders.{PlacedLayers}
 use Rattle.desk_call.specs.declared.activity.Activity.TheVariants.{Idle}

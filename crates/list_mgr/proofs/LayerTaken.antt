@@ -3,7 +3,7 @@ use Rattle.std.proofs.Common.{◌≡◌, ℕ, zero, suc, Bool, true, false, not,
 use Rattle.std.specs.Prelude.{slice_get}
 use Rattle.std.specs.List.{AllZip, filter, remove}
 use Rattle.std.proofs.lemmas.Bool.{false≢true}
-use Rattle.def_iface.specs.declared.part.Part.TheVariants as part
+use Rattle.desk_layers.specs.declared.part.Part.TheVariants as part
 use Rattle.window_list.specs.declared.layer.Layer.{Layer}
 use Rattle.window_items.specs.Items.{is_in_at, items_of, place_among}
 use Rattle.window_items.proofs.WindowLemmas.{items_of-remove, slice_get-items_of}

@@ -4,8 +4,8 @@ use Rattle.std.specs.Prelude.{is_none}
 use Rattle.std.specs.List.{insert}
 use Rattle.std.proofs.lemmas.List.Edits.{get_or-insert_at}
 use Rattle.tb_geom.specs.Points.{PixelSet}
-use Rattle.def_iface.specs.declared.part.Part.{Part}
-use Rattle.def_iface.specs.declared.part.Part.TheVariants as part
+use Rattle.desk_layers.specs.declared.part.Part.{Part}
+use Rattle.desk_layers.specs.declared.part.Part.TheVariants as part
 use Rattle.def_iface.specs.declared.taken.Taken.{Taken}
 use Rattle.def_iface.specs.declared.taken_list.TakenList.{TakenList}
 use Rattle.def_iface.specs.ControlMeaning.{is_control_size}
@@ -13,7 +13,7 @@ use Rattle.def_iface.specs.ListMeaning.{IsListBegun, ListDefinition, ListLoan}
 use Rattle.def_iface.specs.Meaning.{Loan}
 use Rattle.def_iface.specs.Slots.{IsTaken}
 use Rattle.def_iface.specs.Stocked.{SlotView}
-use Rattle.def_iface.proofs.Owning.{same_number}
+use Rattle.desk_layers.proofs.Owning.{same_number}
 use Rattle.window_list.specs.declared.layer.Layer.{Layer}
 use Rattle.window_list.specs.Holders.{PlacedLayers}
 use Rattle.window_items.specs.Items.{items_of, are_before, serial_after}

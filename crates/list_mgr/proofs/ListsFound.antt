@@ -7,9 +7,9 @@ use Rattle.std.proofs.lemmas.Bool.{false≢true}
 use Rattle.std.proofs.lemmas.Bool.Decides.{nat_tests}
 use Rattle.window_items.specs.Items.{edit_at, has_serial, is_in, items_of}
 use Rattle.window_items.proofs.WindowLemmas.{position-cons}
-use Rattle.def_iface.specs.declared.part.Part.TheVariants as part
-use Rattle.def_iface.specs.Owner.{Owner, same_owner}
-use Rattle.def_iface.specs.Owner.Owner.{Content}
+use Rattle.desk_layers.specs.declared.part.Part.TheVariants as part
+use Rattle.desk_layers.specs.Owner.{Owner, same_owner}
+use Rattle.desk_layers.specs.Owner.Owner.{Content}
 use Rattle.desk_call.specs.declared.list.ListOf.{ListOf}
 use Rattle.control_mgr.proofs.Added.{or_parts}
 use Rattle.list_mgr.specs.ListDesks.{KeptList, ListDesk, ListsState, with_serial}

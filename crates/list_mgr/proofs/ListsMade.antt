@@ -4,8 +4,8 @@ use Rattle.std.proofs.Common.{◌≡◌, ℕ, ◌<◌, zero, suc, Bool, true, fa
 use Rattle.tb_geom.specs.declared.point.Point.{Point}
 use Rattle.window_items.specs.Items.{count_of, edit_at, has_serial}
 use Rattle.list_mgr.specs.Fields.{with_drawing}
-use Rattle.def_iface.specs.declared.part.Part.{Part}
-use Rattle.def_iface.specs.declared.part.Part.TheVariants as part
+use Rattle.desk_layers.specs.declared.part.Part.{Part}
+use Rattle.desk_layers.specs.declared.part.Part.TheVariants as part
 use Rattle.desk_call.specs.declared.list.ListOf.{ListOf}
 use Rattle.desk_call.specs.declared.list.NewList.{NewList}
 use Rattle.window_mgr.specs.DeskStates.{IsDeskUnchanged}

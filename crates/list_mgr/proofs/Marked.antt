@@ -5,18 +5,18 @@ use Rattle.tb_geom.specs.declared.point.Point.{Point}
 use Rattle.tb_geom.specs.declared.rect.Rect.{Rect}
 use Rattle.tb_geom.specs.Points.{PixelSet, minus}
 use Rattle.tb_geom.specs.Pixels.{Pixels, holds}
-use Rattle.def_iface.specs.declared.part.Part.{Part}
+use Rattle.desk_layers.specs.declared.part.Part.{Part}
 use Rattle.def_iface.specs.declared.taken.Taken.{Taken}
 use Rattle.def_iface.specs.declared.taken_list.TakenList.{TakenList}
 use Rattle.def_iface.specs.ListMeaning.{ListLoan}
-use Rattle.def_iface.specs.Change as plain
-use Rattle.def_iface.specs.Desk as layers
+use Rattle.desk_layers.specs.Change as plain
+use Rattle.desk_layers.specs.Desk as layers
 use Rattle.def_iface.specs.Meaning.{Loan}
-use Rattle.def_iface.specs.Owner.{Owner, is_content, owner, same_owner}
-use Rattle.def_iface.specs.Owner.Owner.{Content}
-use Rattle.def_iface.specs.Scratch.{scratch}
+use Rattle.desk_layers.specs.Owner.{Owner, is_content, owner, same_owner}
+use Rattle.desk_layers.specs.Owner.Owner.{Content}
+use Rattle.desk_layers.specs.Scratch.{scratch}
 use Rattle.def_iface.specs.Stocked.{SlotView}
-use Rattle.def_iface.proofs.Owning.{same_number, same_owner-true}
+use Rattle.desk_layers.proofs.Owning.{same_number, same_owner-true}
 use Rattle.window_list.specs.Holders.{belongs_to}
 use Rattle.vis_update.specs.declared.area.Area.{Area}
 use Rattle.vis_update.specs.Areas.{is_content_of, stale_in}

@@ -4,14 +4,14 @@ use Rattle.std.specs.Prelude.{All, IfSome, slice_get}
 use Rattle.std.specs.List.{AllZip, filter, list_any}
 use Rattle.std.specs.Option.{option_map_or}
 use Rattle.std.proofs.lemmas.Bool.{and_parts, eq-eqb, false≢true}
-use Rattle.def_iface.specs.declared.part.Part.{Part}
-use Rattle.def_iface.specs.declared.part.Part.TheVariants as part
+use Rattle.desk_layers.specs.declared.part.Part.{Part}
+use Rattle.desk_layers.specs.declared.part.Part.TheVariants as part
 use Rattle.def_iface.specs.declared.taken.Taken.{Taken}
 use Rattle.def_iface.specs.declared.taken_list.TakenList.{TakenList}
 use Rattle.def_iface.specs.ListMeaning.{ListLoan}
 use Rattle.def_iface.specs.Meaning.{Loan}
-use Rattle.def_iface.specs.Desk.{same_part}
-use Rattle.def_iface.proofs.Owning.{same_number}
+use Rattle.desk_layers.specs.Desk.{same_part}
+use Rattle.desk_layers.proofs.Owning.{same_number}
 use Rattle.window_list.specs.declared.layer.Layer.{Layer}
 use Rattle.window_list.specs.Holders.{layer_index}
 use Rattle.window_list.proofs.Found.{found_low, found_part, not_found}

@@ -21,14 +21,14 @@ use Rattle.list_mgr.specs.Fields.{with_cells, with_drawing, with_view}
 use Rattle.list_view.specs.Bars.{horizontal_bar, horizontal_setting, vertical_bar, vertical_setting}
 use Rattle.list_view.specs.Views.{cell_at, scrolled, view_rect}
 use Rattle.list_view.specs.Shown.{is_turned}
-use Rattle.def_iface.specs.declared.part.Part.{Part}
-use Rattle.def_iface.specs.declared.part.Part.TheVariants as part
+use Rattle.desk_layers.specs.declared.part.Part.{Part}
+use Rattle.desk_layers.specs.declared.part.Part.TheVariants as part
 use Rattle.def_iface.specs.declared.window_def.Stage.TheVariants.{Closed}
 use Rattle.def_iface.specs.ListMeaning.{IsListBegun, ListDefinition, ListLoan, SameListLook}
 use Rattle.def_iface.specs.Slots.{IsPutBack, IsTaken, is_left}
-use Rattle.def_iface.specs.Change.{Change, IsChanged, no_change}
-use Rattle.def_iface.specs.Owner.{same_owner}
-use Rattle.def_iface.specs.Owner.Owner.{Content as ContentOf}
+use Rattle.desk_layers.specs.Change.{Change, IsChanged, no_change}
+use Rattle.desk_layers.specs.Owner.{same_owner}
+use Rattle.desk_layers.specs.Owner.Owner.{Content as ContentOf}
 use Rattle.window_list.specs.declared.layer.Layer.{Layer}
 use Rattle.desk_call.specs.declared.control.ControlCall.TheVariants as control_calls
 use Rattle.desk_call.specs.declared.control.ControlOf.{ControlOf}

@@ -12,8 +12,9 @@ ghost use Rattle.list_mgr.specs.Within.{IsWhereRight};
 
 use crate::Lists;
 use crate::spots::Spot;
-use def_iface::{Defined, DefinedList, Part, Taken, TakenList};
+use def_iface::{Defined, DefinedList, Taken, TakenList};
 use desk_call::{CellOf, CellText, ListDrawing, ListReply};
+use desk_layers::Part;
 use scan_region::Region;
 use std::alloc::AllocError;
 use tb_geom::{Rect, Refusal};

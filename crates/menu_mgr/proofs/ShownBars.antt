@@ -7,9 +7,9 @@ use Rattle.bit_blit.specs.Draws.{Draws}
 use Rattle.def_iface.specs.declared.taken.Taken.{Taken}
 use Rattle.def_iface.specs.Meaning.{Loan}
 use Rattle.def_iface.specs.Stocked.{SlotView}
-use Rattle.def_iface.specs.Desk.{on_screen}
-use Rattle.def_iface.specs.Owner.{owner_among, own_bit, is_content}
-use Rattle.def_iface.specs.Owner.Owner.{Bar}
+use Rattle.desk_layers.specs.Desk.{on_screen}
+use Rattle.desk_layers.specs.Owner.{owner_among, own_bit, is_content}
+use Rattle.desk_layers.specs.Owner.Owner.{Bar}
 use Rattle.desk_ground.specs.Bars.{bar_picture}
 use Rattle.desk_ground.specs.declared.titles.BarTitle.{BarTitle}
 use Rattle.window_mgr.specs.declared.manager.WindowManager.{WindowManager}

@@ -8,7 +8,7 @@ use Rattle.tb_geom.specs.Points.{minus}
 use Rattle.tb_geom.specs.Rects.{rect_holds}
 use Rattle.bit_map.specs.Bits.{Bits, bounds_of}
 use Rattle.def_iface.specs.declared.taken.Taken.{Taken}
-use Rattle.def_iface.specs.Desk.{on_screen}
+use Rattle.desk_layers.specs.Desk.{on_screen}
 use Rattle.def_iface.specs.Meaning.{Loan}
 use Rattle.def_iface.specs.MenuMeaning.{MenuLoan}
 use Rattle.menu_list.specs.declared.listed.Listed.{Listed}

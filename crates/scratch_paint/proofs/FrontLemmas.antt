@@ -10,7 +10,7 @@ use Rattle.def_iface.specs.ControlMeaning.{ControlLoan}
 use Rattle.def_iface.specs.ListMeaning.{ListLoan}
 use Rattle.def_iface.specs.Meaning.{Loan}
 use Rattle.def_iface.specs.MenuMeaning.{MenuLoan}
-use Rattle.def_iface.specs.Scratch.{scratch}
+use Rattle.desk_layers.specs.Scratch.{scratch}
 use Rattle.desk_call.specs.declared.activity.Activity.{Activity}
 use Rattle.window_mgr.specs.declared.manager.WindowManager.{WindowManager}
 use Rattle.window_mgr.specs.FullDesk.{layered_desk}

@@ -20,13 +20,13 @@ use Rattle.desk_ground.specs.declared.ground.Ground.{Ground}
 use Rattle.desk_ground.specs.Screens.{is_screen, is_screen_side, is_bar, desktop}
 use Rattle.desk_ground.specs.Grounds.{IsGround}
 use Rattle.def_iface.specs.News.{no_news}
-use Rattle.def_iface.specs.declared.part.Part.{Part}
+use Rattle.desk_layers.specs.declared.part.Part.{Part}
 use Rattle.def_iface.specs.declared.taken.Taken.{Taken}
 use Rattle.def_iface.specs.declared.window_def.WindowRegions.{WindowRegions}
 use Rattle.def_iface.specs.Meaning.{IsWithin, Loan}
-use Rattle.def_iface.specs.Desk.{ContentLayer, LayeredWindow, in_structure, local, on_screen}
-use Rattle.def_iface.specs.Scratch.{painted, content_layers, window_layers, layers_of, scratch}
-use Rattle.def_iface.specs.Scratch as painting
+use Rattle.desk_layers.specs.Desk.{ContentLayer, LayeredWindow, in_structure, local, on_screen}
+use Rattle.desk_layers.specs.Scratch.{painted, content_layers, window_layers, layers_of, scratch}
+use Rattle.desk_layers.specs.Scratch as painting
 use Rattle.window_list.specs.declared.layer.Layer.{Layer}
 use Rattle.window_list.specs.Holders.{layer_has}
 use Rattle.window_list.specs.declared.list.WindowList.{WindowList}

@@ -14,7 +14,8 @@ ghost use Rattle.window_mgr.specs.Whole.{IsSettled};
 ghost use Rattle.scratch_paint.specs.Paints.{IsLocalContent, layers_value, look_in, window_value};
 
 use bit_map::BitMap;
-use def_iface::{Defined, Part, Taken, WindowRegions};
+use def_iface::{Defined, Taken, WindowRegions};
+use desk_layers::Part;
 use draw_port::Canvas;
 use scan_region::Region;
 use std::alloc::{AllocError, Global};

@@ -4,8 +4,8 @@ use Rattle.std.proofs.lemmas.Bool.{cases_Bool}
 use Rattle.tb_geom.specs.declared.refusal.Refusal.{Refusal}
 use Rattle.tb_geom.specs.declared.refusal.Refusal.TheVariants.{NoMemory, OutOfRange}
 use Rattle.tb_geom.specs.declared.point.Point.{Point}
-use Rattle.def_iface.specs.declared.part.Part.{Part}
-use Rattle.def_iface.specs.declared.part.Part.TheVariants as parts
+use Rattle.desk_layers.specs.declared.part.Part.{Part}
+use Rattle.desk_layers.specs.declared.part.Part.TheVariants as parts
 use Rattle.def_iface.specs.declared.taken.Taken.{Taken}
 use Rattle.def_iface.specs.declared.taken_control.TakenControl.{TakenControl}
 use Rattle.def_iface.specs.declared.taken_list.TakenList.{TakenList}

@@ -8,7 +8,8 @@ ghost use Rattle.window_mgr.specs.Edits.{IsWindowAt};
 ghost use Rattle.striped_layers.specs.Relaying.{IsRelaying};
 
 use crate::stripes::Stripes;
-use def_iface::{Defined, Part, Taken};
+use def_iface::{Defined, Taken};
+use desk_layers::Part;
 use scan_region::Region;
 use std::alloc::Global;
 use tb_geom::{Point, Rect, Refusal};

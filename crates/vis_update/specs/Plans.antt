@@ -5,10 +5,10 @@ use Rattle.tb_geom.specs.Points.{PixelSet, minus}
 use Rattle.tb_geom.specs.Pixels.{Pixels, holds}
 use Rattle.def_iface.specs.declared.taken.Taken.{Taken}
 use Rattle.def_iface.specs.Meaning.{Loan, IsWithin}
-use Rattle.def_iface.specs.Desk.{LayeredDesk, on_screen}
-use Rattle.def_iface.specs.Owner.{owner, same_owner}
-use Rattle.def_iface.specs.Owner.Owner.{Frame}
-use Rattle.def_iface.specs.Change.{Change, State, had, stale_by}
+use Rattle.desk_layers.specs.Desk.{LayeredDesk, on_screen}
+use Rattle.desk_layers.specs.Owner.{owner, same_owner}
+use Rattle.desk_layers.specs.Owner.Owner.{Frame}
+use Rattle.desk_layers.specs.Change.{Change, State, had, stale_by}
 use Rattle.vis_update.specs.declared.area.Area.{Area}
 use Rattle.vis_update.specs.declared.plan.Repaint.{Repaint}
 use Rattle.vis_update.specs.declared.plan.Plan.{Plan}

@@ -8,9 +8,9 @@ use Rattle.def_iface.specs.declared.size.Size.{Size}
 use Rattle.def_iface.specs.declared.taken.Taken.{Taken}
 use Rattle.def_iface.specs.Meaning.{Definition, Loan}
 use Rattle.def_iface.specs.News.{AllNews, no_news}
-use Rattle.def_iface.specs.Desk as layers
-use Rattle.def_iface.specs.declared.part.Part.{Part}
-use Rattle.def_iface.specs.declared.part.Part.TheVariants.{Picture}
+use Rattle.desk_layers.specs.Desk as layers
+use Rattle.desk_layers.specs.declared.part.Part.{Part}
+use Rattle.desk_layers.specs.declared.part.Part.TheVariants.{Picture}
 use Rattle.window_list.specs.declared.layer.Layer.{Layer}
 use Rattle.window_list.specs.Holders.{layer_has}
 use Rattle.window_list.specs.declared.window.Heard.{Heard}

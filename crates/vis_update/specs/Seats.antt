@@ -5,9 +5,9 @@ use Rattle.tb_geom.specs.Points.{PixelSet}
 use Rattle.tb_geom.specs.Pixels.{Pixels, holds}
 use Rattle.def_iface.specs.declared.taken.Taken.{Taken}
 use Rattle.def_iface.specs.Meaning.{Loan}
-use Rattle.def_iface.specs.Desk.{LayeredDesk, IsDesk, on_screen, in_bar}
-use Rattle.def_iface.specs.Owner.{owner}
-use Rattle.def_iface.specs.Change.{State}
+use Rattle.desk_layers.specs.Desk.{LayeredDesk, IsDesk, on_screen, in_bar}
+use Rattle.desk_layers.specs.Owner.{owner}
+use Rattle.desk_layers.specs.Change.{State}
 use Rattle.window_list.specs.declared.window.Window.{Window}
 use Rattle.vis_update.specs.declared.area.Area.{Area}
 use Rattle.vis_update.specs.declared.plan.Seat.{Seat}

@@ -7,8 +7,8 @@ use Rattle.std.proofs.lemmas.Bool.Decides.{nat_tests}
 use Rattle.std.proofs.lemmas.List.{length-map}
 use Rattle.def_iface.specs.declared.taken.Taken.{Taken}
 use Rattle.def_iface.specs.Meaning.{Definition, Loan}
-use Rattle.def_iface.specs.Desk as layers
-use Rattle.def_iface.proofs.Owning.{same_number}
+use Rattle.desk_layers.specs.Desk as layers
+use Rattle.desk_layers.proofs.Owning.{same_number}
 use Rattle.vis_update.specs.Records.{WindowRecord, Look, layered_window, record_of}
 use Rattle.window_list.specs.declared.window.Window.{Window}
 use Rattle.window_mgr.specs.declared.manager.WindowManager.{WindowManager}

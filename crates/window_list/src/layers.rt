@@ -10,7 +10,7 @@ ghost use Rattle.window_list.specs.LayerChanges.{with_shape, is_gained, reshaped
 
 use crate::layer::{Layer, LayerShape};
 use crate::moves::{local, move_all, move_by};
-use def_iface::Part;
+use desk_layers::Part;
 use scan_region::Region;
 use std::alloc::{AllocError, Global};
 use std::marker::Model;

@@ -10,11 +10,11 @@ use Rattle.bit_map.specs.Bits.{on_map, bit, is_below}
 use Rattle.def_iface.specs.declared.taken.Taken.{Taken}
 use Rattle.def_iface.specs.Meaning.{Loan}
 use Rattle.def_iface.specs.Stocked.{SlotView}
-use Rattle.def_iface.specs.Desk as layers
-use Rattle.def_iface.specs.Desk.{LayeredDesk}
-use Rattle.def_iface.specs.Owner.{owner, own_bit, is_content}
-use Rattle.def_iface.specs.Owner.Owner.{Frame}
-use Rattle.def_iface.specs.Change as plain
+use Rattle.desk_layers.specs.Desk as layers
+use Rattle.desk_layers.specs.Desk.{LayeredDesk}
+use Rattle.desk_layers.specs.Owner.{owner, own_bit, is_content}
+use Rattle.desk_layers.specs.Owner.Owner.{Frame}
+use Rattle.desk_layers.specs.Change as plain
 use Rattle.window_mgr.specs.declared.manager.WindowManager.{WindowManager}
 use Rattle.vis_update.specs.declared.area.Area.{Area}
 use Rattle.vis_update.specs.declared.plan.Plan.{Plan}

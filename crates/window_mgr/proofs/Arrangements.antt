@@ -6,11 +6,11 @@ use Rattle.tb_geom.specs.declared.point.Point.{Point}
 use Rattle.tb_geom.specs.declared.refusal.Refusal.{Refusal}
 use Rattle.tb_geom.specs.declared.refusal.Refusal.TheVariants.{NoSuchWindow}
 use Rattle.tb_geom.specs.Points.{minus}
-use Rattle.def_iface.specs.declared.part.Part.{Part}
-use Rattle.def_iface.specs.Desk as layers
-use Rattle.def_iface.specs.Owner.{content_bit, layer_bit}
-use Rattle.def_iface.specs.Owner.Owner.{Content}
-use Rattle.def_iface.proofs.Owning.{same_number}
+use Rattle.desk_layers.specs.declared.part.Part.{Part}
+use Rattle.desk_layers.specs.Desk as layers
+use Rattle.desk_layers.specs.Owner.{content_bit, layer_bit}
+use Rattle.desk_layers.specs.Owner.Owner.{Content}
+use Rattle.desk_layers.proofs.Owning.{same_number}
 use Rattle.window_list.specs.Classes.{front_place, back_place}
 use Rattle.vis_update.specs.Records.{WindowRecord, Look, layered_window, is_floating}
 use Rattle.vis_update.specs.Touches.{moved_from, came_from}

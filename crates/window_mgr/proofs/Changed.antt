@@ -9,10 +9,10 @@ use Rattle.tb_geom.specs.Points.{PixelSet, minus}
 use Rattle.tb_geom.specs.Pixels.{Pixels, holds}
 use Rattle.def_iface.specs.declared.taken.Taken.{Taken}
 use Rattle.def_iface.specs.Meaning.{Definition, Loan, SameRegions}
-use Rattle.def_iface.specs.Desk as layers
-use Rattle.def_iface.specs.Desk.{LayeredDesk}
-use Rattle.def_iface.specs.Change.{State}
-use Rattle.def_iface.proofs.Owning.{same_number}
+use Rattle.desk_layers.specs.Desk as layers
+use Rattle.desk_layers.specs.Desk.{LayeredDesk}
+use Rattle.desk_layers.specs.Change.{State}
+use Rattle.desk_layers.proofs.Owning.{same_number}
 use Rattle.desk_call.specs.declared.window.NewWindow.{NewWindow}
 use Rattle.window_list.specs.declared.window.Window.{Window}
 use Rattle.vis_update.specs.declared.area.Area.{Area}

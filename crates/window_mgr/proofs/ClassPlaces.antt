@@ -6,10 +6,10 @@ use Rattle.std.proofs.lemmas.List.{length-map}
 use Rattle.tb_geom.specs.declared.point.Point.{Point}
 use Rattle.def_iface.specs.declared.taken.Taken.{Taken}
 use Rattle.def_iface.specs.Meaning.{Definition, Loan}
-use Rattle.def_iface.specs.Desk as layers
-use Rattle.def_iface.specs.Owner.{Owner, own_bit, frame_bit, content_bit}
-use Rattle.def_iface.specs.Owner.Owner.{Desktop, Bar, Frame, Content}
-use Rattle.def_iface.proofs.Owning.{is_other}
+use Rattle.desk_layers.specs.Desk as layers
+use Rattle.desk_layers.specs.Owner.{Owner, own_bit, frame_bit, content_bit}
+use Rattle.desk_layers.specs.Owner.Owner.{Desktop, Bar, Frame, Content}
+use Rattle.desk_layers.proofs.Owning.{is_other}
 use Rattle.desk_call.specs.declared.window.NewWindow.{NewWindow}
 use Rattle.window_list.specs.Classes.{front_place, back_place}
 use Rattle.window_list.specs.Lists.{floats}

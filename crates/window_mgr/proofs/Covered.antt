@@ -7,15 +7,15 @@ use Rattle.tb_geom.specs.declared.point.Point.{Point}
 use Rattle.tb_geom.specs.Points.{minus}
 use Rattle.tb_geom.specs.Pixels.{Pixels, holds}
 use Rattle.def_iface.specs.declared.taken.Taken.{Taken}
-use Rattle.def_iface.specs.declared.part.Part.{Part}
-use Rattle.def_iface.specs.declared.part.Part.TheVariants.{Picture}
+use Rattle.desk_layers.specs.declared.part.Part.{Part}
+use Rattle.desk_layers.specs.declared.part.Part.TheVariants.{Picture}
 use Rattle.def_iface.specs.Meaning.{Loan}
 use Rattle.def_iface.specs.Stocked.{SlotView}
-use Rattle.def_iface.specs.Desk as layers
-use Rattle.def_iface.specs.Desk.{same_part}
-use Rattle.def_iface.specs.Owner.{Owner, owner, same_owner}
-use Rattle.def_iface.specs.Owner.Owner.{Desktop, Bar, Frame, Content}
-use Rattle.def_iface.proofs.Owning.{same_number}
+use Rattle.desk_layers.specs.Desk as layers
+use Rattle.desk_layers.specs.Desk.{same_part}
+use Rattle.desk_layers.specs.Owner.{Owner, owner, same_owner}
+use Rattle.desk_layers.specs.Owner.Owner.{Desktop, Bar, Frame, Content}
+use Rattle.desk_layers.proofs.Owning.{same_number}
 use Rattle.window_list.specs.Holders.{part_at, is_covered}
 use Rattle.window_list.proofs.Parts.{covered_is}
 use Rattle.window_list.specs.declared.window.Window.{Window}

@@ -8,8 +8,8 @@ use Rattle.def_iface.specs.declared.taken.Taken.{Taken}
 use Rattle.def_iface.specs.declared.window_def.Stage.TheVariants.{Live}
 use Rattle.def_iface.specs.Meaning.{Loan}
 use Rattle.def_iface.specs.Stocked.{SlotView, is_left}
-use Rattle.def_iface.specs.Owner.{frame_bit}
-use Rattle.def_iface.specs.Change.{IsChanged, no_change}
+use Rattle.desk_layers.specs.Owner.{frame_bit}
+use Rattle.desk_layers.specs.Change.{IsChanged, no_change}
 use Rattle.window_list.specs.declared.window.Window.{Window}
 use Rattle.vis_update.specs.declared.plan.Plan.{Plan}
 use Rattle.vis_update.specs.declared.plan.Touch.{Touch}

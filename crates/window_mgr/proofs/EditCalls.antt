@@ -9,8 +9,8 @@ use Rattle.tb_geom.specs.Rects.{rect_holds}
 use Rattle.def_iface.specs.declared.taken.Taken.{Taken}
 use Rattle.def_iface.specs.Meaning.{Loan, IsWithin, GoesBy}
 use Rattle.def_iface.specs.Stocked.{SlotView}
-use Rattle.def_iface.specs.Owner.{frame_bit, own_bit}
-use Rattle.def_iface.specs.Owner.Owner.{Frame}
+use Rattle.desk_layers.specs.Owner.{frame_bit, own_bit}
+use Rattle.desk_layers.specs.Owner.Owner.{Frame}
 use Rattle.window_list.specs.declared.window.Window.{Window}
 use Rattle.window_list.specs.Ranks.{moved_item}
 use Rattle.window_list.specs.Lists.{relit, lit as lit_window, dimmed}
@@ -20,7 +20,7 @@ use Rattle.vis_update.specs.Records.{WindowRecord, news_of, record_of}
 use Rattle.vis_update.specs.Places.{is_placed}
 use Rattle.vis_update.specs.Seats.{stand_of}
 use Rattle.vis_update.specs.Touches.{moving, draws_whole}
-use Rattle.def_iface.specs.Change.{IsChanged}
+use Rattle.desk_layers.specs.Change.{IsChanged}
 use Rattle.vis_update.proofs.PlaceLemmas.{placed_parts}
 use Rattle.desk_call.specs.declared.window.WindowReply.TheVariants.{Done}
 use Rattle.window_mgr.specs.declared.arrange.Activates.{Activates}

@@ -10,7 +10,7 @@ use Rattle.tb_geom.specs.Points.{minus}
 use Rattle.tb_geom.specs.Pixels.{Pixels, holds}
 use Rattle.def_iface.specs.declared.taken.Taken.{Taken}
 use Rattle.def_iface.specs.Meaning.{Loan}
-use Rattle.def_iface.specs.Change.{State}
+use Rattle.desk_layers.specs.Change.{State}
 use Rattle.window_list.specs.declared.window.Window.{Window}
 use Rattle.window_list.specs.Ranks.{insert_option, moved_item}
 use Rattle.window_list.specs.Lists.{edit}

@@ -14,11 +14,11 @@ use Rattle.bit_map.specs.Patterns.{pattern_bit}
 use Rattle.def_iface.specs.declared.taken.Taken.{Taken}
 use Rattle.def_iface.specs.Meaning.{Loan}
 use Rattle.def_iface.specs.Stocked.{SlotView, IsFull}
-use Rattle.def_iface.specs.Desk as layers
-use Rattle.def_iface.specs.Owner.{owner, own_bit, same_owner, is_content}
-use Rattle.def_iface.specs.Owner.Owner.{Bar, Desktop}
-use Rattle.def_iface.specs.Scratch.{scratch}
-use Rattle.def_iface.proofs.Painting.{scratch_is_owners}
+use Rattle.desk_layers.specs.Desk as layers
+use Rattle.desk_layers.specs.Owner.{owner, own_bit, same_owner, is_content}
+use Rattle.desk_layers.specs.Owner.Owner.{Bar, Desktop}
+use Rattle.desk_layers.specs.Scratch.{scratch}
+use Rattle.desk_layers.proofs.Painting.{scratch_is_owners}
 use Rattle.window_mgr.specs.declared.manager.WindowManager.{WindowManager}
 use Rattle.vis_update.specs.declared.area.Area.{Area}
 use Rattle.window_mgr.specs.FullDesk.{FullDesk, layered_desk}

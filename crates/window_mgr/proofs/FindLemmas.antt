@@ -16,11 +16,11 @@ use Rattle.tb_geom.specs.Pixels.{holds}
 use Rattle.def_iface.specs.News.{no_news}
 use Rattle.def_iface.specs.declared.taken.Taken.{Taken}
 use Rattle.def_iface.specs.Meaning.{Loan}
-use Rattle.def_iface.specs.Desk as layers
-use Rattle.def_iface.specs.Desk.{LayeredDesk}
-use Rattle.def_iface.specs.Owner.{Owner, owner, owner_among, same_owner}
-use Rattle.def_iface.specs.Owner.Owner.{Desktop, Bar, Frame, Content}
-use Rattle.def_iface.proofs.Owning.{same_number, same_owner-true, not_first}
+use Rattle.desk_layers.specs.Desk as layers
+use Rattle.desk_layers.specs.Desk.{LayeredDesk}
+use Rattle.desk_layers.specs.Owner.{Owner, owner, owner_among, same_owner}
+use Rattle.desk_layers.specs.Owner.Owner.{Desktop, Bar, Frame, Content}
+use Rattle.desk_layers.proofs.Owning.{same_number, same_owner-true, not_first}
 use Rattle.vis_update.specs.declared.area.Area.{Area}
 use Rattle.window_list.specs.Holders.{part_at as layer_at}
 use Rattle.vis_update.proofs.LayerOwners.{first_owner, owner_first}

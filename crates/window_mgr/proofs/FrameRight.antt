@@ -6,11 +6,11 @@ use Rattle.draw_port.specs.Ops.{picture_bit}
 use Rattle.def_iface.specs.News.{News}
 use Rattle.def_iface.specs.Meaning.{Hears}
 use Rattle.def_iface.specs.declared.window_def.WindowChange.{WindowChange}
-use Rattle.def_iface.specs.declared.part.Part.{Part}
-use Rattle.def_iface.specs.Desk as layers
-use Rattle.def_iface.specs.Owner.{layer_bit, content_bit}
-use Rattle.def_iface.specs.Change as plain
-use Rattle.def_iface.proofs.Changing.{stays_right}
+use Rattle.desk_layers.specs.declared.part.Part.{Part}
+use Rattle.desk_layers.specs.Desk as layers
+use Rattle.desk_layers.specs.Owner.{layer_bit, content_bit}
+use Rattle.desk_layers.specs.Change as plain
+use Rattle.desk_layers.proofs.Changing.{stays_right}
 use Rattle.vis_update.specs.Records.{WindowRecord, layered_window}
 use Rattle.window_mgr.specs.declared.arrange.Activation.TheVariants.{Stays}
 use Rattle.window_mgr.specs.Arrange.{changed}

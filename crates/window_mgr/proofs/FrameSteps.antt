@@ -7,12 +7,12 @@ use Rattle.def_iface.specs.News.{no_news, told_change}
 use Rattle.def_iface.specs.declared.window_def.WindowChange.{WindowChange}
 use Rattle.def_iface.specs.declared.window_def.WindowChange.TheVariants.{Resized, Titled, Highlighted, Closable, Zoomed, Tracked}
 use Rattle.def_iface.specs.Meaning.{Definition, SameRegions, Hears, GoesBy}
-use Rattle.def_iface.specs.Desk as layers
-use Rattle.def_iface.specs.declared.part.Part.TheVariants.{Picture}
-use Rattle.def_iface.specs.Owner.{owner, owner_among, owner_within, own_bit, frame_bit}
-use Rattle.def_iface.specs.Owner.Owner.{Bar, Frame}
+use Rattle.desk_layers.specs.Desk as layers
+use Rattle.desk_layers.specs.declared.part.Part.TheVariants.{Picture}
+use Rattle.desk_layers.specs.Owner.{owner, owner_among, owner_within, own_bit, frame_bit}
+use Rattle.desk_layers.specs.Owner.Owner.{Bar, Frame}
 use Rattle.def_iface.proofs.Hearing.{goes_by_news}
-use Rattle.def_iface.proofs.Owning.{same_number}
+use Rattle.desk_layers.proofs.Owning.{same_number}
 use Rattle.window_list.specs.Changes.{keeps_size}
 use Rattle.vis_update.specs.Records.{WindowRecord, Look, content_layer, layered_window, news_of}
 use Rattle.window_mgr.specs.declared.arrange.Activation.TheVariants.{Stays}

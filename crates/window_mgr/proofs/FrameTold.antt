@@ -20,14 +20,14 @@ use Rattle.def_iface.specs.declared.window_def.WindowChange.TheVariants.{Resized
 use Rattle.def_iface.specs.Meaning.{Definition, Loan, IsWithin}
 use Rattle.def_iface.specs.Sizes.{is_size}
 use Rattle.def_iface.specs.Stocked.{SlotView}
-use Rattle.def_iface.specs.Desk as layers
-use Rattle.def_iface.specs.Desk.{LayeredDesk}
-use Rattle.def_iface.specs.Owner.{Owner, owner, owner_among, owner_within, own_bit, same_owner, is_content}
-use Rattle.def_iface.specs.Owner.Owner.{Desktop, Bar, Frame, Content}
-use Rattle.def_iface.specs.Scratch.{scratch}
-use Rattle.def_iface.specs.Change as plain
-use Rattle.def_iface.proofs.Owning.{same_number, same_owner-self, is_other, owner_is_other}
-use Rattle.def_iface.proofs.Painting.{scratch_is_owners}
+use Rattle.desk_layers.specs.Desk as layers
+use Rattle.desk_layers.specs.Desk.{LayeredDesk}
+use Rattle.desk_layers.specs.Owner.{Owner, owner, owner_among, owner_within, own_bit, same_owner, is_content}
+use Rattle.desk_layers.specs.Owner.Owner.{Desktop, Bar, Frame, Content}
+use Rattle.desk_layers.specs.Scratch.{scratch}
+use Rattle.desk_layers.specs.Change as plain
+use Rattle.desk_layers.proofs.Owning.{same_number, same_owner-self, is_other, owner_is_other}
+use Rattle.desk_layers.proofs.Painting.{scratch_is_owners}
 use Rattle.vis_update.specs.declared.area.Area.{Area}
 use Rattle.vis_update.specs.Areas.{IsArea, AreAreas, IsGray, IsDesktop, is_content_of, stale_in}
 use Rattle.vis_update.specs.Records.{WindowRecord, Look, layered_window, record_of}

@@ -18,11 +18,11 @@ use Rattle.def_iface.specs.Sizes.{is_size}
 use Rattle.def_iface.specs.News.{AllNews, new_window_news}
 use Rattle.def_iface.specs.Meaning.{Definition, Loan, IsBegun, IsWithin, is_fitting}
 use Rattle.def_iface.specs.Stocked.{SlotView, IsTaken, IsNotTaken, IsPutBack}
-use Rattle.def_iface.specs.Desk as layers
-use Rattle.def_iface.specs.Owner.{own_bit}
-use Rattle.def_iface.specs.Owner.Owner.{Frame}
+use Rattle.desk_layers.specs.Desk as layers
+use Rattle.desk_layers.specs.Owner.{own_bit}
+use Rattle.desk_layers.specs.Owner.Owner.{Frame}
 use Rattle.def_iface.proofs.Hearing.{goes_by_all}
-use Rattle.def_iface.specs.Change as plain
+use Rattle.desk_layers.specs.Change as plain
 use Rattle.desk_call.specs.declared.window.NewWindow.{NewWindow}
 use Rattle.desk_call.specs.declared.window.WindowCall.TheVariants.{New, NewFloating}
 use Rattle.desk_call.specs.declared.window.WindowReply.TheVariants.{Made}

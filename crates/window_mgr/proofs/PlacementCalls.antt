@@ -20,8 +20,8 @@ use Rattle.def_iface.specs.Meaning.{Loan, IsWithin}
 use Rattle.def_iface.specs.News.{told_placed}
 use Rattle.def_iface.proofs.Hearing.{goes_by_news}
 use Rattle.def_iface.specs.Stocked.{SlotView}
-use Rattle.def_iface.specs.Owner.{frame_bit}
-use Rattle.def_iface.specs.Change.{IsChanged}
+use Rattle.desk_layers.specs.Owner.{frame_bit}
+use Rattle.desk_layers.specs.Change.{IsChanged}
 use Rattle.window_list.specs.declared.window.Placement.{Placement}
 use Rattle.window_list.specs.declared.window.UserState.{UserState}
 use Rattle.window_list.specs.declared.window.Window.{Window}

@@ -12,11 +12,11 @@ use Rattle.bit_map.specs.Bits.{Bits, bit}
 use Rattle.def_iface.specs.declared.taken.Taken.{Taken}
 use Rattle.def_iface.specs.Meaning.{Loan}
 use Rattle.def_iface.specs.Stocked.{SlotView}
-use Rattle.def_iface.specs.Desk as layers
-use Rattle.def_iface.specs.Desk.{LayeredDesk}
-use Rattle.def_iface.specs.Owner.{owner, own_bit, is_content}
-use Rattle.def_iface.specs.Change as plain
-use Rattle.def_iface.proofs.Owning.{same_number, same_owner-self, not_first}
+use Rattle.desk_layers.specs.Desk as layers
+use Rattle.desk_layers.specs.Desk.{LayeredDesk}
+use Rattle.desk_layers.specs.Owner.{owner, own_bit, is_content}
+use Rattle.desk_layers.specs.Change as plain
+use Rattle.desk_layers.proofs.Owning.{same_number, same_owner-self, not_first}
 use Rattle.vis_update.specs.declared.area.Area.{Area}
 use Rattle.vis_update.specs.Areas.{IsGray, IsDesktop, IsArea, AreAreas, is_content_of, stale_in}
 use Rattle.vis_update.specs.Plans.{stale_after, AreAreasAfter}

@@ -6,13 +6,13 @@ use Rattle.tb_geom.specs.declared.point.Point.{Point}
 use Rattle.tb_geom.specs.declared.refusal.Refusal.{Refusal}
 use Rattle.tb_geom.specs.Points.{PixelSet, plus}
 use Rattle.def_iface.specs.Meaning.{Definition}
-use Rattle.def_iface.specs.Desk as layers
-use Rattle.def_iface.specs.Owner.{Owner, owner, owner_among, is_content}
-use Rattle.def_iface.specs.Owner.Owner.{Bar}
-use Rattle.def_iface.specs.Scratch.{scratch}
-use Rattle.def_iface.specs.Change as plain
-use Rattle.def_iface.proofs.Owning.{is_other, owner_is_other, same_owner-true}
-use Rattle.def_iface.proofs.Changing.{stays_right}
+use Rattle.desk_layers.specs.Desk as layers
+use Rattle.desk_layers.specs.Owner.{Owner, owner, owner_among, is_content}
+use Rattle.desk_layers.specs.Owner.Owner.{Bar}
+use Rattle.desk_layers.specs.Scratch.{scratch}
+use Rattle.desk_layers.specs.Change as plain
+use Rattle.desk_layers.proofs.Owning.{is_other, owner_is_other, same_owner-true}
+use Rattle.desk_layers.proofs.Changing.{stays_right}
 use Rattle.desk_call.specs.declared.window.WindowCall.{WindowCall}
 use Rattle.desk_call.specs.declared.window.Drawing.{Drawing}
 use Rattle.desk_call.specs.declared.window.NewPicture.{NewPicture}

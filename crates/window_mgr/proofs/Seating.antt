@@ -11,9 +11,9 @@ use Rattle.tb_geom.specs.Points.{PixelSet}
 use Rattle.tb_geom.specs.Pixels.{Pixels}
 use Rattle.def_iface.specs.declared.taken.Taken.{Taken}
 use Rattle.def_iface.specs.Meaning.{Definition, Loan, SameRegions}
-use Rattle.def_iface.specs.Desk as layers
-use Rattle.def_iface.specs.Desk.{LayeredDesk}
-use Rattle.def_iface.specs.Change.{State}
+use Rattle.desk_layers.specs.Desk as layers
+use Rattle.desk_layers.specs.Desk.{LayeredDesk}
+use Rattle.desk_layers.specs.Change.{State}
 use Rattle.desk_call.specs.declared.window.NewWindow.{NewWindow}
 use Rattle.window_mgr.specs.declared.manager.WindowManager.{WindowManager}
 use Rattle.vis_update.specs.declared.area.Area.{Area}

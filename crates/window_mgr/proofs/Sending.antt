@@ -10,8 +10,8 @@ use Rattle.std.proofs.lemmas.Option.{slice_get-map, slice_get-get_or}
 use Rattle.tb_geom.specs.declared.refusal.Refusal.TheVariants.{NoSuchWindow, OutOfRange}
 use Rattle.def_iface.specs.declared.taken.Taken.{Taken}
 use Rattle.def_iface.specs.Meaning.{Loan}
-use Rattle.def_iface.specs.Desk as layers
-use Rattle.def_iface.proofs.Owning.{same_number}
+use Rattle.desk_layers.specs.Desk as layers
+use Rattle.desk_layers.proofs.Owning.{same_number}
 use Rattle.window_list.specs.Classes.{back_place}
 use Rattle.window_list.specs.Lists.{floats}
 use Rattle.window_list.specs.declared.window.Window.{Window}

@@ -11,7 +11,7 @@ use Rattle.tb_geom.specs.Rects.{in_plane}
 use Rattle.def_iface.specs.declared.taken.Taken.{Taken}
 use Rattle.def_iface.specs.Meaning.{Loan}
 use Rattle.def_iface.specs.Stocked.{SlotView}
-use Rattle.def_iface.specs.Desk as layers
+use Rattle.desk_layers.specs.Desk as layers
 use Rattle.window_list.specs.Classes.{front_place}
 use Rattle.window_list.specs.Lists.{floats, leads}
 use Rattle.window_list.specs.declared.window.Window.{Window}

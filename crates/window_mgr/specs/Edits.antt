@@ -8,7 +8,7 @@ use Rattle.tb_geom.specs.declared.refusal.Refusal.TheVariants.{NoMemory}
 use Rattle.def_iface.specs.declared.taken.Taken.{Taken}
 use Rattle.def_iface.specs.Meaning.{Loan}
 use Rattle.def_iface.specs.Stocked.{SlotView}
-use Rattle.def_iface.specs.Desk.{IsDesk}
+use Rattle.desk_layers.specs.Desk.{IsDesk}
 use Rattle.window_list.specs.declared.window.Window.{Window}
 use Rattle.window_list.specs.Lists.{with_stand, relit}
 use Rattle.vis_update.specs.declared.area.Area.{Area}

@@ -11,11 +11,11 @@ use Rattle.def_iface.specs.declared.size.Size as sizes
 use Rattle.def_iface.specs.declared.window_def.Stage.TheVariants.{Live}
 use Rattle.def_iface.specs.Meaning.{Definition, Loan, SameRegions, Hears, IsBegun}
 use Rattle.def_iface.specs.Stocked.{IsTaken}
-use Rattle.def_iface.specs.Desk.{on_screen}
-use Rattle.def_iface.specs.declared.part.Part.TheVariants.{Picture}
-use Rattle.def_iface.specs.Owner.{same_owner}
-use Rattle.def_iface.specs.Owner.Owner.{Content}
-use Rattle.def_iface.specs.Change.{Change, no_change, IsChanged}
+use Rattle.desk_layers.specs.Desk.{on_screen}
+use Rattle.desk_layers.specs.declared.part.Part.TheVariants.{Picture}
+use Rattle.desk_layers.specs.Owner.{same_owner}
+use Rattle.desk_layers.specs.Owner.Owner.{Content}
+use Rattle.desk_layers.specs.Change.{Change, no_change, IsChanged}
 use Rattle.window_list.specs.Classes.{put_front}
 use Rattle.window_list.specs.Lists.{serial_after}
 use Rattle.vis_update.specs.Records.{WindowRecord, is_floating}

@@ -4,7 +4,7 @@ use Rattle.def_iface.specs.News.{News}
 use Rattle.def_iface.specs.declared.window_def.WindowChange.{WindowChange}
 use Rattle.def_iface.specs.declared.window_def.WindowChange.TheVariants.{Resized, Titled, Highlighted, Closable, Zoomed, Tracked}
 use Rattle.def_iface.specs.Meaning.{Definition}
-use Rattle.def_iface.specs.Change.{no_change, IsChanged}
+use Rattle.desk_layers.specs.Change.{no_change, IsChanged}
 use Rattle.vis_update.specs.Records.{WindowRecord}
 use Rattle.window_mgr.specs.Arrange.{changed}
 use Rattle.window_mgr.specs.Effects.{IsToldSize}

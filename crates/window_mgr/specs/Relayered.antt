@@ -7,13 +7,13 @@ use Rattle.tb_geom.specs.declared.rect.Rect.{Rect}
 use Rattle.tb_geom.specs.Points.{PixelSet, minus}
 use Rattle.tb_geom.specs.Pixels.{Pixels, holds}
 use Rattle.tb_geom.specs.Rects.{rect_holds}
-use Rattle.def_iface.specs.declared.part.Part.{Part}
+use Rattle.desk_layers.specs.declared.part.Part.{Part}
 use Rattle.def_iface.specs.declared.taken.Taken.{Taken}
 use Rattle.def_iface.specs.Meaning.{Loan}
-use Rattle.def_iface.specs.Desk.{LayeredDesk}
-use Rattle.def_iface.specs.Owner.{same_owner}
-use Rattle.def_iface.specs.Owner.Owner.{Content}
-use Rattle.def_iface.specs.Change.{Change, no_change, IsChanged}
+use Rattle.desk_layers.specs.Desk.{LayeredDesk}
+use Rattle.desk_layers.specs.Owner.{same_owner}
+use Rattle.desk_layers.specs.Owner.Owner.{Content}
+use Rattle.desk_layers.specs.Change.{Change, no_change, IsChanged}
 use Rattle.window_list.specs.declared.layer.Layer.{Layer}
 use Rattle.window_list.specs.declared.layers.Relaid.{Relaid}
 use Rattle.window_list.specs.Holders.{PlacedLayers, ArePartsApart, fits_at}

@@ -7,8 +7,8 @@ use Rattle.def_iface.specs.declared.taken.Taken.{Taken}
 use Rattle.def_iface.specs.declared.window_def.Stage.TheVariants.{Live}
 use Rattle.def_iface.specs.Meaning.{Loan, IsWithin, GoesBy, is_fitting}
 use Rattle.def_iface.specs.Stocked.{SlotView, IsFull, is_left}
-use Rattle.def_iface.specs.Desk.{IsDesk, on_screen}
-use Rattle.def_iface.specs.Owner.{owner, own_bit, is_content}
+use Rattle.desk_layers.specs.Desk.{IsDesk, on_screen}
+use Rattle.desk_layers.specs.Owner.{owner, own_bit, is_content}
 use Rattle.window_list.specs.Holders.{fits_at}
 use Rattle.window_list.specs.declared.window.Window.{Window}
 use Rattle.vis_update.specs.Records.{WindowRecord, news_of}

@@ -2,7 +2,7 @@
 //! their place, which does not.
 ghost use Rattle.std.specs.Prelude.{◌≡◌, ◌<◌, ℕ, slice_index_or, List, length, Option, IfOk, IfSome};
 ghost use Rattle.tb_geom.specs.Points.{PixelSet};
-ghost use Rattle.def_iface.specs.declared.part.Part.{Part};
+ghost use Rattle.desk_layers.specs.declared.part.Part.{Part};
 ghost use Rattle.def_iface.specs.Stocked.{SlotView};
 ghost use Rattle.window_list.specs.declared.layer.Layer.{Layer};
 ghost use Rattle.window_list.specs.Holders.{ArePartsApart};

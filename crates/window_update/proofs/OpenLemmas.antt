@@ -5,14 +5,14 @@ use Rattle.std.proofs.lemmas.Bool.{false≢true, and_parts}
 use Rattle.tb_geom.specs.declared.point.Point.{Point}
 use Rattle.tb_geom.specs.Points.{PixelSet, minus}
 use Rattle.tb_geom.specs.Pixels.{Pixels, holds}
-use Rattle.def_iface.specs.declared.part.Part.{Part}
+use Rattle.desk_layers.specs.declared.part.Part.{Part}
 use Rattle.def_iface.specs.declared.taken.Taken.{Taken}
 use Rattle.def_iface.specs.Meaning.{Loan}
-use Rattle.def_iface.specs.Desk.{LayeredDesk, on_screen}
-use Rattle.def_iface.specs.Owner.{Owner, owner, is_content}
-use Rattle.def_iface.specs.Owner.Owner.{Desktop, Bar, Frame, Content}
-use Rattle.def_iface.specs.Change.{stale_by}
-use Rattle.def_iface.proofs.Owning.{same_number, same_owner-self}
+use Rattle.desk_layers.specs.Desk.{LayeredDesk, on_screen}
+use Rattle.desk_layers.specs.Owner.{Owner, owner, is_content}
+use Rattle.desk_layers.specs.Owner.Owner.{Desktop, Bar, Frame, Content}
+use Rattle.desk_layers.specs.Change.{stale_by}
+use Rattle.desk_layers.proofs.Owning.{same_number, same_owner-self}
 use Rattle.desk_call.specs.declared.update.LayerKind.{LayerKind}
 use Rattle.window_list.specs.Holders.{part_at}
 use Rattle.vis_update.specs.declared.area.Area.{Area}

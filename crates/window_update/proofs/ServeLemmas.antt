@@ -7,7 +7,7 @@ use Rattle.tb_geom.specs.declared.refusal.Refusal.TheVariants.{NoMemory, NoSuchW
 use Rattle.tb_geom.specs.Points.{PixelSet, plus}
 use Rattle.tb_geom.specs.Pixels.{Pixels, holds}
 use Rattle.region_bytes.specs.Bytes.{IsUnwritten}
-use Rattle.def_iface.proofs.Owning.{same_number}
+use Rattle.desk_layers.proofs.Owning.{same_number}
 use Rattle.def_iface.specs.declared.taken.Taken.{Taken}
 use Rattle.def_iface.specs.Meaning.{Loan}
 use Rattle.def_iface.specs.Stocked.{SlotView}
@@ -22,8 +22,8 @@ use Rattle.desk_call.specs.declared.window.WindowReply.TheVariants.{Done}
 use Rattle.desk_call.specs.declared.window.WindowCall.{WindowCall}
 use Rattle.desk_call.specs.declared.window.WindowCall.TheVariants.{VisibleRegion, UpdateRegion}
 use Rattle.window_list.specs.declared.window.Window.{Window}
-use Rattle.def_iface.specs.declared.part.Part.{Part}
-use Rattle.def_iface.specs.Owner.{Owner, owner}
+use Rattle.desk_layers.specs.declared.part.Part.{Part}
+use Rattle.desk_layers.specs.Owner.{Owner, owner}
 use Rattle.vis_update.specs.declared.area.Area.{Area}
 use Rattle.vis_update.specs.Areas.{is_content_of, stale_in}
 use Rattle.vis_update.specs.Records.{WindowRecord, record_of}

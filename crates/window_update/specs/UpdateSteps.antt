@@ -3,10 +3,10 @@ use Rattle.std.specs.Prelude.{◌≡◌, ℕ, List, Result, Ok, Err}
 use Rattle.tb_geom.specs.declared.point.Point.{Point}
 use Rattle.tb_geom.specs.declared.refusal.Refusal.{Refusal}
 use Rattle.tb_geom.specs.Points.{PixelSet}
-use Rattle.def_iface.specs.declared.part.Part.{Part}
+use Rattle.desk_layers.specs.declared.part.Part.{Part}
 use Rattle.def_iface.specs.declared.taken.Taken.{Taken}
 use Rattle.def_iface.specs.Meaning.{Loan}
-use Rattle.def_iface.specs.Change.{Change, no_change, IsChanged}
+use Rattle.desk_layers.specs.Change.{Change, no_change, IsChanged}
 use Rattle.desk_call.specs.declared.activity.Activity.TheVariants.{Idle, Updating}
 use Rattle.desk_call.specs.declared.update.LayerKind.{LayerKind}
 use Rattle.desk_call.specs.declared.update.UpdateCall.{UpdateCall}

@@ -2,7 +2,7 @@
 ghost use Rattle.std.specs.Prelude.{◌≡◌, ◌&&◌, ℕ, List, true, length, ◌<◌, IfOk, MatchResult, [], None, Some};
 ghost use Rattle.tb_geom.specs.declared.point.Point.{Point};
 ghost use Rattle.tb_geom.specs.Points.{PixelSet, minus, plus};
-ghost use Rattle.def_iface.specs.declared.part.Part.{Part};
+ghost use Rattle.desk_layers.specs.declared.part.Part.{Part};
 ghost use Rattle.tb_geom.specs.Pixels.{holds};
 ghost use Rattle.tb_geom.specs.Rects.{in_plane};
 ghost use Rattle.scan_region.specs.Moves.{is_pixel_in_range};

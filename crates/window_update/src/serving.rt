@@ -1,6 +1,6 @@
 //! An update: begun, drawn and ended.
 ghost use Rattle.std.specs.Prelude.{◌≡◌, ℕ, List, true, IfOk, Ok};
-ghost use Rattle.def_iface.specs.declared.part.Part.{Part};
+ghost use Rattle.desk_layers.specs.declared.part.Part.{Part};
 ghost use Rattle.desk_call.specs.declared.activity.Activity.TheVariants.{Idle, Updating};
 ghost use Rattle.desk_call.specs.declared.window.WindowReply.TheVariants.{Done};
 ghost use Rattle.tb_geom.specs.declared.point.Point.{Point};

@@ -1,6 +1,6 @@
 use Rattle.std.proofs.Common.{◌≡◌, rules, None, Some}
 use Rattle.def_iface.specs.contracts.taken_control.TakenControlDefinedControl.TheImpl as control
-use Rattle.def_iface.specs.declared.part.Part.TheVariants as part
+use Rattle.desk_layers.specs.declared.part.Part.TheVariants as part
 use Rattle.window_list.specs.Holders.{layer_index}
 use Rattle.control_mgr.proofs.LayerOut.{apart_out}
 use Rattle.control_mgr.proofs.TakenOut.{ending_is, not_there, taken_out}

@@ -1,7 +1,7 @@
 use Rattle.std.proofs.Common.{Some, sym, subst}
 use Rattle.def_iface.specs.contracts.taken.TakenDefined.TheImpl as window
 use Rattle.def_iface.specs.contracts.taken_list.TakenListDefinedList.TheImpl as list
-use Rattle.def_iface.specs.declared.part.Part.TheVariants as part
+use Rattle.desk_layers.specs.declared.part.Part.TheVariants as part
 use Rattle.window_mgr.proofs.Remarked.{area_there}
 use Rattle.control_mgr.proofs.Places.{read_is, there_is}
 use Rattle.list_mgr.specs.Changing.{IsMark, IsShownOrMarked}

@@ -1,7 +1,7 @@
 use Rattle.std.proofs.Common.{true, false, Some, None, refl, sym, subst}
 use Rattle.def_iface.specs.contracts.taken.TakenDefined.TheImpl as window
 use Rattle.def_iface.specs.contracts.taken_list.TakenListDefinedList.TheImpl as list
-use Rattle.def_iface.specs.declared.part.Part.TheVariants as part
+use Rattle.desk_layers.specs.declared.part.Part.TheVariants as part
 use Rattle.list_cells.specs.Selections.{IsChange, selected_by}
 use Rattle.list_cells.proofs.SelectionLemmas.{selecting_by}
 use Rattle.list_view.specs.Shown.{is_turned}

@@ -2,9 +2,9 @@
 use Rattle.std.specs.Prelude.{◌≡◌, Bool, true, false, not, ◌&&◌, if◌then◌else◌}
 use Rattle.tb_geom.specs.declared.point.Point.{Point}
 use Rattle.tb_geom.specs.Points.{PixelSet}
-use Rattle.def_iface.specs.Desk.{LayeredDesk, IsDesk, on_screen}
-use Rattle.def_iface.specs.Owner.{Owner, owner, own_bit, same_owner, is_content}
-use Rattle.def_iface.specs.Scratch.{scratch}
+use Rattle.desk_layers.specs.Desk.{LayeredDesk, IsDesk, on_screen}
+use Rattle.desk_layers.specs.Owner.{Owner, owner, own_bit, same_owner, is_content}
+use Rattle.desk_layers.specs.Scratch.{scratch}
 
 -- a desk, the pixels of its update sets, and the image on its screen
 pub record State : Type 0 where

@@ -2,7 +2,7 @@
 use Rattle.std.specs.Prelude.{Bool, true, false, ◌&&◌, if◌then◌else◌, List, [], ◌∷◌, ◌++◌, fold}
 use Rattle.tb_geom.specs.declared.point.Point.{Point}
 use Rattle.tb_geom.specs.Points.{PixelSet}
-use Rattle.def_iface.specs.Desk.{ContentLayer, LayeredWindow, LayeredDesk, local, in_bar, in_structure}
+use Rattle.desk_layers.specs.Desk.{ContentLayer, LayeredWindow, LayeredDesk, local, in_bar, in_structure}
 
 -- something that is painted on the screen: where it lies, and what it shows there
 pub record Layer : Type 0 where

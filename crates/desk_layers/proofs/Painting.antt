@@ -2,12 +2,12 @@
 use Rattle.std.proofs.Common.{◌≡◌, Bool, true, false, ◌&&◌, if◌then◌else◌, List, [], ◌∷◌, fold, Some, refl, sym, ◌∙◌, ap}
 use Rattle.std.proofs.lemmas.Grind.{fold-append}
 use Rattle.tb_geom.specs.declared.point.Point.{Point}
-use Rattle.def_iface.specs.declared.part.Part.{Part}
-use Rattle.def_iface.specs.Desk.{ContentLayer, LayeredWindow, LayeredDesk, IsDesk, AreParts, AreWindows, in_structure, in_bar, local, layer_of}
-use Rattle.def_iface.specs.Owner.{Owner, owner, owner_among, owner_within, own_bit}
-use Rattle.def_iface.specs.Owner.Owner.{Bar, Frame, Content}
-use Rattle.def_iface.specs.Scratch.{painted, content_layers, window_layers, layers_of, scratch}
-use Rattle.def_iface.proofs.Owning.{same_number, same_part-self, owner_is_other, own_bit-behind, layer_of-behind}
+use Rattle.desk_layers.specs.declared.part.Part.{Part}
+use Rattle.desk_layers.specs.Desk.{ContentLayer, LayeredWindow, LayeredDesk, IsDesk, AreParts, AreWindows, in_structure, in_bar, local, layer_of}
+use Rattle.desk_layers.specs.Owner.{Owner, owner, owner_among, owner_within, own_bit}
+use Rattle.desk_layers.specs.Owner.Owner.{Bar, Frame, Content}
+use Rattle.desk_layers.specs.Scratch.{painted, content_layers, window_layers, layers_of, scratch}
+use Rattle.desk_layers.proofs.Owning.{same_number, same_part-self, owner_is_other, own_bit-behind, layer_of-behind}
 
 -- the value of the first content layer that holds the pixel, else the value under them
 first_value : LayeredWindow → List ContentLayer → Point → Bool → Bool

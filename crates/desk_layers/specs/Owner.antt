@@ -2,8 +2,8 @@
 use Rattle.std.specs.Prelude.{ℕ, Bool, true, false, ◌==◌, ◌&&◌, if◌then◌else◌, List, [], ◌∷◌, Option, None, Some}
 use Rattle.tb_geom.specs.declared.point.Point.{Point}
 use Rattle.tb_geom.specs.Points.{PixelSet}
-use Rattle.def_iface.specs.declared.part.Part.{Part}
-use Rattle.def_iface.specs.Desk.{ContentLayer, LayeredWindow, LayeredDesk, local, in_bar, in_structure, window_of, layer_of, same_part}
+use Rattle.desk_layers.specs.declared.part.Part.{Part}
+use Rattle.desk_layers.specs.Desk.{ContentLayer, LayeredWindow, LayeredDesk, local, in_bar, in_structure, window_of, layer_of, same_part}
 
 pub data Owner : Type 0 where
   Desktop : Owner

@@ -1,6 +1,6 @@
 //! The layers of a window's content.
 ghost use Rattle.std.specs.Prelude.{◌≡◌};
-ghost use Rattle.def_iface.specs.Desk.{same_part};
+ghost use Rattle.desk_layers.specs.Desk.{same_part};
 
 /// A layer of a window's content: its picture, or a control or a list by its serial.
 #[derive(Clone, Copy, Debug, PartialEq, Eq)]

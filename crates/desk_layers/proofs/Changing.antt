@@ -2,12 +2,12 @@
 use Rattle.std.proofs.Common.{◌≡◌, Bool, true, false, not, if◌then◌else◌, refl, sym, ◌∙◌, ap}
 use Rattle.std.proofs.lemmas.Bool.{and_parts}
 use Rattle.tb_geom.specs.declared.point.Point.{Point}
-use Rattle.def_iface.specs.Desk.{on_screen}
-use Rattle.def_iface.specs.Owner.{Owner, owner, own_bit, is_content}
-use Rattle.def_iface.specs.Scratch.{scratch}
-use Rattle.def_iface.specs.Change.{Change, State, had, IsSound, IsChanged, IsRight}
-use Rattle.def_iface.proofs.Owning.{same_owner-true}
-use Rattle.def_iface.proofs.Painting.{scratch_is_owners}
+use Rattle.desk_layers.specs.Desk.{on_screen}
+use Rattle.desk_layers.specs.Owner.{Owner, owner, own_bit, is_content}
+use Rattle.desk_layers.specs.Scratch.{scratch}
+use Rattle.desk_layers.specs.Change.{Change, State, had, IsSound, IsChanged, IsRight}
+use Rattle.desk_layers.proofs.Owning.{same_owner-true}
+use Rattle.desk_layers.proofs.Painting.{scratch_is_owners}
 
 -- a right pixel that stays with its layer is right as drawn on
 kept_is_right : (c : Change) (before after : State) (p : Point) → IsRight before → IsSound c before after.desk → let o = owner after.desk p in on_screen after.desk p ≡ true → is_content o ≡ true → c.afresh o p ≡ false → c.taken o p ≡ false → c.added o p ≡ false → c.redrawn o ≡ false → had c before.desk o p ≡ true → before.stale (c.source o p) ≡ false → c.drawn o p (before.image (c.source o p)) ≡ scratch after.desk p
