@@ -1,8 +1,9 @@
 -- What the contracts speak of: what definitions of windows, controls, menus and lists mean, what one keeps of what it is
--- told, what a stock of them holds, and the lines of outlines.
+-- told, what a stock of them holds, their end, and the lines of outlines.
 pub mod Sizes
 pub mod Lines
 pub mod Slots
+pub mod Closing
 pub mod News
 pub mod Meaning
 pub mod Keeping

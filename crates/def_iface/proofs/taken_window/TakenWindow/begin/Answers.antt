@@ -1,6 +1,6 @@
 use Rattle.std.proofs.Common.{◌∙◌}
 use Rattle.def_iface.proofs.Hearing.{hears_then, regions_then}
-use Rattle.def_iface.proofs.taken.Taken.begin.Goals as goal
+use Rattle.def_iface.proofs.taken_window.TakenWindow.begin.Goals as goal
 
 pub returns-clause-begun : goal.returns-clause-begun
 returns-clause-begun g c =
