@@ -12,8 +12,7 @@ use Rattle.window_items.proofs.LawLemmas.{no_others}
 use Rattle.window_items.proofs.WindowLemmas.{count_of-length}
 use Rattle.desk_layers.specs.declared.part.Part.{Part}
 use Rattle.desk_layers.specs.declared.part.Part.TheVariants as part
-use Rattle.def_iface.specs.declared.taken.Taken.{Taken}
-use Rattle.def_iface.specs.declared.taken_control.TakenControl.{TakenControl}
+use Rattle.def_iface.specs.Slots.{TakenBox}
 use Rattle.def_iface.specs.ControlMeaning.{ControlDefinition, ControlLoan}
 use Rattle.desk_layers.specs.Desk.{same_part}
 use Rattle.def_iface.specs.Meaning.{Loan}
@@ -113,8 +112,8 @@ module _ (n : NewControl) (d : ControlDefinition) (k : Ticket) (ls : PlacedLayer
       grown r = record { ticket = refl; layer = own; is = own_is; layers = layers_are; apart = new_apart }
 
       -- the windows and controls to which it is added
-      module _ {V : Type 0} {H : V → Type 0} (loan : Taken V H → Loan) {W : Type 0} {K : W → Type 0} (control_loan : TakenControl W K → ControlLoan) (update : Pixels) (t u : WindowManager V H)
-          (m : Controls (TakenControl W K)) (ready : IsReadyToAdd loan control_loan n d k ls update t u m) where
+      module _ {V : Type 0} {H : V → Type 0} (loan : TakenBox V H → Loan) {W : Type 0} {K : W → Type 0} (control_loan : TakenBox W K → ControlLoan) (update : Pixels) (t u : WindowManager V H)
+          (m : Controls (TakenBox W K)) (ready : IsReadyToAdd loan control_loan n d k ls update t u m) where
         -- the plan of it
         pub added_is : ((p : Point) → holds relaid.gained p ≡ is_gained (Some (part.Control k.serial)) ls.layers relaid.layers.layers (minus p ls.place)) → (r : Relaying)
             → ((v : WindowManager V H) → HasUpdate loan k.window update t v → MayHaveLayers k.window v relaid.layers
@@ -133,8 +132,8 @@ module _ (n : NewControl) (d : ControlDefinition) (k : Ticket) (ls : PlacedLayer
 
 -- ---- a control that may be planned
 
-module _ {V : Type 0} {H : V → Type 0} (loan : Taken V H → Loan) {W : Type 0} {K : W → Type 0} (control_loan : TakenControl W K → ControlLoan)
-    (n : NewControl) (d : ControlDefinition) (t : WindowManager V H) (m : Controls (TakenControl W K)) (k : Ticket)
+module _ {V : Type 0} {H : V → Type 0} (loan : TakenBox V H → Loan) {W : Type 0} {K : W → Type 0} (control_loan : TakenBox W K → ControlLoan)
+    (n : NewControl) (d : ControlDefinition) (t : WindowManager V H) (m : Controls (TakenBox W K)) (k : Ticket)
     (kept : IsKept loan t) (beside : AreBeside control_loan loan t m) (ticket : IsTicket control_loan n (Some d) t m k) where
   abbrev cs : List ControlRecord
   cs = records_of control_loan m

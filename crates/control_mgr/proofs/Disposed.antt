@@ -11,12 +11,10 @@ use Rattle.control_mgr.specs.Seen.{all_seen, kept_seen, seen}
 use Rattle.window_items.proofs.SeenLemmas.{place_among-seen, remove-seen, slice_get-seen}
 use Rattle.window_items.proofs.WindowLemmas.{items_of-remove, items_of-remove_other, count_of-remove, count_of-remove_other, is_in_at-other, slice_get-items_of}
 use Rattle.desk_layers.specs.declared.part.Part.{Part}
-use Rattle.def_iface.specs.declared.taken.Taken.{Taken}
-use Rattle.def_iface.specs.declared.taken_control.TakenControl.{TakenControl}
 use Rattle.def_iface.specs.declared.window_def.Stage.TheVariants.{Live}
 use Rattle.def_iface.specs.ControlMeaning.{ControlDefinition, ControlLoan}
 use Rattle.def_iface.specs.Meaning.{Loan}
-use Rattle.def_iface.specs.Slots.{is_left}
+use Rattle.def_iface.specs.Slots.{is_left, TakenBox}
 use Rattle.def_iface.specs.Stocked.{SlotView}
 use Rattle.window_list.specs.declared.layer.Layer.{Layer}
 use Rattle.window_list.specs.Holders.{PlacedLayers}
@@ -112,23 +110,23 @@ whole_ended at window c ls ws state back whole there here shut joined = record {
       (slot_at state.controls at c there) shut.closed shut.back whole.stocked);
 }
 
-module _ {W : Type 0} {K : W → Type 0} (control_loan : TakenControl W K → ControlLoan) (m : Controls (TakenControl W K)) where
+module _ {W : Type 0} {K : W → Type 0} (control_loan : TakenBox W K → ControlLoan) (m : Controls (TakenBox W K)) where
   -- a control that was read at a place
-  pub seen_at : (at : ℕ) (x : Item (Control (TakenControl W K))) → slice_get m.list.items.items at ≡ Some x → slice_get (records_of control_loan m) at ≡ Some (seen control_loan x)
+  pub seen_at : (at : ℕ) (x : Item (Control (TakenBox W K))) → slice_get m.list.items.items at ≡ Some x → slice_get (records_of control_loan m) at ≡ Some (seen control_loan x)
   seen_at at x e = slice_get-seen (kept_seen control_loan) m.list.items.items at ∙ ap (λ o. option_map (seen control_loan) o) e
 
-  pub ended_live : (at : ℕ) (x : Item (Control (TakenControl W K))) → slice_get m.list.items.items at ≡ Some x → AreSettled (records_of control_loan m) → (control_loan x.kept.definition).definition.stage ≡ Live
+  pub ended_live : (at : ℕ) (x : Item (Control (TakenBox W K))) → slice_get m.list.items.items at ≡ Some x → AreSettled (records_of control_loan m) → (control_loan x.kept.definition).definition.stage ≡ Live
   ended_live at x e settled = (All-there IsSettledControl at (records_of control_loan m) (seen control_loan x) (seen_at at x e) settled).live
 
-  pub ended_left : (at : ℕ) (x : Item (Control (TakenControl W K))) (slots : List ControlSlot) → slice_get m.list.items.items at ≡ Some x
+  pub ended_left : (at : ℕ) (x : Item (Control (TakenBox W K))) (slots : List ControlSlot) → slice_get m.list.items.items at ≡ Some x
       → AreStocked (λ (d : ControlDefinition). d.stage) (slots_of (records_of control_loan m)) slots → is_left (control_loan x.kept.definition).slot slots ≡ true
   ended_left at x slots e stocked = slot_left at (records_of control_loan m) (seen control_loan x) slots (seen_at at x e) stocked
 
-  pub settled_left : (at : ℕ) (xs : List (Item (Control (TakenControl W K)))) → xs ≡ remove m.list.items.items at → AreSettled (records_of control_loan m) → AreSettled (all_seen control_loan xs)
+  pub settled_left : (at : ℕ) (xs : List (Item (Control (TakenBox W K)))) → xs ≡ remove m.list.items.items at → AreSettled (records_of control_loan m) → AreSettled (all_seen control_loan xs)
   settled_left at xs is settled = subst AreSettled (sym (ap (all_seen control_loan) is ∙ remove-seen (kept_seen control_loan) m.list.items.items at)) (All-remove IsSettledControl at (records_of control_loan m) settled)
 
-module _ {V : Type 0} {H : V → Type 0} (loan : Taken V H → Loan) {W : Type 0} {K : W → Type 0} (control_loan : TakenControl W K → ControlLoan)
-    (c : ControlOf) (t : WindowManager V H) (m : Controls (TakenControl W K)) (s : Spot) (is : IsSpotOf loan control_loan c t m s) where
+module _ {V : Type 0} {H : V → Type 0} (loan : TakenBox V H → Loan) {W : Type 0} {K : W → Type 0} (control_loan : TakenBox W K → ControlLoan)
+    (c : ControlOf) (t : WindowManager V H) (m : Controls (TakenBox W K)) (s : Spot) (is : IsSpotOf loan control_loan c t m s) where
   abbrev cs : List ControlRecord
   cs = records_of control_loan m
 
@@ -169,7 +167,7 @@ module _ {V : Type 0} {H : V → Type 0} (loan : Taken V H → Loan) {W : Type 0
   -- the control was disposed of
   pub ended : (kept : IsKept loan t) → (index : ℕ) → index ≡ place_among s.control m.list.items.items
       → (layers : PlacedLayers) → ((w : Window V H) → IsWindowAt t.windows.records.items s.window w → layers ≡ record w.layers { layers = remove w.layers.layers index })
-      → (u : WindowManager V H) (n : Controls (TakenControl W K)) (x : Item (Control (TakenControl W K))) → slice_get m.list.items.items s.control ≡ Some x
+      → (u : WindowManager V H) (n : Controls (TakenBox W K)) (x : Item (Control (TakenBox W K))) → slice_get m.list.items.items s.control ≡ Some x
       → n.list.items.items ≡ remove m.list.items.items s.control → n.list.next ≡ m.list.next
       → (before back : List ControlSlot) → IsControlShut (control_loan x.kept.definition) before back
       → AreLeftFor s.window layers.layers (alone (records_of control_loan n)) t u
@@ -213,7 +211,7 @@ module _ {V : Type 0} {H : V → Type 0} (loan : Taken V H → Loan) {W : Type 0
       )
 
   -- so the call made its step
-  pub disposed_step : (u : WindowManager V H) (n : Controls (TakenControl W K)) (before back : List ControlSlot) → ((o : Opened) → LeavesOver control_loan loan before back (IsEndedIfThere c) t o m u o n)
+  pub disposed_step : (u : WindowManager V H) (n : Controls (TakenBox W K)) (before back : List ControlSlot) → ((o : Opened) → LeavesOver control_loan loan before back (IsEndedIfThere c) t o m u o n)
       → (o : Opened) → LeavesOver control_loan loan before back (IsControlStep (Dispose c) (Ok Done)) t o m u o n
   disposed_step u n before back ended o others slots whole controls =
       let leaves = ended o others slots whole controls in (
@@ -225,13 +223,13 @@ module _ {V : Type 0} {H : V → Type 0} (loan : Taken V H → Loan) {W : Type 0
         ),
       )
 
-module _ {V : Type 0} {H : V → Type 0} (loan : Taken V H → Loan) {W : Type 0} {K : W → Type 0} (control_loan : TakenControl W K → ControlLoan)
-    (c : ControlOf) (t : WindowManager V H) (m : Controls (TakenControl W K)) (planned : Option Ending) (its : IsPlannedEnd loan control_loan c t m planned) where
+module _ {V : Type 0} {H : V → Type 0} (loan : TakenBox V H → Loan) {W : Type 0} {K : W → Type 0} (control_loan : TakenBox W K → ControlLoan)
+    (c : ControlOf) (t : WindowManager V H) (m : Controls (TakenBox W K)) (planned : Option Ending) (its : IsPlannedEnd loan control_loan c t m planned) where
   -- the end of a control that is there
   pub planned_there : (e : Ending) → planned ≡ Some e → IsEnding loan control_loan c t m e
   planned_there e is = subst (IsPlannedEnd loan control_loan c t m) is its
 
-  pub ended_there : (e : Ending) → planned ≡ Some e → (u : WindowManager V H) (n : Controls (TakenControl W K)) (before back : List ControlSlot) → ((o : Opened) → LeavesOver control_loan loan before back (IsControlDisposed c) t o m u o n)
+  pub ended_there : (e : Ending) → planned ≡ Some e → (u : WindowManager V H) (n : Controls (TakenBox W K)) (before back : List ControlSlot) → ((o : Opened) → LeavesOver control_loan loan before back (IsControlDisposed c) t o m u o n)
       → (o : Opened) → LeavesOver control_loan loan before back (IsEndedIfThere c) t o m u o n
   ended_there e is u n before back ended o others slots whole controls =
       let leaves = ended o others slots whole controls in

@@ -12,11 +12,10 @@ use Rattle.window_items.specs.Items.{items_of, count_of, has_serial, is_in, is_i
 use Rattle.control_mgr.specs.Seen.{all_seen, kept_seen, seen}
 use Rattle.window_items.proofs.SeenLemmas.{append-seen, without_youngest-seen, youngest_of-seen}
 use Rattle.window_items.proofs.WindowLemmas.{items_of-without_youngest, items_of-without_youngest_other, count_of-without_youngest, last_in, none_left}
-use Rattle.def_iface.specs.declared.taken_control.TakenControl.{TakenControl}
 use Rattle.def_iface.specs.declared.window_def.Stage.{Stage}
 use Rattle.def_iface.specs.declared.window_def.Stage.TheVariants.{Live}
 use Rattle.def_iface.specs.ControlMeaning.{ControlDefinition, ControlLoan}
-use Rattle.def_iface.specs.Slots.{is_left}
+use Rattle.def_iface.specs.Slots.{is_left, TakenBox}
 use Rattle.window_mgr.proofs.SlotLemmas.{get-set_other, map-set}
 use Rattle.control_mgr.specs.ControlClosing.{AreAllControlsClosed, AreControlsClosed, IsControlClosedAt, IsControlFull, IsWindowLeft}
 use Rattle.control_mgr.specs.ControlDesks.{ControlRecord, ControlSlot, ControlsState}
@@ -107,13 +106,13 @@ module _ (all cs : List ControlRecord) (c : ControlRecord) (old now : List Contr
   }
 
 -- the last of the controls that the code keeps is the last of those that are seen
-pub popped : {W : Type 0} {K : W → Type 0} (control_loan : TakenControl W K → ControlLoan) (all : List ControlRecord) (xs rest : List (Item (Control (TakenControl W K)))) (x : Item (Control (TakenControl W K))) (old now : List ControlSlot)
+pub popped : {W : Type 0} {K : W → Type 0} (control_loan : TakenBox W K → ControlLoan) (all : List ControlRecord) (xs rest : List (Item (Control (TakenBox W K)))) (x : Item (Control (TakenBox W K))) (old now : List ControlSlot)
     → AreBeingEnded all (all_seen control_loan xs) old now → xs ≡ rest ++ x ∷ [] → AreBeingEnded all (all_seen control_loan rest ++ seen control_loan x ∷ []) old now
 popped control_loan all xs rest x old now under parts =
     subst (λ ys. AreBeingEnded all ys old now) (ap (all_seen control_loan) parts ∙ append-seen (kept_seen control_loan) rest (x ∷ [])) under
 
 -- none of them is left
-pub all_ended : {W : Type 0} {K : W → Type 0} (control_loan : TakenControl W K → ControlLoan) (all : List ControlRecord) (xs : List (Item (Control (TakenControl W K)))) (old now : List ControlSlot)
+pub all_ended : {W : Type 0} {K : W → Type 0} (control_loan : TakenBox W K → ControlLoan) (all : List ControlRecord) (xs : List (Item (Control (TakenBox W K)))) (old now : List ControlSlot)
     → length xs ≡ 0 → AreBeingEnded all (all_seen control_loan xs) old now → AreAllControlsClosed all old now
 all_ended control_loan all [] old now none under = record { ended = under.rest now (closed_none now); full = full_where_unused stage_of now under.stocked }
 all_ended control_loan all (x ∷ xs) old now none under = absurd (omega arith)
@@ -228,18 +227,18 @@ all_left window before now after under none is next stock = record {
     same = is ∙ gone.1
 
 -- what is seen of the list that the code keeps
-module _ {W : Type 0} {K : W → Type 0} (control_loan : TakenControl W K → ControlLoan) (window : ℕ) (xs : List (Item (Control (TakenControl W K)))) where
-  pub youngest_seen : (x : Item (Control (TakenControl W K))) → Some x ≡ youngest_of window xs → youngest_of window (all_seen control_loan xs) ≡ Some (seen control_loan x)
+module _ {W : Type 0} {K : W → Type 0} (control_loan : TakenBox W K → ControlLoan) (window : ℕ) (xs : List (Item (Control (TakenBox W K)))) where
+  pub youngest_seen : (x : Item (Control (TakenBox W K))) → Some x ≡ youngest_of window xs → youngest_of window (all_seen control_loan xs) ≡ Some (seen control_loan x)
   youngest_seen x is = youngest_of-seen (kept_seen control_loan) window xs ∙ ap (option_map (seen control_loan)) (sym is)
 
   pub none_seen : None ≡ youngest_of window xs → youngest_of window (all_seen control_loan xs) ≡ None
   none_seen is = youngest_of-seen (kept_seen control_loan) window xs ∙ ap (option_map (seen control_loan)) (sym is)
 
-  pub rest_seen : (ys : List (Item (Control (TakenControl W K)))) → ys ≡ without_youngest window xs → all_seen control_loan ys ≡ without_youngest window (all_seen control_loan xs)
+  pub rest_seen : (ys : List (Item (Control (TakenBox W K)))) → ys ≡ without_youngest window xs → all_seen control_loan ys ≡ without_youngest window (all_seen control_loan xs)
   rest_seen ys is = ap (all_seen control_loan) is ∙ sym (without_youngest-seen (kept_seen control_loan) window xs)
 
   -- one less is left of the window's
-  pub fewer : (x : Item (Control (TakenControl W K))) (ys : List (Item (Control (TakenControl W K)))) → Some x ≡ youngest_of window xs → ys ≡ without_youngest window xs → count_of window ys < count_of window xs
+  pub fewer : (x : Item (Control (TakenBox W K))) (ys : List (Item (Control (TakenBox W K)))) → Some x ≡ youngest_of window xs → ys ≡ without_youngest window xs → count_of window ys < count_of window xs
   fewer x ys is rest =
       let many = count_of-without_youngest window xs in
       let one : length (option_to_list (youngest_of window xs)) ≡ 1 = ap (λ o. length (option_to_list o)) (sym is) in

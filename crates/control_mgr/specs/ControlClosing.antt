@@ -1,8 +1,8 @@
 -- What the end of a window or of a desk does to the stock of controls.
-use Rattle.std.specs.Prelude.{◌≡◌, ℕ, List, [], map, All, Contains, Some, slice_get}
-use Rattle.def_iface.specs.declared.window_def.Stage.TheVariants.{Closed}
+use Rattle.std.specs.Prelude.{◌≡◌, ℕ, List, [], All, Contains}
 use Rattle.def_iface.specs.ControlMeaning.{ControlDefinition, SameControlLook}
 use Rattle.def_iface.specs.Slots.{IsFull}
+use Rattle.def_iface.specs.Closing as closing
 use Rattle.window_items.specs.Items.{items_of}
 use Rattle.control_mgr.specs.ControlDesks.{ControlRecord, ControlSlot, ControlsState}
 use Rattle.control_mgr.specs.InUse.{AreStocked}
@@ -14,23 +14,15 @@ IsControlFull s = IsFull (λ (d : ControlDefinition). d.stage) s
 
 -- the control's slot is there, with its definition, which is closed
 abbrev pub IsControlClosedAt : List ControlSlot → ControlRecord → Type 0
-IsControlClosedAt slots c =
-    (s : ControlSlot) × (slice_get slots c.kept.definition.slot ≡ Some s)
-    × ((d : ControlDefinition) × (s.held ≡ Some d) × (d.stage ≡ Closed) × SameControlLook c.kept.definition.definition d)
+IsControlClosedAt = closing.IsClosedAt (λ (d : ControlDefinition). d.stage) SameControlLook (λ (c : ControlRecord). c.kept.definition)
 
 -- the definitions of these controls were closed and put into their slots, and every other slot is as it was
-pub record AreControlsClosed (cs : List ControlRecord) (old new : List ControlSlot) : Type 0 where
-  -- the same slots, for the same kinds
-  pub kinds : map (λ s. s.kind) new ≡ map (λ s. s.kind) old
-  -- a slot that had a definition is as it was
-  pub others : (k : ℕ) (s : ControlSlot) → slice_get old k ≡ Some s → IsControlFull s → slice_get new k ≡ Some s
-  -- the slots of the controls have their definitions, which are closed
-  pub closed : All (IsControlClosedAt new) cs
+abbrev pub AreControlsClosed : List ControlRecord → List ControlSlot → List ControlSlot → Type 0
+AreControlsClosed = closing.AreClosed (λ (d : ControlDefinition). d.stage) SameControlLook (λ (c : ControlRecord). c.kept.definition)
 
 -- the desk's controls, which are these, were disposed of: every slot has a definition that no desk uses
-pub record AreAllControlsClosed (cs : List ControlRecord) (old new : List ControlSlot) : Type 0 where
-  pub ended : AreControlsClosed cs old new
-  pub full : All IsControlFull new
+abbrev pub AreAllControlsClosed : List ControlRecord → List ControlSlot → List ControlSlot → Type 0
+AreAllControlsClosed = closing.AreAllClosed (λ (d : ControlDefinition). d.stage) SameControlLook (λ (c : ControlRecord). c.kept.definition)
 
 -- the controls of a window were disposed of, and those of other windows stay
 pub record IsWindowLeft (window : ℕ) (before after : ControlsState) : Type 0 where

@@ -7,7 +7,7 @@ ghost use Rattle.control_mgr.specs.Spots.{IsSpotOf};
 ghost use Rattle.control_mgr.specs.WholeControls.{records_of};
 
 use crate::Controls;
-use def_iface::{Defined, DefinedControl, Taken, TakenControl};
+use def_iface::{Defined, TakenControl, TakenWindow};
 use desk_call::ControlOf;
 use tb_geom::Refusal;
 use window_mgr::WindowManager;
@@ -22,10 +22,10 @@ pub(crate) struct Spot {
 impl Controls<TakenControl> {
     /// Where this control stands.
     pub(crate) fn spot(&self, windows: &WindowManager, control: ControlOf) -> Result<Spot, Refusal>
-        ensures { let refusals = missing_refusals control (desk_of ⟦<Taken as Defined>⟧.loan windows.now [])
-            (records_of ⟦<TakenControl as DefinedControl>⟧.control_loan self.now) in
+        ensures { let refusals = missing_refusals control (desk_of ⟦<TakenWindow as Defined>⟧.loan windows.now [])
+            (records_of ⟦<TakenControl as Defined>⟧.loan self.now) in
             MatchResult result
-            (λ spot. IsSpotOf ⟦<Taken as Defined>⟧.loan ⟦<TakenControl as DefinedControl>⟧.control_loan control windows.now self.now spot)
+            (λ spot. IsSpotOf ⟦<TakenWindow as Defined>⟧.loan ⟦<TakenControl as Defined>⟧.loan control windows.now self.now spot)
             (λ e. first_refusal refusals ≡ Some e) }
     {
         let Some(window) = windows.find(control.window) else {

@@ -2,10 +2,7 @@
 use Rattle.std.proofs.Common.{◌≡◌, ℕ, ℤ, Bool, true, List, refl, sym, ap, ◌∙◌, subst}
 use Rattle.tb_geom.specs.declared.point.Point.{Point}
 use Rattle.bit_map.specs.Bits.{bit, on_map}
-use Rattle.def_iface.specs.declared.taken.Taken.{Taken}
-use Rattle.def_iface.specs.declared.taken_menu.TakenMenu.{TakenMenu}
-use Rattle.def_iface.specs.declared.taken_control.TakenControl.{TakenControl}
-use Rattle.def_iface.specs.declared.taken_list.TakenList.{TakenList}
+use Rattle.def_iface.specs.Slots.{TakenBox}
 use Rattle.def_iface.specs.ControlMeaning.{ControlLoan}
 use Rattle.def_iface.specs.ListMeaning.{ListLoan}
 use Rattle.def_iface.specs.Meaning.{Loan}
@@ -38,7 +35,7 @@ base_alone (TrackingControl c) menus bar font base p none = refl
 base_alone (Dragging d) menus bar font base p none = absurd none
 base_alone (Growing g) menus bar font base p none = absurd none
 
-module _ {V : Type 0} {H : V → Type 0} (loan : Taken V H → Loan) {W : Type 0} {K : W → Type 0} (menu_loan : TakenMenu W K → MenuLoan) {U : Type 0} {J : U → Type 0} (control_loan : TakenControl U J → ControlLoan) {X : Type 0} {L : X → Type 0} (list_loan : TakenList X L → ListLoan) (t : Toolbox V U W X H J K L)
+module _ {V : Type 0} {H : V → Type 0} (loan : TakenBox V H → Loan) {W : Type 0} {K : W → Type 0} (menu_loan : TakenBox W K → MenuLoan) {U : Type 0} {J : U → Type 0} (control_loan : TakenBox U J → ControlLoan) {X : Type 0} {L : X → Type 0} (list_loan : TakenBox X L → ListLoan) (t : Toolbox V U W X H J K L)
     (stocks : AllSlots) (p : Point) where
   -- what is shown, while this is open
   abbrev shown : Activity → Bool

@@ -23,8 +23,8 @@ use crate::{
 };
 use control_mgr::Controls;
 use def_iface::{
-    ControlStock, Defined, DefinedControl, DefinedList, DefinedMenu, ListStock, Stock, StockedAll,
-    StockedControls, StockedLists, Taken, TakenControl, TakenList, TakenMenu,
+    ControlStock, Defined, ListStock, Stock, Stocked, StockedAll, TakenControl, TakenList,
+    TakenMenu, TakenWindow,
 };
 use list_mgr::{Contents, Lists};
 use tb_geom::Refusal;
@@ -36,14 +36,14 @@ use window_update::{first_to_update, update_form_refusal};
 impl Toolbox {
     /// Performs one call that may come.
     pub(crate) fn perform(&mut self, call: &Call<'_>, stock: &mut Stock) -> Result<Reply, Refusal>
-        requires whole { IsWholeToolbox ⟦<Taken as Defined>⟧.loan ⟦<TakenMenu as DefinedMenu>⟧.menu_loan ⟦<TakenControl as DefinedControl>⟧.control_loan ⟦<TakenList as DefinedList>⟧.list_loan self.old (⟦<Stock as StockedAll>⟧.all_slots stock.old) }
+        requires whole { IsWholeToolbox ⟦<TakenWindow as Defined>⟧.loan ⟦<TakenMenu as Defined>⟧.loan ⟦<TakenControl as Defined>⟧.loan ⟦<TakenList as Defined>⟧.loan self.old (⟦<Stock as StockedAll>⟧.all_slots stock.old) }
         requires admitted { gate self.old.activity (standing_of call.now) ≡ None }
-        ensures whole { AreWholeManagers ⟦<Taken as Defined>⟧.loan ⟦<TakenMenu as DefinedMenu>⟧.menu_loan ⟦<TakenControl as DefinedControl>⟧.control_loan ⟦<TakenList as DefinedList>⟧.list_loan self.new (⟦<Stock as StockedAll>⟧.all_slots stock.new) }
+        ensures whole { AreWholeManagers ⟦<TakenWindow as Defined>⟧.loan ⟦<TakenMenu as Defined>⟧.loan ⟦<TakenControl as Defined>⟧.loan ⟦<TakenList as Defined>⟧.loan self.new (⟦<Stock as StockedAll>⟧.all_slots stock.new) }
         ensures step { IsAdmitted call.now result
-            (toolbox_state ⟦<Taken as Defined>⟧.loan ⟦<TakenMenu as DefinedMenu>⟧.menu_loan ⟦<TakenControl as DefinedControl>⟧.control_loan ⟦<TakenList as DefinedList>⟧.list_loan self.old (⟦<Stock as StockedAll>⟧.all_slots stock.old))
-            (toolbox_state ⟦<Taken as Defined>⟧.loan ⟦<TakenMenu as DefinedMenu>⟧.menu_loan ⟦<TakenControl as DefinedControl>⟧.control_loan ⟦<TakenList as DefinedList>⟧.list_loan self.new (⟦<Stock as StockedAll>⟧.all_slots stock.new)) }
-        ensures economy { AreInformed (windows_of ⟦<Taken as Defined>⟧.loan self.old.windows)
-            → IsCallEconomical ⟦<Taken as Defined>⟧.loan call.now self.old.windows self.new.windows }
+            (toolbox_state ⟦<TakenWindow as Defined>⟧.loan ⟦<TakenMenu as Defined>⟧.loan ⟦<TakenControl as Defined>⟧.loan ⟦<TakenList as Defined>⟧.loan self.old (⟦<Stock as StockedAll>⟧.all_slots stock.old))
+            (toolbox_state ⟦<TakenWindow as Defined>⟧.loan ⟦<TakenMenu as Defined>⟧.loan ⟦<TakenControl as Defined>⟧.loan ⟦<TakenList as Defined>⟧.loan self.new (⟦<Stock as StockedAll>⟧.all_slots stock.new)) }
+        ensures economy { AreInformed (windows_of ⟦<TakenWindow as Defined>⟧.loan self.old.windows)
+            → IsCallEconomical ⟦<TakenWindow as Defined>⟧.loan call.now self.old.windows self.new.windows }
     {
         match call {
             Call::Window(call) => match self.tell_window(call, stock) {
@@ -98,14 +98,14 @@ impl Toolbox {
         call: &WindowCall<'_>,
         stock: &mut Stock,
     ) -> Result<WindowReply, Refusal>
-        requires whole { IsWholeToolbox ⟦<Taken as Defined>⟧.loan ⟦<TakenMenu as DefinedMenu>⟧.menu_loan ⟦<TakenControl as DefinedControl>⟧.control_loan ⟦<TakenList as DefinedList>⟧.list_loan self.old (⟦<Stock as StockedAll>⟧.all_slots stock.old) }
+        requires whole { IsWholeToolbox ⟦<TakenWindow as Defined>⟧.loan ⟦<TakenMenu as Defined>⟧.loan ⟦<TakenControl as Defined>⟧.loan ⟦<TakenList as Defined>⟧.loan self.old (⟦<Stock as StockedAll>⟧.all_slots stock.old) }
         requires admitted { gate self.old.activity (window_standing call.now) ≡ None }
-        ensures whole { AreWholeManagers ⟦<Taken as Defined>⟧.loan ⟦<TakenMenu as DefinedMenu>⟧.menu_loan ⟦<TakenControl as DefinedControl>⟧.control_loan ⟦<TakenList as DefinedList>⟧.list_loan self.new (⟦<Stock as StockedAll>⟧.all_slots stock.new) }
-        ensures step { let before = toolbox_state ⟦<Taken as Defined>⟧.loan ⟦<TakenMenu as DefinedMenu>⟧.menu_loan ⟦<TakenControl as DefinedControl>⟧.control_loan ⟦<TakenList as DefinedList>⟧.list_loan self.old (⟦<Stock as StockedAll>⟧.all_slots stock.old) in
+        ensures whole { AreWholeManagers ⟦<TakenWindow as Defined>⟧.loan ⟦<TakenMenu as Defined>⟧.loan ⟦<TakenControl as Defined>⟧.loan ⟦<TakenList as Defined>⟧.loan self.new (⟦<Stock as StockedAll>⟧.all_slots stock.new) }
+        ensures step { let before = toolbox_state ⟦<TakenWindow as Defined>⟧.loan ⟦<TakenMenu as Defined>⟧.loan ⟦<TakenControl as Defined>⟧.loan ⟦<TakenList as Defined>⟧.loan self.old (⟦<Stock as StockedAll>⟧.all_slots stock.old) in
             IsWindowTold (is_covered call.now before) call.now result before
-            (toolbox_state ⟦<Taken as Defined>⟧.loan ⟦<TakenMenu as DefinedMenu>⟧.menu_loan ⟦<TakenControl as DefinedControl>⟧.control_loan ⟦<TakenList as DefinedList>⟧.list_loan self.new (⟦<Stock as StockedAll>⟧.all_slots stock.new)) }
-        ensures economy { AreInformed (windows_of ⟦<Taken as Defined>⟧.loan self.old.windows)
-            → IsEconomical ⟦<Taken as Defined>⟧.loan call.now self.old.windows self.new.windows }
+            (toolbox_state ⟦<TakenWindow as Defined>⟧.loan ⟦<TakenMenu as Defined>⟧.loan ⟦<TakenControl as Defined>⟧.loan ⟦<TakenList as Defined>⟧.loan self.new (⟦<Stock as StockedAll>⟧.all_slots stock.new)) }
+        ensures economy { AreInformed (windows_of ⟦<TakenWindow as Defined>⟧.loan self.old.windows)
+            → IsEconomical ⟦<TakenWindow as Defined>⟧.loan call.now self.old.windows self.new.windows }
         ensures aside { (self.new.menus ≡ self.old.menus) × ((self.new.updates ≡ self.old.updates) × (self.new.activity ≡ self.old.activity)) }
     {
         if self.is_covered(call) {
@@ -137,9 +137,9 @@ impl Toolbox {
 
     /// Whether a call asks whose a point of the pulled menu is.
     fn is_covered(&self, call: &WindowCall<'_>) -> bool
-        requires { IsKeptToolbox ⟦<Taken as Defined>⟧.loan ⟦<TakenMenu as DefinedMenu>⟧.menu_loan ⟦<TakenControl as DefinedControl>⟧.control_loan ⟦<TakenList as DefinedList>⟧.list_loan self.now }
+        requires { IsKeptToolbox ⟦<TakenWindow as Defined>⟧.loan ⟦<TakenMenu as Defined>⟧.loan ⟦<TakenControl as Defined>⟧.loan ⟦<TakenList as Defined>⟧.loan self.now }
         ensures { (stocks : AllSlots) → result
-            ≡ is_covered call.now (toolbox_state ⟦<Taken as Defined>⟧.loan ⟦<TakenMenu as DefinedMenu>⟧.menu_loan ⟦<TakenControl as DefinedControl>⟧.control_loan ⟦<TakenList as DefinedList>⟧.list_loan self.now stocks) }
+            ≡ is_covered call.now (toolbox_state ⟦<TakenWindow as Defined>⟧.loan ⟦<TakenMenu as Defined>⟧.loan ⟦<TakenControl as Defined>⟧.loan ⟦<TakenList as Defined>⟧.loan self.now stocks) }
     {
         match call {
             WindowCall::Find(point) => self.menus.has_point(&self.windows, self.activity, *point),
@@ -149,16 +149,16 @@ impl Toolbox {
 
     /// Answers a call about what is to be redrawn.
     fn tell_update(&mut self, call: &UpdateCall<'_>) -> Result<WindowReply, Refusal>
-        requires kept { IsKeptToolbox ⟦<Taken as Defined>⟧.loan ⟦<TakenMenu as DefinedMenu>⟧.menu_loan ⟦<TakenControl as DefinedControl>⟧.control_loan ⟦<TakenList as DefinedList>⟧.list_loan self.old }
+        requires kept { IsKeptToolbox ⟦<TakenWindow as Defined>⟧.loan ⟦<TakenMenu as Defined>⟧.loan ⟦<TakenControl as Defined>⟧.loan ⟦<TakenList as Defined>⟧.loan self.old }
         requires admitted { gate self.old.activity (update_standing call.now) ≡ None }
         ensures whole { (stocks : AllSlots)
-            → IsWholeToolbox ⟦<Taken as Defined>⟧.loan ⟦<TakenMenu as DefinedMenu>⟧.menu_loan ⟦<TakenControl as DefinedControl>⟧.control_loan ⟦<TakenList as DefinedList>⟧.list_loan self.old stocks
-            → AreWholeManagers ⟦<Taken as Defined>⟧.loan ⟦<TakenMenu as DefinedMenu>⟧.menu_loan ⟦<TakenControl as DefinedControl>⟧.control_loan ⟦<TakenList as DefinedList>⟧.list_loan self.new stocks }
+            → IsWholeToolbox ⟦<TakenWindow as Defined>⟧.loan ⟦<TakenMenu as Defined>⟧.loan ⟦<TakenControl as Defined>⟧.loan ⟦<TakenList as Defined>⟧.loan self.old stocks
+            → AreWholeManagers ⟦<TakenWindow as Defined>⟧.loan ⟦<TakenMenu as Defined>⟧.loan ⟦<TakenControl as Defined>⟧.loan ⟦<TakenList as Defined>⟧.loan self.new stocks }
         ensures step { (stocks : AllSlots)
-            → IsWholeToolbox ⟦<Taken as Defined>⟧.loan ⟦<TakenMenu as DefinedMenu>⟧.menu_loan ⟦<TakenControl as DefinedControl>⟧.control_loan ⟦<TakenList as DefinedList>⟧.list_loan self.old stocks
+            → IsWholeToolbox ⟦<TakenWindow as Defined>⟧.loan ⟦<TakenMenu as Defined>⟧.loan ⟦<TakenControl as Defined>⟧.loan ⟦<TakenList as Defined>⟧.loan self.old stocks
             → IsUpdateTold call.now result
-            (toolbox_state ⟦<Taken as Defined>⟧.loan ⟦<TakenMenu as DefinedMenu>⟧.menu_loan ⟦<TakenControl as DefinedControl>⟧.control_loan ⟦<TakenList as DefinedList>⟧.list_loan self.old stocks)
-            (toolbox_state ⟦<Taken as Defined>⟧.loan ⟦<TakenMenu as DefinedMenu>⟧.menu_loan ⟦<TakenControl as DefinedControl>⟧.control_loan ⟦<TakenList as DefinedList>⟧.list_loan self.new stocks) }
+            (toolbox_state ⟦<TakenWindow as Defined>⟧.loan ⟦<TakenMenu as Defined>⟧.loan ⟦<TakenControl as Defined>⟧.loan ⟦<TakenList as Defined>⟧.loan self.old stocks)
+            (toolbox_state ⟦<TakenWindow as Defined>⟧.loan ⟦<TakenMenu as Defined>⟧.loan ⟦<TakenControl as Defined>⟧.loan ⟦<TakenList as Defined>⟧.loan self.new stocks) }
     {
         let contents = Contents {
             controls: &self.controls,
@@ -174,12 +174,12 @@ impl Toolbox {
         call: &ControlCall<'_>,
         stock: &mut Stock,
     ) -> Result<ControlReply, Refusal>
-        requires whole { IsWholeToolbox ⟦<Taken as Defined>⟧.loan ⟦<TakenMenu as DefinedMenu>⟧.menu_loan ⟦<TakenControl as DefinedControl>⟧.control_loan ⟦<TakenList as DefinedList>⟧.list_loan self.old (⟦<Stock as StockedAll>⟧.all_slots stock.old) }
+        requires whole { IsWholeToolbox ⟦<TakenWindow as Defined>⟧.loan ⟦<TakenMenu as Defined>⟧.loan ⟦<TakenControl as Defined>⟧.loan ⟦<TakenList as Defined>⟧.loan self.old (⟦<Stock as StockedAll>⟧.all_slots stock.old) }
         requires admitted { gate self.old.activity (control_standing call.now) ≡ None }
-        ensures whole { AreWholeManagers ⟦<Taken as Defined>⟧.loan ⟦<TakenMenu as DefinedMenu>⟧.menu_loan ⟦<TakenControl as DefinedControl>⟧.control_loan ⟦<TakenList as DefinedList>⟧.list_loan self.new (⟦<Stock as StockedAll>⟧.all_slots stock.new) }
-        ensures step { let before = toolbox_state ⟦<Taken as Defined>⟧.loan ⟦<TakenMenu as DefinedMenu>⟧.menu_loan ⟦<TakenControl as DefinedControl>⟧.control_loan ⟦<TakenList as DefinedList>⟧.list_loan self.old (⟦<Stock as StockedAll>⟧.all_slots stock.old) in
+        ensures whole { AreWholeManagers ⟦<TakenWindow as Defined>⟧.loan ⟦<TakenMenu as Defined>⟧.loan ⟦<TakenControl as Defined>⟧.loan ⟦<TakenList as Defined>⟧.loan self.new (⟦<Stock as StockedAll>⟧.all_slots stock.new) }
+        ensures step { let before = toolbox_state ⟦<TakenWindow as Defined>⟧.loan ⟦<TakenMenu as Defined>⟧.loan ⟦<TakenControl as Defined>⟧.loan ⟦<TakenList as Defined>⟧.loan self.old (⟦<Stock as StockedAll>⟧.all_slots stock.old) in
             IsControlTold (is_hidden_by_menu call.now before) call.now result before
-            (toolbox_state ⟦<Taken as Defined>⟧.loan ⟦<TakenMenu as DefinedMenu>⟧.menu_loan ⟦<TakenControl as DefinedControl>⟧.control_loan ⟦<TakenList as DefinedList>⟧.list_loan self.new (⟦<Stock as StockedAll>⟧.all_slots stock.new)) }
+            (toolbox_state ⟦<TakenWindow as Defined>⟧.loan ⟦<TakenMenu as Defined>⟧.loan ⟦<TakenControl as Defined>⟧.loan ⟦<TakenList as Defined>⟧.loan self.new (⟦<Stock as StockedAll>⟧.all_slots stock.new)) }
     {
         if self.is_hidden_by_menu(call) {
             return Ok(ControlReply::Found(None));
@@ -194,9 +194,9 @@ impl Toolbox {
 
     /// Whether a call asks for a control at a point of the pulled menu.
     fn is_hidden_by_menu(&self, call: &ControlCall<'_>) -> bool
-        requires { IsKeptToolbox ⟦<Taken as Defined>⟧.loan ⟦<TakenMenu as DefinedMenu>⟧.menu_loan ⟦<TakenControl as DefinedControl>⟧.control_loan ⟦<TakenList as DefinedList>⟧.list_loan self.now }
+        requires { IsKeptToolbox ⟦<TakenWindow as Defined>⟧.loan ⟦<TakenMenu as Defined>⟧.loan ⟦<TakenControl as Defined>⟧.loan ⟦<TakenList as Defined>⟧.loan self.now }
         ensures { (stocks : AllSlots) → result
-            ≡ is_hidden_by_menu call.now (toolbox_state ⟦<Taken as Defined>⟧.loan ⟦<TakenMenu as DefinedMenu>⟧.menu_loan ⟦<TakenControl as DefinedControl>⟧.control_loan ⟦<TakenList as DefinedList>⟧.list_loan self.now stocks) }
+            ≡ is_hidden_by_menu call.now (toolbox_state ⟦<TakenWindow as Defined>⟧.loan ⟦<TakenMenu as Defined>⟧.loan ⟦<TakenControl as Defined>⟧.loan ⟦<TakenList as Defined>⟧.loan self.now stocks) }
     {
         match call {
             ControlCall::Find(asked) => self.is_under_menu(*asked),
@@ -206,9 +206,9 @@ impl Toolbox {
 
     /// Whether a point of a window lies where the menu does that is pulled down.
     fn is_under_menu(&self, asked: PointInWindow) -> bool
-        requires { IsKeptToolbox ⟦<Taken as Defined>⟧.loan ⟦<TakenMenu as DefinedMenu>⟧.menu_loan ⟦<TakenControl as DefinedControl>⟧.control_loan ⟦<TakenList as DefinedList>⟧.list_loan self.now }
+        requires { IsKeptToolbox ⟦<TakenWindow as Defined>⟧.loan ⟦<TakenMenu as Defined>⟧.loan ⟦<TakenControl as Defined>⟧.loan ⟦<TakenList as Defined>⟧.loan self.now }
         ensures { (stocks : AllSlots) → result
-            ≡ is_under_menu (toolbox_state ⟦<Taken as Defined>⟧.loan ⟦<TakenMenu as DefinedMenu>⟧.menu_loan ⟦<TakenControl as DefinedControl>⟧.control_loan ⟦<TakenList as DefinedList>⟧.list_loan self.now stocks) asked }
+            ≡ is_under_menu (toolbox_state ⟦<TakenWindow as Defined>⟧.loan ⟦<TakenMenu as Defined>⟧.loan ⟦<TakenControl as Defined>⟧.loan ⟦<TakenList as Defined>⟧.loan self.now stocks) asked }
     {
         if !asked.point.is_in_range() {
             return false;
@@ -225,12 +225,12 @@ impl Toolbox {
 
     /// Answers a call about lists.
     fn tell_list(&mut self, call: &ListCall<'_>, stock: &mut Stock) -> Result<ListReply, Refusal>
-        requires whole { IsWholeToolbox ⟦<Taken as Defined>⟧.loan ⟦<TakenMenu as DefinedMenu>⟧.menu_loan ⟦<TakenControl as DefinedControl>⟧.control_loan ⟦<TakenList as DefinedList>⟧.list_loan self.old (⟦<Stock as StockedAll>⟧.all_slots stock.old) }
+        requires whole { IsWholeToolbox ⟦<TakenWindow as Defined>⟧.loan ⟦<TakenMenu as Defined>⟧.loan ⟦<TakenControl as Defined>⟧.loan ⟦<TakenList as Defined>⟧.loan self.old (⟦<Stock as StockedAll>⟧.all_slots stock.old) }
         requires admitted { gate self.old.activity (list_standing call.now) ≡ None }
-        ensures whole { AreWholeManagers ⟦<Taken as Defined>⟧.loan ⟦<TakenMenu as DefinedMenu>⟧.menu_loan ⟦<TakenControl as DefinedControl>⟧.control_loan ⟦<TakenList as DefinedList>⟧.list_loan self.new (⟦<Stock as StockedAll>⟧.all_slots stock.new) }
+        ensures whole { AreWholeManagers ⟦<TakenWindow as Defined>⟧.loan ⟦<TakenMenu as Defined>⟧.loan ⟦<TakenControl as Defined>⟧.loan ⟦<TakenList as Defined>⟧.loan self.new (⟦<Stock as StockedAll>⟧.all_slots stock.new) }
         ensures step { IsListAnswer call.now result
-            (toolbox_state ⟦<Taken as Defined>⟧.loan ⟦<TakenMenu as DefinedMenu>⟧.menu_loan ⟦<TakenControl as DefinedControl>⟧.control_loan ⟦<TakenList as DefinedList>⟧.list_loan self.old (⟦<Stock as StockedAll>⟧.all_slots stock.old))
-            (toolbox_state ⟦<Taken as Defined>⟧.loan ⟦<TakenMenu as DefinedMenu>⟧.menu_loan ⟦<TakenControl as DefinedControl>⟧.control_loan ⟦<TakenList as DefinedList>⟧.list_loan self.new (⟦<Stock as StockedAll>⟧.all_slots stock.new)) }
+            (toolbox_state ⟦<TakenWindow as Defined>⟧.loan ⟦<TakenMenu as Defined>⟧.loan ⟦<TakenControl as Defined>⟧.loan ⟦<TakenList as Defined>⟧.loan self.old (⟦<Stock as StockedAll>⟧.all_slots stock.old))
+            (toolbox_state ⟦<TakenWindow as Defined>⟧.loan ⟦<TakenMenu as Defined>⟧.loan ⟦<TakenControl as Defined>⟧.loan ⟦<TakenList as Defined>⟧.loan self.new (⟦<Stock as StockedAll>⟧.all_slots stock.new)) }
     {
         self.lists.perform(
             &mut self.windows,
@@ -243,13 +243,13 @@ impl Toolbox {
 
     /// Answers a call about events.
     fn answer_event(&mut self, call: EventCall) -> Result<EventReply, Refusal>
-        requires { IsKeptToolbox ⟦<Taken as Defined>⟧.loan ⟦<TakenMenu as DefinedMenu>⟧.menu_loan ⟦<TakenControl as DefinedControl>⟧.control_loan ⟦<TakenList as DefinedList>⟧.list_loan self.old }
+        requires { IsKeptToolbox ⟦<TakenWindow as Defined>⟧.loan ⟦<TakenMenu as Defined>⟧.loan ⟦<TakenControl as Defined>⟧.loan ⟦<TakenList as Defined>⟧.loan self.old }
         ensures whole { (stocks : AllSlots)
-            → IsWholeToolbox ⟦<Taken as Defined>⟧.loan ⟦<TakenMenu as DefinedMenu>⟧.menu_loan ⟦<TakenControl as DefinedControl>⟧.control_loan ⟦<TakenList as DefinedList>⟧.list_loan self.old stocks
-            → AreWholeManagers ⟦<Taken as Defined>⟧.loan ⟦<TakenMenu as DefinedMenu>⟧.menu_loan ⟦<TakenControl as DefinedControl>⟧.control_loan ⟦<TakenList as DefinedList>⟧.list_loan self.new stocks }
+            → IsWholeToolbox ⟦<TakenWindow as Defined>⟧.loan ⟦<TakenMenu as Defined>⟧.loan ⟦<TakenControl as Defined>⟧.loan ⟦<TakenList as Defined>⟧.loan self.old stocks
+            → AreWholeManagers ⟦<TakenWindow as Defined>⟧.loan ⟦<TakenMenu as Defined>⟧.loan ⟦<TakenControl as Defined>⟧.loan ⟦<TakenList as Defined>⟧.loan self.new stocks }
         ensures step { (stocks : AllSlots) → IsEventAnswer call result
-            (toolbox_state ⟦<Taken as Defined>⟧.loan ⟦<TakenMenu as DefinedMenu>⟧.menu_loan ⟦<TakenControl as DefinedControl>⟧.control_loan ⟦<TakenList as DefinedList>⟧.list_loan self.old stocks)
-            (toolbox_state ⟦<Taken as Defined>⟧.loan ⟦<TakenMenu as DefinedMenu>⟧.menu_loan ⟦<TakenControl as DefinedControl>⟧.control_loan ⟦<TakenList as DefinedList>⟧.list_loan self.new stocks) }
+            (toolbox_state ⟦<TakenWindow as Defined>⟧.loan ⟦<TakenMenu as Defined>⟧.loan ⟦<TakenControl as Defined>⟧.loan ⟦<TakenList as Defined>⟧.loan self.old stocks)
+            (toolbox_state ⟦<TakenWindow as Defined>⟧.loan ⟦<TakenMenu as Defined>⟧.loan ⟦<TakenControl as Defined>⟧.loan ⟦<TakenList as Defined>⟧.loan self.new stocks) }
     {
         let active = self.windows.list().active();
         let update = first_to_update(&self.windows, self.activity);
@@ -267,19 +267,19 @@ fn forget(
     control_stock: &mut ControlStock,
     list_stock: &mut ListStock,
 )
-    requires live { AreLiveControls (records_of ⟦<TakenControl as DefinedControl>⟧.control_loan controls.old) }
-    requires stocked { AreStocked (λ d. d.stage) (slots_of (records_of ⟦<TakenControl as DefinedControl>⟧.control_loan controls.old))
-        (⟦<ControlStock as StockedControls>⟧.control_slots control_stock.old) }
-    requires live_lists { AreLiveLists (whole_lists.records_of ⟦<TakenList as DefinedList>⟧.list_loan lists.old) }
-    requires stocked_lists { AreStocked (λ d. d.stage) (whole_lists.slots_of (whole_lists.records_of ⟦<TakenList as DefinedList>⟧.list_loan lists.old))
-        (⟦<ListStock as StockedLists>⟧.list_slots list_stock.old) }
+    requires live { AreLiveControls (records_of ⟦<TakenControl as Defined>⟧.loan controls.old) }
+    requires stocked { AreStocked (λ d. d.stage) (slots_of (records_of ⟦<TakenControl as Defined>⟧.loan controls.old))
+        (⟦<ControlStock as Stocked>⟧.slots control_stock.old) }
+    requires live_lists { AreLiveLists (whole_lists.records_of ⟦<TakenList as Defined>⟧.loan lists.old) }
+    requires stocked_lists { AreStocked (λ d. d.stage) (whole_lists.slots_of (whole_lists.records_of ⟦<TakenList as Defined>⟧.loan lists.old))
+        (⟦<ListStock as Stocked>⟧.slots list_stock.old) }
     ensures events { (call : Named) → outcome_of call ≡ outcome → events.new ≡ events_left call events.old }
     ensures controls { (call : Named) → outcome_of call ≡ outcome → AreControlsLeft call
-        (controls_state ⟦<TakenControl as DefinedControl>⟧.control_loan controls.old (⟦<ControlStock as StockedControls>⟧.control_slots control_stock.old))
-        (controls_state ⟦<TakenControl as DefinedControl>⟧.control_loan controls.new (⟦<ControlStock as StockedControls>⟧.control_slots control_stock.new)) }
+        (controls_state ⟦<TakenControl as Defined>⟧.loan controls.old (⟦<ControlStock as Stocked>⟧.slots control_stock.old))
+        (controls_state ⟦<TakenControl as Defined>⟧.loan controls.new (⟦<ControlStock as Stocked>⟧.slots control_stock.new)) }
     ensures lists { (call : Named) → outcome_of call ≡ outcome → AreListsLeft call
-        (lists_state ⟦<TakenList as DefinedList>⟧.list_loan lists.old (⟦<ListStock as StockedLists>⟧.list_slots list_stock.old))
-        (lists_state ⟦<TakenList as DefinedList>⟧.list_loan lists.new (⟦<ListStock as StockedLists>⟧.list_slots list_stock.new)) }
+        (lists_state ⟦<TakenList as Defined>⟧.loan lists.old (⟦<ListStock as Stocked>⟧.slots list_stock.old))
+        (lists_state ⟦<TakenList as Defined>⟧.loan lists.new (⟦<ListStock as Stocked>⟧.slots list_stock.new)) }
 {
     if let Outcome::Ended(window) = outcome {
         events.forget(window);

@@ -34,10 +34,7 @@ use crate::events::Events;
 use crate::{Activity, Call, Reply};
 use bit_map::BitMap;
 use control_mgr::Controls;
-use def_iface::{
-    Defined, DefinedControl, DefinedList, DefinedMenu, Stock, StockedAll, Taken, TakenControl,
-    TakenList, TakenMenu,
-};
+use def_iface::{Defined, Stock, StockedAll, TakenControl, TakenList, TakenMenu, TakenWindow};
 use desk_ground::is_screen;
 use list_mgr::{Contents, Lists};
 use menu_list::MenuList;
@@ -104,12 +101,12 @@ impl Toolbox {
         font: Font,
     ) -> Result<Toolbox, NotBegun>
         ensures begun { IfOk result (λ t. (slots : List SlotView) → All IsFull slots
-            → IsEmptyDesk ⟦<Taken as Defined>⟧.loan width height bar font t.windows slots) }
+            → IsEmptyDesk ⟦<TakenWindow as Defined>⟧.loan width height bar font t.windows slots) }
         ensures idle { IfOk result (λ t. t.activity ≡ Idle) }
         ensures events { IfOk result (λ t. t.events ≡ first_events) }
-        ensures whole { IfOk result (λ t. (stocks : AllSlots) → AreAllFull stocks → IsWholeToolbox ⟦<Taken as Defined>⟧.loan ⟦<TakenMenu as DefinedMenu>⟧.menu_loan ⟦<TakenControl as DefinedControl>⟧.control_loan ⟦<TakenList as DefinedList>⟧.list_loan t stocks) }
+        ensures whole { IfOk result (λ t. (stocks : AllSlots) → AreAllFull stocks → IsWholeToolbox ⟦<TakenWindow as Defined>⟧.loan ⟦<TakenMenu as Defined>⟧.loan ⟦<TakenControl as Defined>⟧.loan ⟦<TakenList as Defined>⟧.loan t stocks) }
         ensures just_begun { IfOk result (λ t. (stocks : AllSlots) → AreAllFull stocks
-            → IsJustBegun (toolbox_state ⟦<Taken as Defined>⟧.loan ⟦<TakenMenu as DefinedMenu>⟧.menu_loan ⟦<TakenControl as DefinedControl>⟧.control_loan ⟦<TakenList as DefinedList>⟧.list_loan t stocks)) }
+            → IsJustBegun (toolbox_state ⟦<TakenWindow as Defined>⟧.loan ⟦<TakenMenu as Defined>⟧.loan ⟦<TakenControl as Defined>⟧.loan ⟦<TakenList as Defined>⟧.loan t stocks)) }
         ensures in_range { IfOk result (λ t. screens.is_screen width height bar ≡ true) }
         ensures refused { IfErr result (λ e. (e.font ≡ font)
             × (e.refusal ≡ (if screens.is_screen width height bar then Refusal.NoMemory else Refusal.OutOfRange))) }
@@ -142,13 +139,13 @@ impl Toolbox {
         requires height { pos parts.updates.buffer.height ≡ height }
         requires menus { AreNoMenus width height parts.menus }
         ensures begun { IfOk result (λ t. (slots : List SlotView) → All IsFull slots
-            → IsEmptyDesk ⟦<Taken as Defined>⟧.loan width height bar font t.windows slots) }
+            → IsEmptyDesk ⟦<TakenWindow as Defined>⟧.loan width height bar font t.windows slots) }
         ensures idle { IfOk result (λ t. t.activity ≡ Idle) }
         ensures events { IfOk result (λ t. t.events ≡ parts.events) }
         ensures menus { IfOk result (λ t. t.menus ≡ parts.menus) }
         ensures controls { IfOk result (λ t. (t.controls.list.items.items ≡ []) × (t.controls.list.next ≡ Some 1)) }
         ensures lists { IfOk result (λ t. (t.lists.list.items.items ≡ []) × (t.lists.list.next ≡ Some 1)) }
-        ensures whole { IfOk result (λ t. (stocks : AllSlots) → AreAllFull stocks → IsWholeToolbox ⟦<Taken as Defined>⟧.loan ⟦<TakenMenu as DefinedMenu>⟧.menu_loan ⟦<TakenControl as DefinedControl>⟧.control_loan ⟦<TakenList as DefinedList>⟧.list_loan t stocks) }
+        ensures whole { IfOk result (λ t. (stocks : AllSlots) → AreAllFull stocks → IsWholeToolbox ⟦<TakenWindow as Defined>⟧.loan ⟦<TakenMenu as Defined>⟧.loan ⟦<TakenControl as Defined>⟧.loan ⟦<TakenList as Defined>⟧.loan t stocks) }
         ensures in_range { IfOk result (λ t. screens.is_screen width height bar ≡ true) }
         ensures refused { IfErr result (λ e. (e.font ≡ font)
             × (e.refusal ≡ (if screens.is_screen width height bar then Refusal.NoMemory else Refusal.OutOfRange))) }
@@ -177,11 +174,11 @@ impl Toolbox {
     /// The screen: the pulled menu where it lies, and else what the windows, the menu bar and the desktop show, with the outline
     /// of a window that is dragged or grown.
     pub fn screen(&self) -> &BitMap
-        requires { IsKeptToolbox ⟦<Taken as Defined>⟧.loan ⟦<TakenMenu as DefinedMenu>⟧.menu_loan ⟦<TakenControl as DefinedControl>⟧.control_loan ⟦<TakenList as DefinedList>⟧.list_loan self.now }
+        requires { IsKeptToolbox ⟦<TakenWindow as Defined>⟧.loan ⟦<TakenMenu as Defined>⟧.loan ⟦<TakenControl as Defined>⟧.loan ⟦<TakenList as Defined>⟧.loan self.now }
         ensures width { result.now.width ≡ self.now.windows.screen.width }
         ensures height { result.now.height ≡ self.now.windows.screen.height }
         ensures shown { (stocks : AllSlots) (p : Point) → on_map result.now p ≡ true
-            → bit result.now p ≡ screen_of (toolbox_state ⟦<Taken as Defined>⟧.loan ⟦<TakenMenu as DefinedMenu>⟧.menu_loan ⟦<TakenControl as DefinedControl>⟧.control_loan ⟦<TakenList as DefinedList>⟧.list_loan self.now stocks) p }
+            → bit result.now p ≡ screen_of (toolbox_state ⟦<TakenWindow as Defined>⟧.loan ⟦<TakenMenu as Defined>⟧.loan ⟦<TakenControl as Defined>⟧.loan ⟦<TakenList as Defined>⟧.loan self.now stocks) p }
     {
         match self.activity {
             Activity::Pulling(_) | Activity::Dragging(_) | Activity::Growing(_) => {
@@ -240,15 +237,15 @@ impl Toolbox {
     /// first where several would do stands with the call. While something is open, a call that may not
     /// come then is refused for that, but first for a name that no table has, or bytes without their form.
     pub fn call(&mut self, call: &Call<'_>, stock: &mut Stock) -> Result<Reply, Refusal>
-        requires { IsWholeToolbox ⟦<Taken as Defined>⟧.loan ⟦<TakenMenu as DefinedMenu>⟧.menu_loan ⟦<TakenControl as DefinedControl>⟧.control_loan ⟦<TakenList as DefinedList>⟧.list_loan self.old (⟦<Stock as StockedAll>⟧.all_slots stock.old) }
-        ensures whole { IsWholeToolbox ⟦<Taken as Defined>⟧.loan ⟦<TakenMenu as DefinedMenu>⟧.menu_loan ⟦<TakenControl as DefinedControl>⟧.control_loan ⟦<TakenList as DefinedList>⟧.list_loan self.new (⟦<Stock as StockedAll>⟧.all_slots stock.new) }
+        requires { IsWholeToolbox ⟦<TakenWindow as Defined>⟧.loan ⟦<TakenMenu as Defined>⟧.loan ⟦<TakenControl as Defined>⟧.loan ⟦<TakenList as Defined>⟧.loan self.old (⟦<Stock as StockedAll>⟧.all_slots stock.old) }
+        ensures whole { IsWholeToolbox ⟦<TakenWindow as Defined>⟧.loan ⟦<TakenMenu as Defined>⟧.loan ⟦<TakenControl as Defined>⟧.loan ⟦<TakenList as Defined>⟧.loan self.new (⟦<Stock as StockedAll>⟧.all_slots stock.new) }
         ensures step { IsStep call.now result
-            (toolbox_state ⟦<Taken as Defined>⟧.loan ⟦<TakenMenu as DefinedMenu>⟧.menu_loan ⟦<TakenControl as DefinedControl>⟧.control_loan ⟦<TakenList as DefinedList>⟧.list_loan self.old (⟦<Stock as StockedAll>⟧.all_slots stock.old))
-            (toolbox_state ⟦<Taken as Defined>⟧.loan ⟦<TakenMenu as DefinedMenu>⟧.menu_loan ⟦<TakenControl as DefinedControl>⟧.control_loan ⟦<TakenList as DefinedList>⟧.list_loan self.new (⟦<Stock as StockedAll>⟧.all_slots stock.new)) }
-        ensures right { IsRightState (toolbox_state ⟦<Taken as Defined>⟧.loan ⟦<TakenMenu as DefinedMenu>⟧.menu_loan ⟦<TakenControl as DefinedControl>⟧.control_loan ⟦<TakenList as DefinedList>⟧.list_loan self.old (⟦<Stock as StockedAll>⟧.all_slots stock.old)).desk.windows
-            → IsRightState (toolbox_state ⟦<Taken as Defined>⟧.loan ⟦<TakenMenu as DefinedMenu>⟧.menu_loan ⟦<TakenControl as DefinedControl>⟧.control_loan ⟦<TakenList as DefinedList>⟧.list_loan self.new (⟦<Stock as StockedAll>⟧.all_slots stock.new)).desk.windows }
-        ensures economy { IsConsistent (toolbox_state ⟦<Taken as Defined>⟧.loan ⟦<TakenMenu as DefinedMenu>⟧.menu_loan ⟦<TakenControl as DefinedControl>⟧.control_loan ⟦<TakenList as DefinedList>⟧.list_loan self.old (⟦<Stock as StockedAll>⟧.all_slots stock.old))
-            → IsCallEconomical ⟦<Taken as Defined>⟧.loan call.now self.old.windows self.new.windows }
+            (toolbox_state ⟦<TakenWindow as Defined>⟧.loan ⟦<TakenMenu as Defined>⟧.loan ⟦<TakenControl as Defined>⟧.loan ⟦<TakenList as Defined>⟧.loan self.old (⟦<Stock as StockedAll>⟧.all_slots stock.old))
+            (toolbox_state ⟦<TakenWindow as Defined>⟧.loan ⟦<TakenMenu as Defined>⟧.loan ⟦<TakenControl as Defined>⟧.loan ⟦<TakenList as Defined>⟧.loan self.new (⟦<Stock as StockedAll>⟧.all_slots stock.new)) }
+        ensures right { IsRightState (toolbox_state ⟦<TakenWindow as Defined>⟧.loan ⟦<TakenMenu as Defined>⟧.loan ⟦<TakenControl as Defined>⟧.loan ⟦<TakenList as Defined>⟧.loan self.old (⟦<Stock as StockedAll>⟧.all_slots stock.old)).desk.windows
+            → IsRightState (toolbox_state ⟦<TakenWindow as Defined>⟧.loan ⟦<TakenMenu as Defined>⟧.loan ⟦<TakenControl as Defined>⟧.loan ⟦<TakenList as Defined>⟧.loan self.new (⟦<Stock as StockedAll>⟧.all_slots stock.new)).desk.windows }
+        ensures economy { IsConsistent (toolbox_state ⟦<TakenWindow as Defined>⟧.loan ⟦<TakenMenu as Defined>⟧.loan ⟦<TakenControl as Defined>⟧.loan ⟦<TakenList as Defined>⟧.loan self.old (⟦<Stock as StockedAll>⟧.all_slots stock.old))
+            → IsCallEconomical ⟦<TakenWindow as Defined>⟧.loan call.now self.old.windows self.new.windows }
     {
         match self.activity.admit(call.standing()) {
             Ok(()) => self.perform(call, stock),
@@ -266,17 +263,17 @@ impl Toolbox {
         calls: &[Call<'_>],
         stock: &mut Stock,
     ) -> Result<Vec<Result<Reply, Refusal>>, AllocError>
-        requires { IsWholeToolbox ⟦<Taken as Defined>⟧.loan ⟦<TakenMenu as DefinedMenu>⟧.menu_loan ⟦<TakenControl as DefinedControl>⟧.control_loan ⟦<TakenList as DefinedList>⟧.list_loan self.old (⟦<Stock as StockedAll>⟧.all_slots stock.old) }
-        ensures whole { IsWholeToolbox ⟦<Taken as Defined>⟧.loan ⟦<TakenMenu as DefinedMenu>⟧.menu_loan ⟦<TakenControl as DefinedControl>⟧.control_loan ⟦<TakenList as DefinedList>⟧.list_loan self.new (⟦<Stock as StockedAll>⟧.all_slots stock.new) }
+        requires { IsWholeToolbox ⟦<TakenWindow as Defined>⟧.loan ⟦<TakenMenu as Defined>⟧.loan ⟦<TakenControl as Defined>⟧.loan ⟦<TakenList as Defined>⟧.loan self.old (⟦<Stock as StockedAll>⟧.all_slots stock.old) }
+        ensures whole { IsWholeToolbox ⟦<TakenWindow as Defined>⟧.loan ⟦<TakenMenu as Defined>⟧.loan ⟦<TakenControl as Defined>⟧.loan ⟦<TakenList as Defined>⟧.loan self.new (⟦<Stock as StockedAll>⟧.all_slots stock.new) }
         ensures run { IfOk result (λ answers. IsRunOfCalls
-            (toolbox_state ⟦<Taken as Defined>⟧.loan ⟦<TakenMenu as DefinedMenu>⟧.menu_loan ⟦<TakenControl as DefinedControl>⟧.control_loan ⟦<TakenList as DefinedList>⟧.list_loan self.old (⟦<Stock as StockedAll>⟧.all_slots stock.old))
+            (toolbox_state ⟦<TakenWindow as Defined>⟧.loan ⟦<TakenMenu as Defined>⟧.loan ⟦<TakenControl as Defined>⟧.loan ⟦<TakenList as Defined>⟧.loan self.old (⟦<Stock as StockedAll>⟧.all_slots stock.old))
             calls.now answers.items
-            (toolbox_state ⟦<Taken as Defined>⟧.loan ⟦<TakenMenu as DefinedMenu>⟧.menu_loan ⟦<TakenControl as DefinedControl>⟧.control_loan ⟦<TakenList as DefinedList>⟧.list_loan self.new (⟦<Stock as StockedAll>⟧.all_slots stock.new))) }
+            (toolbox_state ⟦<TakenWindow as Defined>⟧.loan ⟦<TakenMenu as Defined>⟧.loan ⟦<TakenControl as Defined>⟧.loan ⟦<TakenList as Defined>⟧.loan self.new (⟦<Stock as StockedAll>⟧.all_slots stock.new))) }
         ensures kept { OnErr result (IsToolboxUnchanged
-            (toolbox_state ⟦<Taken as Defined>⟧.loan ⟦<TakenMenu as DefinedMenu>⟧.menu_loan ⟦<TakenControl as DefinedControl>⟧.control_loan ⟦<TakenList as DefinedList>⟧.list_loan self.old (⟦<Stock as StockedAll>⟧.all_slots stock.old))
-            (toolbox_state ⟦<Taken as Defined>⟧.loan ⟦<TakenMenu as DefinedMenu>⟧.menu_loan ⟦<TakenControl as DefinedControl>⟧.control_loan ⟦<TakenList as DefinedList>⟧.list_loan self.new (⟦<Stock as StockedAll>⟧.all_slots stock.new))) }
-        ensures right { IsRightState (toolbox_state ⟦<Taken as Defined>⟧.loan ⟦<TakenMenu as DefinedMenu>⟧.menu_loan ⟦<TakenControl as DefinedControl>⟧.control_loan ⟦<TakenList as DefinedList>⟧.list_loan self.old (⟦<Stock as StockedAll>⟧.all_slots stock.old)).desk.windows
-            → IsRightState (toolbox_state ⟦<Taken as Defined>⟧.loan ⟦<TakenMenu as DefinedMenu>⟧.menu_loan ⟦<TakenControl as DefinedControl>⟧.control_loan ⟦<TakenList as DefinedList>⟧.list_loan self.new (⟦<Stock as StockedAll>⟧.all_slots stock.new)).desk.windows }
+            (toolbox_state ⟦<TakenWindow as Defined>⟧.loan ⟦<TakenMenu as Defined>⟧.loan ⟦<TakenControl as Defined>⟧.loan ⟦<TakenList as Defined>⟧.loan self.old (⟦<Stock as StockedAll>⟧.all_slots stock.old))
+            (toolbox_state ⟦<TakenWindow as Defined>⟧.loan ⟦<TakenMenu as Defined>⟧.loan ⟦<TakenControl as Defined>⟧.loan ⟦<TakenList as Defined>⟧.loan self.new (⟦<Stock as StockedAll>⟧.all_slots stock.new))) }
+        ensures right { IsRightState (toolbox_state ⟦<TakenWindow as Defined>⟧.loan ⟦<TakenMenu as Defined>⟧.loan ⟦<TakenControl as Defined>⟧.loan ⟦<TakenList as Defined>⟧.loan self.old (⟦<Stock as StockedAll>⟧.all_slots stock.old)).desk.windows
+            → IsRightState (toolbox_state ⟦<TakenWindow as Defined>⟧.loan ⟦<TakenMenu as Defined>⟧.loan ⟦<TakenControl as Defined>⟧.loan ⟦<TakenList as Defined>⟧.loan self.new (⟦<Stock as StockedAll>⟧.all_slots stock.new)).desk.windows }
     {
         let mut answers = Vec::with_capacity(self.alloc, calls.len())?;
         for call in calls {
@@ -290,16 +287,16 @@ impl Toolbox {
     /// screen has the value that painting the desk from nothing gives. NoSuchWindow is the only refusal. Takes no
     /// memory, and changes nothing that a call can tell.
     pub fn pixels_right(&mut self, window: u64, rect: Rect) -> Result<bool, Refusal>
-        requires { IsKeptToolbox ⟦<Taken as Defined>⟧.loan ⟦<TakenMenu as DefinedMenu>⟧.menu_loan ⟦<TakenControl as DefinedControl>⟧.control_loan ⟦<TakenList as DefinedList>⟧.list_loan self.old }
+        requires { IsKeptToolbox ⟦<TakenWindow as Defined>⟧.loan ⟦<TakenMenu as Defined>⟧.loan ⟦<TakenControl as Defined>⟧.loan ⟦<TakenList as Defined>⟧.loan self.old }
         ensures whole { (stocks : AllSlots)
-            → IsWholeToolbox ⟦<Taken as Defined>⟧.loan ⟦<TakenMenu as DefinedMenu>⟧.menu_loan ⟦<TakenControl as DefinedControl>⟧.control_loan ⟦<TakenList as DefinedList>⟧.list_loan self.old stocks
-            → IsWholeToolbox ⟦<Taken as Defined>⟧.loan ⟦<TakenMenu as DefinedMenu>⟧.menu_loan ⟦<TakenControl as DefinedControl>⟧.control_loan ⟦<TakenList as DefinedList>⟧.list_loan self.new stocks }
+            → IsWholeToolbox ⟦<TakenWindow as Defined>⟧.loan ⟦<TakenMenu as Defined>⟧.loan ⟦<TakenControl as Defined>⟧.loan ⟦<TakenList as Defined>⟧.loan self.old stocks
+            → IsWholeToolbox ⟦<TakenWindow as Defined>⟧.loan ⟦<TakenMenu as Defined>⟧.loan ⟦<TakenControl as Defined>⟧.loan ⟦<TakenList as Defined>⟧.loan self.new stocks }
         ensures same { (stocks : AllSlots)
-            → toolbox_state ⟦<Taken as Defined>⟧.loan ⟦<TakenMenu as DefinedMenu>⟧.menu_loan ⟦<TakenControl as DefinedControl>⟧.control_loan ⟦<TakenList as DefinedList>⟧.list_loan self.new stocks
-            ≡ toolbox_state ⟦<Taken as Defined>⟧.loan ⟦<TakenMenu as DefinedMenu>⟧.menu_loan ⟦<TakenControl as DefinedControl>⟧.control_loan ⟦<TakenList as DefinedList>⟧.list_loan self.old stocks }
-        ensures right { let state = state_showing (controls_show (lists_show (whole_lists.records_of ⟦<TakenList as DefinedList>⟧.list_loan self.old.lists))
-            (records_of ⟦<TakenControl as DefinedControl>⟧.control_loan self.old.controls))
-            (state_of ⟦<Taken as Defined>⟧.loan self.old.windows []) in MatchResult result
+            → toolbox_state ⟦<TakenWindow as Defined>⟧.loan ⟦<TakenMenu as Defined>⟧.loan ⟦<TakenControl as Defined>⟧.loan ⟦<TakenList as Defined>⟧.loan self.new stocks
+            ≡ toolbox_state ⟦<TakenWindow as Defined>⟧.loan ⟦<TakenMenu as Defined>⟧.loan ⟦<TakenControl as Defined>⟧.loan ⟦<TakenList as Defined>⟧.loan self.old stocks }
+        ensures right { let state = state_showing (controls_show (lists_show (whole_lists.records_of ⟦<TakenList as Defined>⟧.loan self.old.lists))
+            (records_of ⟦<TakenControl as Defined>⟧.loan self.old.controls))
+            (state_of ⟦<TakenWindow as Defined>⟧.loan self.old.windows []) in MatchResult result
             (λ right. (is_missing window state.desk.windows ≡ false) × IsJudgement window (rect_holds rect) state right)
             (λ e. (is_missing window state.desk.windows ≡ true) × (e ≡ Refusal.NoSuchWindow)) }
     {
@@ -314,14 +311,14 @@ impl Toolbox {
     /// Ends the desk: the definition of every window, control, list and menu is disposed of, and put back Closed into its slot,
     /// while every other slot stays as it was. Takes no memory, and refuses nothing.
     pub fn close(self, stock: &mut Stock)
-        requires { IsWholeToolbox ⟦<Taken as Defined>⟧.loan ⟦<TakenMenu as DefinedMenu>⟧.menu_loan ⟦<TakenControl as DefinedControl>⟧.control_loan ⟦<TakenList as DefinedList>⟧.list_loan self (⟦<Stock as StockedAll>⟧.all_slots stock.old) }
-        ensures windows { IsClosed (desk_of ⟦<Taken as Defined>⟧.loan self.windows (⟦<Stock as StockedAll>⟧.all_slots stock.old).windows).windows
+        requires { IsWholeToolbox ⟦<TakenWindow as Defined>⟧.loan ⟦<TakenMenu as Defined>⟧.loan ⟦<TakenControl as Defined>⟧.loan ⟦<TakenList as Defined>⟧.loan self (⟦<Stock as StockedAll>⟧.all_slots stock.old) }
+        ensures windows { IsClosed (desk_of ⟦<TakenWindow as Defined>⟧.loan self.windows (⟦<Stock as StockedAll>⟧.all_slots stock.old).windows).windows
             (⟦<Stock as StockedAll>⟧.all_slots stock.old).windows (⟦<Stock as StockedAll>⟧.all_slots stock.new).windows }
-        ensures controls { AreAllControlsClosed (records_of ⟦<TakenControl as DefinedControl>⟧.control_loan self.controls)
+        ensures controls { AreAllControlsClosed (records_of ⟦<TakenControl as Defined>⟧.loan self.controls)
             (⟦<Stock as StockedAll>⟧.all_slots stock.old).controls (⟦<Stock as StockedAll>⟧.all_slots stock.new).controls }
-        ensures lists { AreAllListsClosed (whole_lists.records_of ⟦<TakenList as DefinedList>⟧.list_loan self.lists)
+        ensures lists { AreAllListsClosed (whole_lists.records_of ⟦<TakenList as Defined>⟧.loan self.lists)
             (⟦<Stock as StockedAll>⟧.all_slots stock.old).lists (⟦<Stock as StockedAll>⟧.all_slots stock.new).lists }
-        ensures menus { AreMenusClosed (menus_of ⟦<TakenMenu as DefinedMenu>⟧.menu_loan self.menus.list.menus.items)
+        ensures menus { AreMenusClosed (menus_of ⟦<TakenMenu as Defined>⟧.loan self.menus.list.menus.items)
             (⟦<Stock as StockedAll>⟧.all_slots stock.old).menus (⟦<Stock as StockedAll>⟧.all_slots stock.new).menus }
     {
         let Toolbox {

@@ -12,11 +12,10 @@ use Rattle.window_items.specs.Items.{count_of, is_in, is_in_at, last_index_of, i
 use Rattle.list_mgr.specs.Seen.{all_seen, seen, kept_seen}
 use Rattle.window_items.proofs.SeenLemmas.{append-seen, remove-seen, slice_get-seen, without_youngest-seen, youngest_of-seen}
 use Rattle.window_items.proofs.WindowLemmas.{count_of-without_youngest, last_in, items_of-without_youngest, items_of-without_youngest_other, none_left}
-use Rattle.def_iface.specs.declared.taken_list.TakenList.{TakenList}
 use Rattle.def_iface.specs.declared.window_def.Stage.{Stage}
 use Rattle.def_iface.specs.declared.window_def.Stage.TheVariants.{Live}
 use Rattle.def_iface.specs.ListMeaning.{ListDefinition, ListLoan}
-use Rattle.def_iface.specs.Slots.{is_left}
+use Rattle.def_iface.specs.Slots.{is_left, TakenBox}
 use Rattle.window_mgr.proofs.SlotLemmas.{get-set_other, map-set}
 use Rattle.control_mgr.specs.InUse.{AreStocked}
 use Rattle.control_mgr.proofs.Stocks.{IsEmptyFor, Shut, full_where_unused, shut_facts, slot_is_left, slot_of, stocked_without}
@@ -109,13 +108,13 @@ module _ (all ls : List KeptList) (l : KeptList) (old now : List ListSlot) (unde
   }
 
 -- the last of the lists that the code keeps is the last of those that are seen
-pub popped : {X : Type 0} {L : X → Type 0} (list_loan : TakenList X L → ListLoan) (all : List KeptList) (xs rest : List (Item (ListRecord (TakenList X L)))) (x : Item (ListRecord (TakenList X L))) (old now : List ListSlot)
+pub popped : {X : Type 0} {L : X → Type 0} (list_loan : TakenBox X L → ListLoan) (all : List KeptList) (xs rest : List (Item (ListRecord (TakenBox X L)))) (x : Item (ListRecord (TakenBox X L))) (old now : List ListSlot)
     → AreBeingEnded all (all_seen list_loan xs) old now → xs ≡ rest ++ x ∷ [] → AreBeingEnded all (all_seen list_loan rest ++ seen list_loan x ∷ []) old now
 popped list_loan all xs rest x old now under parts =
     subst (λ ys. AreBeingEnded all ys old now) (ap (all_seen list_loan) parts ∙ append-seen (kept_seen list_loan) rest (x ∷ [])) under
 
 -- none of them is left
-pub all_ended : {X : Type 0} {L : X → Type 0} (list_loan : TakenList X L → ListLoan) (all : List KeptList) (xs : List (Item (ListRecord (TakenList X L)))) (old now : List ListSlot)
+pub all_ended : {X : Type 0} {L : X → Type 0} (list_loan : TakenBox X L → ListLoan) (all : List KeptList) (xs : List (Item (ListRecord (TakenBox X L)))) (old now : List ListSlot)
     → length xs ≡ 0 → AreBeingEnded all (all_seen list_loan xs) old now → AreAllListsClosed all old now
 all_ended list_loan all [] old now none under = record { ended = under.rest now (closed_none now); full = full_where_unused stage_of now under.stocked }
 all_ended list_loan all (x ∷ xs) old now none under = absurd (omega arith)
@@ -212,18 +211,18 @@ all_left window before now after under none is next stock = record {
     same = is ∙ gone.1
 
 -- what is seen of the list that the code keeps
-module _ {X : Type 0} {L : X → Type 0} (list_loan : TakenList X L → ListLoan) (window : ℕ) (xs : List (Item (ListRecord (TakenList X L)))) where
-  pub youngest_seen : (x : Item (ListRecord (TakenList X L))) → Some x ≡ youngest_of window xs → youngest_of window (all_seen list_loan xs) ≡ Some (seen list_loan x)
+module _ {X : Type 0} {L : X → Type 0} (list_loan : TakenBox X L → ListLoan) (window : ℕ) (xs : List (Item (ListRecord (TakenBox X L)))) where
+  pub youngest_seen : (x : Item (ListRecord (TakenBox X L))) → Some x ≡ youngest_of window xs → youngest_of window (all_seen list_loan xs) ≡ Some (seen list_loan x)
   youngest_seen x is = youngest_of-seen (kept_seen list_loan) window xs ∙ ap (option_map (seen list_loan)) (sym is)
 
   pub none_seen : None ≡ youngest_of window xs → youngest_of window (all_seen list_loan xs) ≡ None
   none_seen is = youngest_of-seen (kept_seen list_loan) window xs ∙ ap (option_map (seen list_loan)) (sym is)
 
-  pub rest_seen : (ys : List (Item (ListRecord (TakenList X L)))) → ys ≡ without_youngest window xs → all_seen list_loan ys ≡ without_youngest window (all_seen list_loan xs)
+  pub rest_seen : (ys : List (Item (ListRecord (TakenBox X L)))) → ys ≡ without_youngest window xs → all_seen list_loan ys ≡ without_youngest window (all_seen list_loan xs)
   rest_seen ys is = ap (all_seen list_loan) is ∙ sym (without_youngest-seen (kept_seen list_loan) window xs)
 
   -- one less is left of the window's
-  pub fewer : (x : Item (ListRecord (TakenList X L))) (ys : List (Item (ListRecord (TakenList X L)))) → Some x ≡ youngest_of window xs → ys ≡ without_youngest window xs → count_of window ys < count_of window xs
+  pub fewer : (x : Item (ListRecord (TakenBox X L))) (ys : List (Item (ListRecord (TakenBox X L)))) → Some x ≡ youngest_of window xs → ys ≡ without_youngest window xs → count_of window ys < count_of window xs
   fewer x ys is rest =
       let many = count_of-without_youngest window xs in
       let one : length (option_to_list (youngest_of window xs)) ≡ 1 = ap (λ o. length (option_to_list o)) (sym is) in
@@ -232,18 +231,18 @@ module _ {X : Type 0} {L : X → Type 0} (list_loan : TakenList X L → ListLoan
 
 -- ---- one that was taken out where it stood
 
-module _ {X : Type 0} {L : X → Type 0} (list_loan : TakenList X L → ListLoan) (m : Lists (TakenList X L)) (at : ℕ) where
-  seen_at : (x : Item (ListRecord (TakenList X L))) → slice_get m.list.items.items at ≡ Some x → slice_get (records_of list_loan m) at ≡ Some (seen list_loan x)
+module _ {X : Type 0} {L : X → Type 0} (list_loan : TakenBox X L → ListLoan) (m : Lists (TakenBox X L)) (at : ℕ) where
+  seen_at : (x : Item (ListRecord (TakenBox X L))) → slice_get m.list.items.items at ≡ Some x → slice_get (records_of list_loan m) at ≡ Some (seen list_loan x)
   seen_at x e = slice_get-seen (kept_seen list_loan) m.list.items.items at ∙ ap (option_map (seen list_loan)) e
 
   -- its definition is live, and its slot is empty
-  pub ended_live : (x : Item (ListRecord (TakenList X L))) → slice_get m.list.items.items at ≡ Some x → AreSettled (records_of list_loan m) → (list_loan x.kept.definition).definition.stage ≡ Live
+  pub ended_live : (x : Item (ListRecord (TakenBox X L))) → slice_get m.list.items.items at ≡ Some x → AreSettled (records_of list_loan m) → (list_loan x.kept.definition).definition.stage ≡ Live
   ended_live x e settled = (All-there IsSettledList at (records_of list_loan m) (seen list_loan x) (seen_at x e) settled).live
 
-  pub ended_left : (x : Item (ListRecord (TakenList X L))) (slots : List ListSlot) → slice_get m.list.items.items at ≡ Some x
+  pub ended_left : (x : Item (ListRecord (TakenBox X L))) (slots : List ListSlot) → slice_get m.list.items.items at ≡ Some x
       → AreStocked stage_of (slots_of (records_of list_loan m)) slots → is_left (list_loan x.kept.definition).slot slots ≡ true
   ended_left x slots e stocked = is_left_there (records_of list_loan m) at (seen list_loan x) (seen_at x e) slots stocked
 
   -- and the others are settled
-  pub settled_left : (xs : List (Item (ListRecord (TakenList X L)))) → xs ≡ remove m.list.items.items at → AreSettled (records_of list_loan m) → AreSettled (all_seen list_loan xs)
+  pub settled_left : (xs : List (Item (ListRecord (TakenBox X L)))) → xs ≡ remove m.list.items.items at → AreSettled (records_of list_loan m) → AreSettled (all_seen list_loan xs)
   settled_left xs is settled = subst AreSettled (sym (ap (all_seen list_loan) is ∙ remove-seen (kept_seen list_loan) m.list.items.items at)) (All-remove IsSettledList at (records_of list_loan m) settled)

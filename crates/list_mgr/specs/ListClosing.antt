@@ -1,8 +1,8 @@
 -- What the end of a window or of a desk does to the stock of lists.
-use Rattle.std.specs.Prelude.{◌≡◌, ℕ, List, [], map, All, Contains, Some, slice_get}
-use Rattle.def_iface.specs.declared.window_def.Stage.TheVariants.{Closed}
+use Rattle.std.specs.Prelude.{◌≡◌, ℕ, List, [], All, Contains}
 use Rattle.def_iface.specs.ListMeaning.{ListDefinition, SameListLook}
 use Rattle.def_iface.specs.Slots.{IsFull}
+use Rattle.def_iface.specs.Closing as closing
 use Rattle.window_items.specs.Items.{items_of}
 use Rattle.control_mgr.specs.InUse.{AreStocked}
 use Rattle.list_mgr.specs.ListDesks.{KeptList, ListSlot, ListsState}
@@ -14,23 +14,15 @@ IsListFull s = IsFull (λ (d : ListDefinition). d.stage) s
 
 -- the list's slot is there, with its definition, which is closed
 abbrev pub IsListClosedAt : List ListSlot → KeptList → Type 0
-IsListClosedAt slots l =
-    (s : ListSlot) × (slice_get slots l.kept.definition.slot ≡ Some s)
-    × ((d : ListDefinition) × (s.held ≡ Some d) × (d.stage ≡ Closed) × SameListLook l.kept.definition.definition d)
+IsListClosedAt = closing.IsClosedAt (λ (d : ListDefinition). d.stage) SameListLook (λ (l : KeptList). l.kept.definition)
 
 -- the definitions of these lists were closed and put into their slots, and every other slot is as it was
-pub record AreListsClosed (ls : List KeptList) (old new : List ListSlot) : Type 0 where
-  -- the same slots, for the same kinds
-  pub kinds : map (λ s. s.kind) new ≡ map (λ s. s.kind) old
-  -- a slot that had a definition is as it was
-  pub others : (k : ℕ) (s : ListSlot) → slice_get old k ≡ Some s → IsListFull s → slice_get new k ≡ Some s
-  -- the slots of the lists have their definitions, which are closed
-  pub closed : All (IsListClosedAt new) ls
+abbrev pub AreListsClosed : List KeptList → List ListSlot → List ListSlot → Type 0
+AreListsClosed = closing.AreClosed (λ (d : ListDefinition). d.stage) SameListLook (λ (l : KeptList). l.kept.definition)
 
 -- the desk's lists, which are these, were disposed of: every slot has a definition that no desk uses
-pub record AreAllListsClosed (ls : List KeptList) (old new : List ListSlot) : Type 0 where
-  pub ended : AreListsClosed ls old new
-  pub full : All IsListFull new
+abbrev pub AreAllListsClosed : List KeptList → List ListSlot → List ListSlot → Type 0
+AreAllListsClosed = closing.AreAllClosed (λ (d : ListDefinition). d.stage) SameListLook (λ (l : KeptList). l.kept.definition)
 
 -- the lists of a window were disposed of, and those of other windows stay
 pub record AreListsOfLeft (window : ℕ) (before after : ListsState) : Type 0 where

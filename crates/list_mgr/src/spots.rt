@@ -7,7 +7,7 @@ ghost use Rattle.list_mgr.specs.Spots.{IsSpotOf};
 ghost use Rattle.list_mgr.specs.WholeLists.{records_of};
 
 use crate::Lists;
-use def_iface::{Defined, DefinedList, Taken, TakenList};
+use def_iface::{Defined, TakenList, TakenWindow};
 use desk_call::ListOf;
 use tb_geom::Refusal;
 use window_mgr::WindowManager;
@@ -22,10 +22,10 @@ pub(crate) struct Spot {
 impl Lists<TakenList> {
     /// Where this list stands.
     pub(crate) fn spot(&self, windows: &WindowManager, list: ListOf) -> Result<Spot, Refusal>
-        ensures { let refusals = missing_refusals list (desk_of ⟦<Taken as Defined>⟧.loan windows.now [])
-            (records_of ⟦<TakenList as DefinedList>⟧.list_loan self.now) in
+        ensures { let refusals = missing_refusals list (desk_of ⟦<TakenWindow as Defined>⟧.loan windows.now [])
+            (records_of ⟦<TakenList as Defined>⟧.loan self.now) in
             MatchResult result
-            (λ spot. IsSpotOf ⟦<Taken as Defined>⟧.loan ⟦<TakenList as DefinedList>⟧.list_loan list windows.now self.now spot)
+            (λ spot. IsSpotOf ⟦<TakenWindow as Defined>⟧.loan ⟦<TakenList as Defined>⟧.loan list windows.now self.now spot)
             (λ e. first_refusal refusals ≡ Some e) }
     {
         let Some(window) = windows.find(list.window) else {

@@ -3,13 +3,16 @@ ghost use Rattle.std.specs.Prelude.{◌≡◌, ◌≤◌, true, not, if◌then�
 ghost use Rattle.bit_blit.specs.Draws.{Draws};
 ghost use Rattle.draw_port.specs.Canvases.{canvas_holds, canvas_point, SameFrame};
 ghost use Rattle.def_iface.specs.ControlMeaning.{is_control_size};
-ghost use Rattle.def_iface.specs.ListMeaning.{no_list_news, cell_bit};
+ghost use Rattle.def_iface.specs.ListMeaning.{ListLoan, no_list_news, cell_bit};
+ghost use Rattle.def_iface.specs.Slots.{loan_by};
 
-use def_iface::{DefinedList, Stage, TakenList};
+use def_iface::{Stage, TakenList};
 use draw_port::Canvas;
 
 /// What the cells of a list are drawn by.
-pub trait DrawnList: DefinedList {
+pub trait DrawnList {
+    ghost list_loan: { Self → ListLoan };
+
     /// Gives each pixel of the canvas, whose origin is the cell's 0 0, the value that a cell of these bytes shows there in the
     /// canvas's font: its picture, and where the cell is selected the pixels of its highlight inverted.
     fn draw_cell(&self, bytes: &[u8], selected: bool, canvas: &mut Canvas<'_>)
@@ -37,6 +40,8 @@ pub trait DrawnList: DefinedList {
 }
 
 impl DrawnList for TakenList {
+    ghost list_loan = { loan_by (λ b. (ListDef-box b).list_meaning b.value) };
+
     fn draw_cell(&self, bytes: &[u8], selected: bool, canvas: &mut Canvas<'_>) {
         TakenList::draw_cell(self, bytes, selected, canvas);
     }

@@ -7,18 +7,16 @@ ghost use Rattle.scratch_paint.specs.Screens.{IsAsLarge, no_slots};
 
 use crate::paint;
 use bit_map::BitMap;
-use def_iface::{
-    Defined, DefinedControl, DefinedList, DefinedMenu, Taken, TakenControl, TakenList, TakenMenu,
-};
+use def_iface::{Defined, TakenControl, TakenList, TakenMenu, TakenWindow};
 use desk_toolbox::Toolbox;
 use std::alloc::{AllocError, Global};
 use tb_geom::Point;
 
 /// How many pixels of the screen in no update region differ from the desk painted from nothing.
 pub fn differences(alloc: Global, toolbox: &Toolbox) -> Result<usize, AllocError>
-    requires { IsKeptToolbox ⟦<Taken as Defined>⟧.loan ⟦<TakenMenu as DefinedMenu>⟧.menu_loan ⟦<TakenControl as DefinedControl>⟧.control_loan ⟦<TakenList as DefinedList>⟧.list_loan toolbox.now }
+    requires { IsKeptToolbox ⟦<TakenWindow as Defined>⟧.loan ⟦<TakenMenu as Defined>⟧.loan ⟦<TakenControl as Defined>⟧.loan ⟦<TakenList as Defined>⟧.loan toolbox.now }
     ensures { IfOk result (λ n. n ≡ difference_count
-        (toolbox_state ⟦<Taken as Defined>⟧.loan ⟦<TakenMenu as DefinedMenu>⟧.menu_loan ⟦<TakenControl as DefinedControl>⟧.control_loan ⟦<TakenList as DefinedList>⟧.list_loan toolbox.now no_slots)) }
+        (toolbox_state ⟦<TakenWindow as Defined>⟧.loan ⟦<TakenMenu as Defined>⟧.loan ⟦<TakenControl as Defined>⟧.loan ⟦<TakenList as Defined>⟧.loan toolbox.now no_slots)) }
 {
     let painted = paint(alloc, toolbox)?;
     Ok(differences_from(toolbox, &painted))
@@ -26,11 +24,11 @@ pub fn differences(alloc: Global, toolbox: &Toolbox) -> Result<usize, AllocError
 
 /// How many differ from this map.
 fn differences_from(toolbox: &Toolbox, painted: &BitMap) -> usize
-    requires kept { IsKeptToolbox ⟦<Taken as Defined>⟧.loan ⟦<TakenMenu as DefinedMenu>⟧.menu_loan ⟦<TakenControl as DefinedControl>⟧.control_loan ⟦<TakenList as DefinedList>⟧.list_loan toolbox.now }
+    requires kept { IsKeptToolbox ⟦<TakenWindow as Defined>⟧.loan ⟦<TakenMenu as Defined>⟧.loan ⟦<TakenControl as Defined>⟧.loan ⟦<TakenList as Defined>⟧.loan toolbox.now }
     requires large { IsAsLarge
-        (toolbox_state ⟦<Taken as Defined>⟧.loan ⟦<TakenMenu as DefinedMenu>⟧.menu_loan ⟦<TakenControl as DefinedControl>⟧.control_loan ⟦<TakenList as DefinedList>⟧.list_loan toolbox.now no_slots) painted.now }
+        (toolbox_state ⟦<TakenWindow as Defined>⟧.loan ⟦<TakenMenu as Defined>⟧.loan ⟦<TakenControl as Defined>⟧.loan ⟦<TakenList as Defined>⟧.loan toolbox.now no_slots) painted.now }
     ensures { result ≡ differences_of
-        (toolbox_state ⟦<Taken as Defined>⟧.loan ⟦<TakenMenu as DefinedMenu>⟧.menu_loan ⟦<TakenControl as DefinedControl>⟧.control_loan ⟦<TakenList as DefinedList>⟧.list_loan toolbox.now no_slots)
+        (toolbox_state ⟦<TakenWindow as Defined>⟧.loan ⟦<TakenMenu as Defined>⟧.loan ⟦<TakenControl as Defined>⟧.loan ⟦<TakenList as Defined>⟧.loan toolbox.now no_slots)
         (bit painted.now) painted.now.width painted.now.height }
 {
     let rows = painted.bounds().bottom as u16;
@@ -43,12 +41,12 @@ fn differences_from(toolbox: &Toolbox, painted: &BitMap) -> usize
 
 /// The same of a row.
 fn differences_in_row(toolbox: &Toolbox, painted: &BitMap, row: u16) -> usize
-    requires kept { IsKeptToolbox ⟦<Taken as Defined>⟧.loan ⟦<TakenMenu as DefinedMenu>⟧.menu_loan ⟦<TakenControl as DefinedControl>⟧.control_loan ⟦<TakenList as DefinedList>⟧.list_loan toolbox.now }
+    requires kept { IsKeptToolbox ⟦<TakenWindow as Defined>⟧.loan ⟦<TakenMenu as Defined>⟧.loan ⟦<TakenControl as Defined>⟧.loan ⟦<TakenList as Defined>⟧.loan toolbox.now }
     requires large { IsAsLarge
-        (toolbox_state ⟦<Taken as Defined>⟧.loan ⟦<TakenMenu as DefinedMenu>⟧.menu_loan ⟦<TakenControl as DefinedControl>⟧.control_loan ⟦<TakenList as DefinedList>⟧.list_loan toolbox.now no_slots) painted.now }
+        (toolbox_state ⟦<TakenWindow as Defined>⟧.loan ⟦<TakenMenu as Defined>⟧.loan ⟦<TakenControl as Defined>⟧.loan ⟦<TakenList as Defined>⟧.loan toolbox.now no_slots) painted.now }
     requires row { row < painted.now.height }
     ensures count { result ≡ row_differences
-        (toolbox_state ⟦<Taken as Defined>⟧.loan ⟦<TakenMenu as DefinedMenu>⟧.menu_loan ⟦<TakenControl as DefinedControl>⟧.control_loan ⟦<TakenList as DefinedList>⟧.list_loan toolbox.now no_slots)
+        (toolbox_state ⟦<TakenWindow as Defined>⟧.loan ⟦<TakenMenu as Defined>⟧.loan ⟦<TakenControl as Defined>⟧.loan ⟦<TakenList as Defined>⟧.loan toolbox.now no_slots)
         (bit painted.now) painted.now.width row }
     ensures few { result ≤ painted.now.width }
 {
@@ -68,12 +66,12 @@ fn differences_in_row(toolbox: &Toolbox, painted: &BitMap, row: u16) -> usize
 
 /// Whether a pixel of the screen differs, and is in no update region.
 fn differs_at(toolbox: &Toolbox, painted: &BitMap, point: Point) -> bool
-    requires kept { IsKeptToolbox ⟦<Taken as Defined>⟧.loan ⟦<TakenMenu as DefinedMenu>⟧.menu_loan ⟦<TakenControl as DefinedControl>⟧.control_loan ⟦<TakenList as DefinedList>⟧.list_loan toolbox.now }
+    requires kept { IsKeptToolbox ⟦<TakenWindow as Defined>⟧.loan ⟦<TakenMenu as Defined>⟧.loan ⟦<TakenControl as Defined>⟧.loan ⟦<TakenList as Defined>⟧.loan toolbox.now }
     requires large { IsAsLarge
-        (toolbox_state ⟦<Taken as Defined>⟧.loan ⟦<TakenMenu as DefinedMenu>⟧.menu_loan ⟦<TakenControl as DefinedControl>⟧.control_loan ⟦<TakenList as DefinedList>⟧.list_loan toolbox.now no_slots) painted.now }
+        (toolbox_state ⟦<TakenWindow as Defined>⟧.loan ⟦<TakenMenu as Defined>⟧.loan ⟦<TakenControl as Defined>⟧.loan ⟦<TakenList as Defined>⟧.loan toolbox.now no_slots) painted.now }
     requires point { on_map painted.now point ≡ true }
     ensures { result ≡ differs
-        (toolbox_state ⟦<Taken as Defined>⟧.loan ⟦<TakenMenu as DefinedMenu>⟧.menu_loan ⟦<TakenControl as DefinedControl>⟧.control_loan ⟦<TakenList as DefinedList>⟧.list_loan toolbox.now no_slots)
+        (toolbox_state ⟦<TakenWindow as Defined>⟧.loan ⟦<TakenMenu as Defined>⟧.loan ⟦<TakenControl as Defined>⟧.loan ⟦<TakenList as Defined>⟧.loan toolbox.now no_slots)
         (bit painted.now) point }
 {
     toolbox.screen().get(point) != painted.get(point) && !toolbox.windows().is_stale(point)

@@ -12,9 +12,7 @@ ghost use Rattle.scratch_paint.specs.Screens.{IsPaintedScreen, no_slots};
 
 use crate::windows::paint_window;
 use bit_map::BitMap;
-use def_iface::{
-    Defined, DefinedControl, DefinedList, DefinedMenu, Taken, TakenControl, TakenList, TakenMenu,
-};
+use def_iface::{Defined, TakenControl, TakenList, TakenMenu, TakenWindow};
 use desk_ground::{Ground, draw_bar, empty_ground};
 use desk_toolbox::Toolbox;
 use scan_region::Region;
@@ -29,9 +27,9 @@ use window_paint::Showing;
 /// bar and the desktop show, controls and lists among that, and over it the menu that is pulled down, or the outline of a window
 /// that is dragged or grown. It reads neither the screen's pixels nor any region that the Toolbox keeps.
 pub fn paint(alloc: Global, toolbox: &Toolbox) -> Result<BitMap, AllocError>
-    requires { IsKeptToolbox ⟦<Taken as Defined>⟧.loan ⟦<TakenMenu as DefinedMenu>⟧.menu_loan ⟦<TakenControl as DefinedControl>⟧.control_loan ⟦<TakenList as DefinedList>⟧.list_loan toolbox.now }
+    requires { IsKeptToolbox ⟦<TakenWindow as Defined>⟧.loan ⟦<TakenMenu as Defined>⟧.loan ⟦<TakenControl as Defined>⟧.loan ⟦<TakenList as Defined>⟧.loan toolbox.now }
     ensures { IfOk result (IsPaintedScreen
-        (toolbox_state ⟦<Taken as Defined>⟧.loan ⟦<TakenMenu as DefinedMenu>⟧.menu_loan ⟦<TakenControl as DefinedControl>⟧.control_loan ⟦<TakenList as DefinedList>⟧.list_loan toolbox.now no_slots)) }
+        (toolbox_state ⟦<TakenWindow as Defined>⟧.loan ⟦<TakenMenu as Defined>⟧.loan ⟦<TakenControl as Defined>⟧.loan ⟦<TakenList as Defined>⟧.loan toolbox.now no_slots)) }
 {
     let windows = toolbox.windows();
     let mut image = paint_base(alloc, windows, &toolbox.contents())?;
@@ -48,10 +46,10 @@ fn paint_base<S: Showing>(
     windows: &WindowManager,
     layers: &S,
 ) -> Result<BitMap, AllocError>
-    requires kept { IsKept ⟦<Taken as Defined>⟧.loan windows.now }
+    requires kept { IsKept ⟦<TakenWindow as Defined>⟧.loan windows.now }
     requires layers { S.is_whole layers.now }
     ensures { IfOk result (IsPaintedDesk
-        (desk_showing (S.shows layers.now) (desk_of ⟦<Taken as Defined>⟧.loan windows.now []))) }
+        (desk_showing (S.shows layers.now) (desk_of ⟦<TakenWindow as Defined>⟧.loan windows.now []))) }
 {
     let DeskView {
         width,
@@ -81,11 +79,11 @@ fn paint_windows<S: Showing>(
     layers: &S,
     font: &Font,
 ) -> Result<(), AllocError>
-    requires settled { All IsSettled (map (record_of ⟦<Taken as Defined>⟧.loan) windows.now.records.items) }
+    requires settled { All IsSettled (map (record_of ⟦<TakenWindow as Defined>⟧.loan) windows.now.records.items) }
     requires layers { S.is_whole layers.now }
     ensures { OnOk result (Draws (holds gray.now)
         (windows_value (look_in (S.shows layers.now) font.now)
-        (map (record_of ⟦<Taken as Defined>⟧.loan) windows.now.records.items))
+        (map (record_of ⟦<TakenWindow as Defined>⟧.loan) windows.now.records.items))
         image.old image.new) }
 {
     for at in (0..windows.len()).rev() {

@@ -14,7 +14,7 @@ ghost use Rattle.window_mgr.specs.Whole.{IsSettled};
 ghost use Rattle.scratch_paint.specs.Paints.{IsLocalContent, layers_value, look_in, window_value};
 
 use bit_map::BitMap;
-use def_iface::{Defined, Taken, WindowRegions};
+use def_iface::{Defined, TakenWindow, WindowRegions};
 use desk_layers::Part;
 use draw_port::Canvas;
 use scan_region::Region;
@@ -34,10 +34,10 @@ pub(crate) fn paint_window<S: Showing>(
     layers: &S,
     font: &Font,
 ) -> Result<(), AllocError>
-    requires settled { IsSettled (record_of ⟦<Taken as Defined>⟧.loan window.now) }
+    requires settled { IsSettled (record_of ⟦<TakenWindow as Defined>⟧.loan window.now) }
     requires layers { S.is_whole layers.now }
     ensures { OnOk result (Draws (holds gray.now)
-        (window_value (look_in (S.shows layers.now) font.now) (record_of ⟦<Taken as Defined>⟧.loan window.now))
+        (window_value (look_in (S.shows layers.now) font.now) (record_of ⟦<TakenWindow as Defined>⟧.loan window.now))
         image.old image.new) }
 {
     if !window.shown {
@@ -60,9 +60,9 @@ fn paint_frame<'a>(
     window: &Window,
     font: &Font,
 )
-    requires { IsSettled (record_of ⟦<Taken as Defined>⟧.loan window.now) }
+    requires { IsSettled (record_of ⟦<TakenWindow as Defined>⟧.loan window.now) }
     ensures { Draws (λ p. holds gray.now p && holds structure.now p)
-        (λ p _. (⟦<Taken as Defined>⟧.loan window.now.taken).definition.picture no_news font.now (minus p window.now.place))
+        (λ p _. (⟦<TakenWindow as Defined>⟧.loan window.now.taken).definition.picture no_news font.now (minus p window.now.place))
         image.old image.new }
 {
     let cut = meeting(gray, structure);
@@ -85,7 +85,7 @@ fn paint_picture<'a>(
     window: &Window,
     font: &Font,
 )
-    requires { IsSettled (record_of ⟦<Taken as Defined>⟧.loan window.now) }
+    requires { IsSettled (record_of ⟦<TakenWindow as Defined>⟧.loan window.now) }
     ensures { Draws (λ p. holds gray.now p && holds content.now p)
         (λ p _. picture_bit font.now window.now.picture (minus (minus p window.now.place) window.now.origin))
         image.old image.new }
@@ -113,12 +113,12 @@ fn paint_layers<S: Showing>(
     layers: &S,
     font: &Font,
 ) -> Result<(), AllocError>
-    requires settled { IsSettled (record_of ⟦<Taken as Defined>⟧.loan window.now) }
+    requires settled { IsSettled (record_of ⟦<TakenWindow as Defined>⟧.loan window.now) }
     requires shown { window.now.shown ≡ true }
-    requires content { IsLocalContent (record_of ⟦<Taken as Defined>⟧.loan window.now) content.now }
+    requires content { IsLocalContent (record_of ⟦<TakenWindow as Defined>⟧.loan window.now) content.now }
     requires layers { S.is_whole layers.now }
     ensures { OnOk result (Draws (holds gray.now)
-        (layers_value (look_in (S.shows layers.now) font.now) (record_of ⟦<Taken as Defined>⟧.loan window.now)
+        (layers_value (look_in (S.shows layers.now) font.now) (record_of ⟦<TakenWindow as Defined>⟧.loan window.now)
         window.now.layers.layers)
         image.old image.new) }
 {

@@ -2,10 +2,7 @@
 use Rattle.std.proofs.Common.{◌≡◌, inl, inr, ℕ, List, Option, None, Some, Result, Ok, Err, refl, ap}
 use Rattle.std.specs.Result.{IfOk, result_ok}
 use Rattle.std.specs.declared.alloc.AllocError.{AllocError}
-use Rattle.def_iface.specs.declared.taken.Taken.{Taken}
-use Rattle.def_iface.specs.declared.taken_control.TakenControl.{TakenControl}
-use Rattle.def_iface.specs.declared.taken_list.TakenList.{TakenList}
-use Rattle.def_iface.specs.declared.taken_menu.TakenMenu.{TakenMenu}
+use Rattle.def_iface.specs.Slots.{TakenBox}
 use Rattle.def_iface.specs.ControlMeaning.{ControlLoan}
 use Rattle.def_iface.specs.ListMeaning.{ListLoan}
 use Rattle.def_iface.specs.Meaning.{Loan}
@@ -18,7 +15,7 @@ use Rattle.scratch_paint.specs.Screens.{no_slots}
 use Rattle.script_runner.specs.Checks.{IsCheckLine, check_text}
 use Rattle.script_runner.specs.SessionViews.{state_with}
 
-module _ {V : Type 0} {H : V → Type 0} (loan : Taken V H → Loan) {W : Type 0} {K : W → Type 0} (menu_loan : TakenMenu W K → MenuLoan) {U : Type 0} {J : U → Type 0} (control_loan : TakenControl U J → ControlLoan) {X : Type 0} {L : X → Type 0} (list_loan : TakenList X L → ListLoan) (font : Option (List ℕ)) (stocks : AllSlots) where
+module _ {V : Type 0} {H : V → Type 0} (loan : TakenBox V H → Loan) {W : Type 0} {K : W → Type 0} (menu_loan : TakenBox W K → MenuLoan) {U : Type 0} {J : U → Type 0} (control_loan : TakenBox U J → ControlLoan) {X : Type 0} {L : X → Type 0} (list_loan : TakenBox X L → ListLoan) (font : Option (List ℕ)) (stocks : AllSlots) where
   made_line : (t : Toolbox V U W X H J K L) (count : Result ℕ AllocError) → IfOk count (λ n. n ≡ difference_count (toolbox_state loan menu_loan control_loan list_loan t no_slots))
       → IsCheckLine (state_with loan menu_loan control_loan list_loan (Some t) font stocks) (check_text (result_ok count))
   unfolding differences_of row_differences

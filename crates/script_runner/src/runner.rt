@@ -13,10 +13,7 @@ ghost use Rattle.script_runner.specs.Runs.{CheckedEnds, RunEnds, ScriptEnds};
 ghost use Rattle.watched_io.specs.Writes.{Output};
 
 use crate::script::Script;
-use def_iface::{
-    Defined, DefinedControl, DefinedList, DefinedMenu, Stock, StockedAll, Taken, TakenControl,
-    TakenList, TakenMenu,
-};
+use def_iface::{Defined, Stock, StockedAll, TakenControl, TakenList, TakenMenu, TakenWindow};
 use script_text::LineBuffer;
 use std::alloc::Global;
 use strike_font::Font;
@@ -70,15 +67,15 @@ fn answer_and_check<R: Source, W: Sink>(
     raw: bool,
     check: bool,
 ) -> Result<(), Refusal>
-    requires ready { IsReady ⟦<Taken as Defined>⟧.loan ⟦<TakenMenu as DefinedMenu>⟧.menu_loan ⟦<TakenControl as DefinedControl>⟧.control_loan ⟦<TakenList as DefinedList>⟧.list_loan script.old.session (⟦<Stock as StockedAll>⟧.all_slots stock.old) }
+    requires ready { IsReady ⟦<TakenWindow as Defined>⟧.loan ⟦<TakenMenu as Defined>⟧.loan ⟦<TakenControl as Defined>⟧.loan ⟦<TakenList as Defined>⟧.loan script.old.session (⟦<Stock as StockedAll>⟧.all_slots stock.old) }
     requires unread { (R.input source.old).reads ≡ 0 }
     requires going { IsOpen (R.input source.old) }
     requires unfailed { (W.output sink.old).has_failed ≡ false }
-    ensures ready { IsReady ⟦<Taken as Defined>⟧.loan ⟦<TakenMenu as DefinedMenu>⟧.menu_loan ⟦<TakenControl as DefinedControl>⟧.control_loan ⟦<TakenList as DefinedList>⟧.list_loan script.new.session (⟦<Stock as StockedAll>⟧.all_slots stock.new) }
+    ensures ready { IsReady ⟦<TakenWindow as Defined>⟧.loan ⟦<TakenMenu as Defined>⟧.loan ⟦<TakenControl as Defined>⟧.loan ⟦<TakenList as Defined>⟧.loan script.new.session (⟦<Stock as StockedAll>⟧.all_slots stock.new) }
     ensures ends { CheckedEnds raw check
-        (script_of ⟦<Taken as Defined>⟧.loan ⟦<TakenMenu as DefinedMenu>⟧.menu_loan ⟦<TakenControl as DefinedControl>⟧.control_loan ⟦<TakenList as DefinedList>⟧.list_loan script.old (⟦<Stock as StockedAll>⟧.all_slots stock.old))
+        (script_of ⟦<TakenWindow as Defined>⟧.loan ⟦<TakenMenu as Defined>⟧.loan ⟦<TakenControl as Defined>⟧.loan ⟦<TakenList as Defined>⟧.loan script.old (⟦<Stock as StockedAll>⟧.all_slots stock.old))
         (R.input source.old) (R.input source.new) (W.output sink.old) (W.output sink.new)
-        (script_of ⟦<Taken as Defined>⟧.loan ⟦<TakenMenu as DefinedMenu>⟧.menu_loan ⟦<TakenControl as DefinedControl>⟧.control_loan ⟦<TakenList as DefinedList>⟧.list_loan script.new (⟦<Stock as StockedAll>⟧.all_slots stock.new)) result }
+        (script_of ⟦<TakenWindow as Defined>⟧.loan ⟦<TakenMenu as Defined>⟧.loan ⟦<TakenControl as Defined>⟧.loan ⟦<TakenList as Defined>⟧.loan script.new (⟦<Stock as StockedAll>⟧.all_slots stock.new)) result }
 {
     match answer_all(script, source, sink, stock, raw) {
         Ok(()) if check => script.check(sink),
@@ -106,15 +103,15 @@ fn answer_all<R: Source, W: Sink>(
     stock: &mut Stock,
     raw: bool,
 ) -> Result<(), Refusal>
-    requires ready { IsReady ⟦<Taken as Defined>⟧.loan ⟦<TakenMenu as DefinedMenu>⟧.menu_loan ⟦<TakenControl as DefinedControl>⟧.control_loan ⟦<TakenList as DefinedList>⟧.list_loan script.old.session (⟦<Stock as StockedAll>⟧.all_slots stock.old) }
+    requires ready { IsReady ⟦<TakenWindow as Defined>⟧.loan ⟦<TakenMenu as Defined>⟧.loan ⟦<TakenControl as Defined>⟧.loan ⟦<TakenList as Defined>⟧.loan script.old.session (⟦<Stock as StockedAll>⟧.all_slots stock.old) }
     requires unread { (R.input source.old).reads ≡ 0 }
     requires going { IsOpen (R.input source.old) }
     requires unfailed { (W.output sink.old).has_failed ≡ false }
-    ensures ready { IsReady ⟦<Taken as Defined>⟧.loan ⟦<TakenMenu as DefinedMenu>⟧.menu_loan ⟦<TakenControl as DefinedControl>⟧.control_loan ⟦<TakenList as DefinedList>⟧.list_loan script.new.session (⟦<Stock as StockedAll>⟧.all_slots stock.new) }
+    ensures ready { IsReady ⟦<TakenWindow as Defined>⟧.loan ⟦<TakenMenu as Defined>⟧.loan ⟦<TakenControl as Defined>⟧.loan ⟦<TakenList as Defined>⟧.loan script.new.session (⟦<Stock as StockedAll>⟧.all_slots stock.new) }
     ensures ends { ScriptEnds raw
-        (script_of ⟦<Taken as Defined>⟧.loan ⟦<TakenMenu as DefinedMenu>⟧.menu_loan ⟦<TakenControl as DefinedControl>⟧.control_loan ⟦<TakenList as DefinedList>⟧.list_loan script.old (⟦<Stock as StockedAll>⟧.all_slots stock.old))
+        (script_of ⟦<TakenWindow as Defined>⟧.loan ⟦<TakenMenu as Defined>⟧.loan ⟦<TakenControl as Defined>⟧.loan ⟦<TakenList as Defined>⟧.loan script.old (⟦<Stock as StockedAll>⟧.all_slots stock.old))
         (R.input source.old) (R.input source.new) (W.output sink.old) (W.output sink.new)
-        (script_of ⟦<Taken as Defined>⟧.loan ⟦<TakenMenu as DefinedMenu>⟧.menu_loan ⟦<TakenControl as DefinedControl>⟧.control_loan ⟦<TakenList as DefinedList>⟧.list_loan script.new (⟦<Stock as StockedAll>⟧.all_slots stock.new)) result }
+        (script_of ⟦<TakenWindow as Defined>⟧.loan ⟦<TakenMenu as Defined>⟧.loan ⟦<TakenControl as Defined>⟧.loan ⟦<TakenList as Defined>⟧.loan script.new (⟦<Stock as StockedAll>⟧.all_slots stock.new)) result }
 {
     let mut line = LineBuffer::new();
     let mut buffer = [0u8; 4096];
@@ -137,14 +134,14 @@ fn take_all<W: Sink>(
     sink: &mut W,
     raw: bool,
 ) -> Result<(), Refusal>
-    requires ready { IsReady ⟦<Taken as Defined>⟧.loan ⟦<TakenMenu as DefinedMenu>⟧.menu_loan ⟦<TakenControl as DefinedControl>⟧.control_loan ⟦<TakenList as DefinedList>⟧.list_loan script.old.session (⟦<Stock as StockedAll>⟧.all_slots stock.old) }
+    requires ready { IsReady ⟦<TakenWindow as Defined>⟧.loan ⟦<TakenMenu as Defined>⟧.loan ⟦<TakenControl as Defined>⟧.loan ⟦<TakenList as Defined>⟧.loan script.old.session (⟦<Stock as StockedAll>⟧.all_slots stock.old) }
     requires unfailed { (W.output sink.old).has_failed ≡ false }
-    ensures ready { IsReady ⟦<Taken as Defined>⟧.loan ⟦<TakenMenu as DefinedMenu>⟧.menu_loan ⟦<TakenControl as DefinedControl>⟧.control_loan ⟦<TakenList as DefinedList>⟧.list_loan script.new.session (⟦<Stock as StockedAll>⟧.all_slots stock.new) }
+    ensures ready { IsReady ⟦<TakenWindow as Defined>⟧.loan ⟦<TakenMenu as Defined>⟧.loan ⟦<TakenControl as Defined>⟧.loan ⟦<TakenList as Defined>⟧.loan script.new.session (⟦<Stock as StockedAll>⟧.all_slots stock.new) }
     ensures quiet { OnOk result ((W.output sink.new).has_failed ≡ false) }
     ensures goes_on { (first : ScriptState) (input rest : Input) (old : Output) → SoFar raw first input old rest (W.output sink.old)
-        (script_of ⟦<Taken as Defined>⟧.loan ⟦<TakenMenu as DefinedMenu>⟧.menu_loan ⟦<TakenControl as DefinedControl>⟧.control_loan ⟦<TakenList as DefinedList>⟧.list_loan script.old (⟦<Stock as StockedAll>⟧.all_slots stock.old)) line.old bytes.now
+        (script_of ⟦<TakenWindow as Defined>⟧.loan ⟦<TakenMenu as Defined>⟧.loan ⟦<TakenControl as Defined>⟧.loan ⟦<TakenList as Defined>⟧.loan script.old (⟦<Stock as StockedAll>⟧.all_slots stock.old)) line.old bytes.now
         → GoesOn raw first input old rest (W.output sink.new)
-        (script_of ⟦<Taken as Defined>⟧.loan ⟦<TakenMenu as DefinedMenu>⟧.menu_loan ⟦<TakenControl as DefinedControl>⟧.control_loan ⟦<TakenList as DefinedList>⟧.list_loan script.new (⟦<Stock as StockedAll>⟧.all_slots stock.new)) line.new result }
+        (script_of ⟦<TakenWindow as Defined>⟧.loan ⟦<TakenMenu as Defined>⟧.loan ⟦<TakenControl as Defined>⟧.loan ⟦<TakenList as Defined>⟧.loan script.new (⟦<Stock as StockedAll>⟧.all_slots stock.new)) line.new result }
 {
     for byte in bytes {
         take(script, line, *byte, stock, sink, raw)?;
@@ -161,18 +158,18 @@ fn take<W: Sink>(
     sink: &mut W,
     raw: bool,
 ) -> Result<(), Refusal>
-    requires ready { IsReady ⟦<Taken as Defined>⟧.loan ⟦<TakenMenu as DefinedMenu>⟧.menu_loan ⟦<TakenControl as DefinedControl>⟧.control_loan ⟦<TakenList as DefinedList>⟧.list_loan script.old.session (⟦<Stock as StockedAll>⟧.all_slots stock.old) }
+    requires ready { IsReady ⟦<TakenWindow as Defined>⟧.loan ⟦<TakenMenu as Defined>⟧.loan ⟦<TakenControl as Defined>⟧.loan ⟦<TakenList as Defined>⟧.loan script.old.session (⟦<Stock as StockedAll>⟧.all_slots stock.old) }
     requires unfailed { (W.output sink.old).has_failed ≡ false }
-    ensures ready { IsReady ⟦<Taken as Defined>⟧.loan ⟦<TakenMenu as DefinedMenu>⟧.menu_loan ⟦<TakenControl as DefinedControl>⟧.control_loan ⟦<TakenList as DefinedList>⟧.list_loan script.new.session (⟦<Stock as StockedAll>⟧.all_slots stock.new) }
+    ensures ready { IsReady ⟦<TakenWindow as Defined>⟧.loan ⟦<TakenMenu as Defined>⟧.loan ⟦<TakenControl as Defined>⟧.loan ⟦<TakenList as Defined>⟧.loan script.new.session (⟦<Stock as StockedAll>⟧.all_slots stock.new) }
     ensures quiet { OnOk result ((W.output sink.new).has_failed ≡ false) }
     ensures newline { byte ≡ 10 → LineEnds raw
-        (script_of ⟦<Taken as Defined>⟧.loan ⟦<TakenMenu as DefinedMenu>⟧.menu_loan ⟦<TakenControl as DefinedControl>⟧.control_loan ⟦<TakenList as DefinedList>⟧.list_loan script.old (⟦<Stock as StockedAll>⟧.all_slots stock.old)) (said_held line.old)
-        (script_of ⟦<Taken as Defined>⟧.loan ⟦<TakenMenu as DefinedMenu>⟧.menu_loan ⟦<TakenControl as DefinedControl>⟧.control_loan ⟦<TakenList as DefinedList>⟧.list_loan script.new (⟦<Stock as StockedAll>⟧.all_slots stock.new))
+        (script_of ⟦<TakenWindow as Defined>⟧.loan ⟦<TakenMenu as Defined>⟧.loan ⟦<TakenControl as Defined>⟧.loan ⟦<TakenList as Defined>⟧.loan script.old (⟦<Stock as StockedAll>⟧.all_slots stock.old)) (said_held line.old)
+        (script_of ⟦<TakenWindow as Defined>⟧.loan ⟦<TakenMenu as Defined>⟧.loan ⟦<TakenControl as Defined>⟧.loan ⟦<TakenList as Defined>⟧.loan script.new (⟦<Stock as StockedAll>⟧.all_slots stock.new))
         (W.output sink.old) (W.output sink.new) result }
     ensures cleared { byte ≡ 10 → OnOk result (line.new ≡ Some []) }
     ensures other { byte ≢ 10 → IsOk result × (line.new ≡ pushed line.old byte)
-        × (script_of ⟦<Taken as Defined>⟧.loan ⟦<TakenMenu as DefinedMenu>⟧.menu_loan ⟦<TakenControl as DefinedControl>⟧.control_loan ⟦<TakenList as DefinedList>⟧.list_loan script.new (⟦<Stock as StockedAll>⟧.all_slots stock.new)
-        ≡ script_of ⟦<Taken as Defined>⟧.loan ⟦<TakenMenu as DefinedMenu>⟧.menu_loan ⟦<TakenControl as DefinedControl>⟧.control_loan ⟦<TakenList as DefinedList>⟧.list_loan script.old (⟦<Stock as StockedAll>⟧.all_slots stock.old))
+        × (script_of ⟦<TakenWindow as Defined>⟧.loan ⟦<TakenMenu as Defined>⟧.loan ⟦<TakenControl as Defined>⟧.loan ⟦<TakenList as Defined>⟧.loan script.new (⟦<Stock as StockedAll>⟧.all_slots stock.new)
+        ≡ script_of ⟦<TakenWindow as Defined>⟧.loan ⟦<TakenMenu as Defined>⟧.loan ⟦<TakenControl as Defined>⟧.loan ⟦<TakenList as Defined>⟧.loan script.old (⟦<Stock as StockedAll>⟧.all_slots stock.old))
         × (W.output sink.new ≡ W.output sink.old) }
 {
     if byte != b'\n' {

@@ -12,10 +12,7 @@ ghost use Rattle.script_runner.specs.SessionViews.{session_of, script_of, IsRead
 
 use crate::session::Session;
 use crate::shown::{show_done, show_reply};
-use def_iface::{
-    Defined, DefinedControl, DefinedList, DefinedMenu, Stock, StockedAll, Taken, TakenControl,
-    TakenList, TakenMenu,
-};
+use def_iface::{Defined, Stock, StockedAll, TakenControl, TakenList, TakenMenu, TakenWindow};
 use desk_toolbox::{Call, WindowCall};
 use script_text::Command;
 use std::alloc::Global;
@@ -60,13 +57,13 @@ impl Script {
         sink: &mut S,
         raw: bool,
     ) -> Result<(), Refusal>
-        requires ready { IsReady ⟦<Taken as Defined>⟧.loan ⟦<TakenMenu as DefinedMenu>⟧.menu_loan ⟦<TakenControl as DefinedControl>⟧.control_loan ⟦<TakenList as DefinedList>⟧.list_loan self.old.session (⟦<Stock as StockedAll>⟧.all_slots stock.old) }
+        requires ready { IsReady ⟦<TakenWindow as Defined>⟧.loan ⟦<TakenMenu as Defined>⟧.loan ⟦<TakenControl as Defined>⟧.loan ⟦<TakenList as Defined>⟧.loan self.old.session (⟦<Stock as StockedAll>⟧.all_slots stock.old) }
         requires unfailed { (S.output sink.old).has_failed ≡ false }
-        ensures ready { IsReady ⟦<Taken as Defined>⟧.loan ⟦<TakenMenu as DefinedMenu>⟧.menu_loan ⟦<TakenControl as DefinedControl>⟧.control_loan ⟦<TakenList as DefinedList>⟧.list_loan self.new.session (⟦<Stock as StockedAll>⟧.all_slots stock.new) }
+        ensures ready { IsReady ⟦<TakenWindow as Defined>⟧.loan ⟦<TakenMenu as Defined>⟧.loan ⟦<TakenControl as Defined>⟧.loan ⟦<TakenList as Defined>⟧.loan self.new.session (⟦<Stock as StockedAll>⟧.all_slots stock.new) }
         ensures quiet { OnOk result ((S.output sink.new).has_failed ≡ false) }
         ensures ends { LineEnds raw
-            (script_of ⟦<Taken as Defined>⟧.loan ⟦<TakenMenu as DefinedMenu>⟧.menu_loan ⟦<TakenControl as DefinedControl>⟧.control_loan ⟦<TakenList as DefinedList>⟧.list_loan self.old (⟦<Stock as StockedAll>⟧.all_slots stock.old)) said.entry
-            (script_of ⟦<Taken as Defined>⟧.loan ⟦<TakenMenu as DefinedMenu>⟧.menu_loan ⟦<TakenControl as DefinedControl>⟧.control_loan ⟦<TakenList as DefinedList>⟧.list_loan self.new (⟦<Stock as StockedAll>⟧.all_slots stock.new))
+            (script_of ⟦<TakenWindow as Defined>⟧.loan ⟦<TakenMenu as Defined>⟧.loan ⟦<TakenControl as Defined>⟧.loan ⟦<TakenList as Defined>⟧.loan self.old (⟦<Stock as StockedAll>⟧.all_slots stock.old)) said.entry
+            (script_of ⟦<TakenWindow as Defined>⟧.loan ⟦<TakenMenu as Defined>⟧.loan ⟦<TakenControl as Defined>⟧.loan ⟦<TakenList as Defined>⟧.loan self.new (⟦<Stock as StockedAll>⟧.all_slots stock.new))
             (S.output sink.old) (S.output sink.new) result }
     {
         match said {
@@ -87,13 +84,13 @@ impl Script {
         sink: &mut S,
         raw: bool,
     ) -> Result<(), Refusal>
-        requires ready { IsReady ⟦<Taken as Defined>⟧.loan ⟦<TakenMenu as DefinedMenu>⟧.menu_loan ⟦<TakenControl as DefinedControl>⟧.control_loan ⟦<TakenList as DefinedList>⟧.list_loan self.old.session (⟦<Stock as StockedAll>⟧.all_slots stock.old) }
+        requires ready { IsReady ⟦<TakenWindow as Defined>⟧.loan ⟦<TakenMenu as Defined>⟧.loan ⟦<TakenControl as Defined>⟧.loan ⟦<TakenList as Defined>⟧.loan self.old.session (⟦<Stock as StockedAll>⟧.all_slots stock.old) }
         requires unfailed { (S.output sink.old).has_failed ≡ false }
-        ensures ready { IsReady ⟦<Taken as Defined>⟧.loan ⟦<TakenMenu as DefinedMenu>⟧.menu_loan ⟦<TakenControl as DefinedControl>⟧.control_loan ⟦<TakenList as DefinedList>⟧.list_loan self.new.session (⟦<Stock as StockedAll>⟧.all_slots stock.new) }
+        ensures ready { IsReady ⟦<TakenWindow as Defined>⟧.loan ⟦<TakenMenu as Defined>⟧.loan ⟦<TakenControl as Defined>⟧.loan ⟦<TakenList as Defined>⟧.loan self.new.session (⟦<Stock as StockedAll>⟧.all_slots stock.new) }
         ensures quiet { OnOk result ((S.output sink.new).has_failed ≡ false) }
         ensures ends { TakeEnds raw
-            (script_of ⟦<Taken as Defined>⟧.loan ⟦<TakenMenu as DefinedMenu>⟧.menu_loan ⟦<TakenControl as DefinedControl>⟧.control_loan ⟦<TakenList as DefinedList>⟧.list_loan self.old (⟦<Stock as StockedAll>⟧.all_slots stock.old)) command.now
-            (script_of ⟦<Taken as Defined>⟧.loan ⟦<TakenMenu as DefinedMenu>⟧.menu_loan ⟦<TakenControl as DefinedControl>⟧.control_loan ⟦<TakenList as DefinedList>⟧.list_loan self.new (⟦<Stock as StockedAll>⟧.all_slots stock.new))
+            (script_of ⟦<TakenWindow as Defined>⟧.loan ⟦<TakenMenu as Defined>⟧.loan ⟦<TakenControl as Defined>⟧.loan ⟦<TakenList as Defined>⟧.loan self.old (⟦<Stock as StockedAll>⟧.all_slots stock.old)) command.now
+            (script_of ⟦<TakenWindow as Defined>⟧.loan ⟦<TakenMenu as Defined>⟧.loan ⟦<TakenControl as Defined>⟧.loan ⟦<TakenList as Defined>⟧.loan self.new (⟦<Stock as StockedAll>⟧.all_slots stock.new))
             (S.output sink.old) (S.output sink.new) result }
     {
         let refusal = why_unread(self.is_begun, self.version, command);
@@ -110,10 +107,10 @@ impl Script {
 
     /// Writes the line of the check of the script's desk, as `Session::check` says.
     pub fn check<S: Sink>(&self, sink: &mut S) -> Result<(), Refusal>
-        requires kept { (desk : _) → self.now.session.desk ≡ Some desk → IsKeptToolbox ⟦<Taken as Defined>⟧.loan ⟦<TakenMenu as DefinedMenu>⟧.menu_loan ⟦<TakenControl as DefinedControl>⟧.control_loan ⟦<TakenList as DefinedList>⟧.list_loan desk }
+        requires kept { (desk : _) → self.now.session.desk ≡ Some desk → IsKeptToolbox ⟦<TakenWindow as Defined>⟧.loan ⟦<TakenMenu as Defined>⟧.loan ⟦<TakenControl as Defined>⟧.loan ⟦<TakenList as Defined>⟧.loan desk }
         requires unfailed { (S.output sink.old).has_failed ≡ false }
         ensures { (stocks : AllSlots) → (text : List ℕ)
-            × IsCheckLine (session_of ⟦<Taken as Defined>⟧.loan ⟦<TakenMenu as DefinedMenu>⟧.menu_loan ⟦<TakenControl as DefinedControl>⟧.control_loan ⟦<TakenList as DefinedList>⟧.list_loan self.now.session stocks) text
+            × IsCheckLine (session_of ⟦<TakenWindow as Defined>⟧.loan ⟦<TakenMenu as Defined>⟧.loan ⟦<TakenControl as Defined>⟧.loan ⟦<TakenList as Defined>⟧.loan self.now.session stocks) text
             × Sends (S.output sink.old) (S.output sink.new) result text }
     {
         self.session.check(sink)
@@ -122,9 +119,9 @@ impl Script {
     /// Ends the script: the definition of every window, control, list and menu of its desk is disposed of, and put back
     /// Closed into its slot, while every other slot stays as it was.
     pub fn close(self, stock: &mut Stock)
-        requires { IsReady ⟦<Taken as Defined>⟧.loan ⟦<TakenMenu as DefinedMenu>⟧.menu_loan ⟦<TakenControl as DefinedControl>⟧.control_loan ⟦<TakenList as DefinedList>⟧.list_loan self.session (⟦<Stock as StockedAll>⟧.all_slots stock.old) }
+        requires { IsReady ⟦<TakenWindow as Defined>⟧.loan ⟦<TakenMenu as Defined>⟧.loan ⟦<TakenControl as Defined>⟧.loan ⟦<TakenList as Defined>⟧.loan self.session (⟦<Stock as StockedAll>⟧.all_slots stock.old) }
         ensures full { AreAllFull (⟦<Stock as StockedAll>⟧.all_slots stock.new) }
-        ensures left { LeavesStock (session_of ⟦<Taken as Defined>⟧.loan ⟦<TakenMenu as DefinedMenu>⟧.menu_loan ⟦<TakenControl as DefinedControl>⟧.control_loan ⟦<TakenList as DefinedList>⟧.list_loan self.session (⟦<Stock as StockedAll>⟧.all_slots stock.old)) (⟦<Stock as StockedAll>⟧.all_slots stock.new) }
+        ensures left { LeavesStock (session_of ⟦<TakenWindow as Defined>⟧.loan ⟦<TakenMenu as Defined>⟧.loan ⟦<TakenControl as Defined>⟧.loan ⟦<TakenList as Defined>⟧.loan self.session (⟦<Stock as StockedAll>⟧.all_slots stock.old)) (⟦<Stock as StockedAll>⟧.all_slots stock.new) }
     {
         let Script { session, .. } = self;
         session.close(stock);

@@ -5,7 +5,7 @@ use Rattle.tb_geom.specs.Points.{PixelSet, minus}
 use Rattle.draw_port.specs.declared.shapes.Op.{Op}
 use Rattle.draw_port.specs.Ops.{picture_bit}
 use Rattle.def_iface.specs.declared.size.Size.{Size}
-use Rattle.def_iface.specs.declared.taken.Taken.{Taken}
+use Rattle.def_iface.specs.Slots.{TakenBox}
 use Rattle.def_iface.specs.Meaning.{Definition, Loan}
 use Rattle.def_iface.specs.News.{AllNews, no_news}
 use Rattle.desk_layers.specs.Desk as layers
@@ -89,7 +89,7 @@ layered_window look w = record {
 }
 
 -- `loan` says what a definition that was taken means
-module _ {V : Type 0} {H : V → Type 0} (loan : Taken V H → Loan) where
+module _ {V : Type 0} {H : V → Type 0} (loan : TakenBox V H → Loan) where
   abbrev pub record_of : Window V H → WindowRecord
   record_of w = record {
     serial = w.serial;

@@ -5,7 +5,7 @@ use Rattle.tb_geom.specs.declared.point.Point.{Point}
 use Rattle.tb_geom.specs.declared.refusal.Refusal.{Refusal}
 use Rattle.tb_geom.specs.declared.refusal.Refusal.TheVariants.{NoSuchWindow, OutOfRange, TooLong}
 use Rattle.tb_geom.specs.Rects.{in_plane}
-use Rattle.def_iface.specs.declared.taken.Taken.{Taken}
+use Rattle.def_iface.specs.Slots.{TakenBox}
 use Rattle.def_iface.specs.News.{News, told_title, told_highlighted, told_tracked}
 use Rattle.def_iface.specs.Meaning.{Loan}
 use Rattle.def_iface.specs.Stocked.{SlotView}
@@ -41,12 +41,12 @@ use Rattle.window_frame.specs.FrameSteps.{IsFrameStepOverAnySlots, IsTrackedAt, 
 use Rattle.window_frame.proofs.FrameKeeps.{frame_told_keeps, tracking_keeps}
 
 -- a window manager that was whole over some slots, and is so over the same
-pub still_kept : {V : Type 0} {H : V → Type 0} (loan : Taken V H → Loan) (t new : WindowManager V H) (after : FullState → FullState → Type 0) → IsKept loan t → LeavesState loan after t new → IsKept loan new
+pub still_kept : {V : Type 0} {H : V → Type 0} (loan : TakenBox V H → Loan) (t new : WindowManager V H) (after : FullState → FullState → Type 0) → IsKept loan t → LeavesState loan after t new → IsKept loan new
 still_kept loan t new after kept leaves = record { slots = kept.slots; whole = (leaves kept.slots kept.whole).0 }
 
 -- ---- one window
 
-module _ {V : Type 0} {H : V → Type 0} (loan : Taken V H → Loan) (t : WindowManager V H) where
+module _ {V : Type 0} {H : V → Type 0} (loan : TakenBox V H → Loan) (t : WindowManager V H) where
   -- ---- nothing changes
 
   pub unchanged : (u : Opened) (slots : List SlotView) → IsDeskUnchanged (desk_state loan t u slots) (desk_state loan t u slots)
@@ -205,6 +205,6 @@ module _ {V : Type 0} {H : V → Type 0} (loan : Taken V H → Loan) (t : Window
       (by_number kept s at stands new news f leaves)
 
 -- the step of a call is that of the call that it is
-pub of_call : {V : Type 0} {H : V → Type 0} (loan : Taken V H → Loan) (t new : WindowManager V H) (u after : Opened) (call other : FrameCall) (result : Result FrameReply Refusal) → call ≡ other
+pub of_call : {V : Type 0} {H : V → Type 0} (loan : TakenBox V H → Loan) (t new : WindowManager V H) (u after : Opened) (call other : FrameCall) (result : Result FrameReply Refusal) → call ≡ other
     → IsFrameStepOverAnySlots loan other result t u new after → IsFrameStepOverAnySlots loan call result t u new after
 of_call loan t new u after call other result is step = subst (λ k. IsFrameStepOverAnySlots loan k result t u new after) (sym is) step

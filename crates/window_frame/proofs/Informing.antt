@@ -5,7 +5,7 @@ use Rattle.std.proofs.Math.Bool.{beq}
 use Rattle.std.proofs.lemmas.Bool.{eqb-true}
 use Rattle.std.proofs.lemmas.Bool.Decides.{nat_tests}
 use Rattle.std.proofs.lemmas.List.{length-map}
-use Rattle.def_iface.specs.declared.taken.Taken.{Taken}
+use Rattle.def_iface.specs.Slots.{TakenBox}
 use Rattle.def_iface.specs.Meaning.{Definition, Loan}
 use Rattle.desk_layers.specs.Desk as layers
 use Rattle.desk_layers.proofs.Owning.{same_number}
@@ -104,7 +104,7 @@ and_one : (flag : Flag) (s : ℕ) (before middle after : FullState) → AreSomeT
 and_one flag s before middle after (ts, told) (inl (known, same)) = (ts, subst (λ m. AreNotified ts before m) (sym same) told)
 and_one flag s before middle after (ts, told) (inr one) = (ts ++ record { window = s; flag = flag } ∷ [], several_then ts (record { window = s; flag = flag }) before middle after told one)
 
-module _ {V : Type 0} {H : V → Type 0} (loan : Taken V H → Loan) where
+module _ {V : Type 0} {H : V → Type 0} (loan : TakenBox V H → Loan) where
   abbrev records : WindowManager V H → List WindowRecord
   records t = map (record_of loan) t.windows.records.items
 

@@ -3,7 +3,7 @@ use Rattle.std.proofs.Common.{◌≡◌, ℕ, Bool, true, List, refl, ap, ◌∙
 use Rattle.std.specs.Prelude.{slice_set}
 use Rattle.tb_geom.specs.declared.rect.Rect.{Rect}
 use Rattle.def_iface.specs.declared.size.Size.{Size}
-use Rattle.def_iface.specs.declared.taken.Taken.{Taken}
+use Rattle.def_iface.specs.Slots.{TakenBox}
 use Rattle.def_iface.specs.declared.window_def.Stage.TheVariants.{Live}
 use Rattle.def_iface.specs.declared.window_def.WindowChange.{WindowChange}
 use Rattle.def_iface.specs.declared.window_def.WindowChange.TheVariants.{Resized, Titled, Highlighted, Closable, Zoomed, Tracked}
@@ -40,7 +40,7 @@ module _ {V : Type 0} {H : V → Type 0} where
   same_taken (Tracked b) w = refl
 
   -- the record was changed, and then its definition was told
-  pub told_at : (loan : Taken V H → Loan) (i : ℕ) (change : WindowChange) (damage : Rect) (w kept : Window V H) (taken : Taken V H) (old : List (Window V H))
+  pub told_at : (loan : TakenBox V H → Loan) (i : ℕ) (change : WindowChange) (damage : Rect) (w kept : Window V H) (taken : TakenBox V H) (old : List (Window V H))
       → keeps_size change ≡ true
       → kept ≡ with_change change w
       → (loan taken).definition.stage ≡ Live

@@ -11,7 +11,7 @@ ghost use Rattle.window_list.specs.Lists.{has_serial, floats, leads, first_leadi
 ghost use Rattle.window_list.specs.Changes.{keeps_size, has_short_title, IsNotifiedAt};
 
 use crate::{Layers, Placement, Ranks, UserState, Window};
-use def_iface::{Defined, Stage, Taken, WindowChange};
+use def_iface::{Defined, Stage, TakenWindow, WindowChange};
 use draw_port::{Op, Picture};
 use std::alloc::{AllocError, Global};
 use tb_geom::{Point, Rect, Refusal};
@@ -219,13 +219,13 @@ impl WindowList {
     pub fn set_placement(&mut self, at: usize, placement: Placement)
         requires within { at < length self.old.records.items }
         requires live { IfSome (slice_get self.old.records.items at)
-            (λ w. (⟦<Taken as Defined>⟧.loan w.taken).definition.stage ≡ Stage.Live) }
+            (λ w. (⟦<TakenWindow as Defined>⟧.loan w.taken).definition.stage ≡ Stage.Live) }
         requires fits { IfSome (slice_get self.old.records.items at)
-            (λ w. is_fitting (⟦<Taken as Defined>⟧.loan w.taken).definition placement.size ≡ true) }
+            (λ w. is_fitting (⟦<TakenWindow as Defined>⟧.loan w.taken).definition placement.size ≡ true) }
         requires placed { in_plane placement.place ≡ true }
         requires fit { IfSome (slice_get self.old.records.items at)
             (λ w. list_all (fits_at placement.place) w.layers.layers ≡ true) }
-        ensures placed { IfSome (slice_get self.old.records.items at) (λ w. IsPlacedAt ⟦<Taken as Defined>⟧.loan
+        ensures placed { IfSome (slice_get self.old.records.items at) (λ w. IsPlacedAt ⟦<TakenWindow as Defined>⟧.loan
             at placement w self.old.records.items self.new.records.items) }
         ensures others { self.new ≡ record self.old { records = self.new.records } }
     {
@@ -305,11 +305,11 @@ impl WindowList {
         requires size { keeps_size change ≡ true }
         requires title { has_short_title change ≡ true }
         requires live { IfSome (slice_get self.old.records.items at)
-            (λ w. (⟦<Taken as Defined>⟧.loan w.taken).definition.stage ≡ Stage.Live) }
+            (λ w. (⟦<TakenWindow as Defined>⟧.loan w.taken).definition.stage ≡ Stage.Live) }
         requires fits { IfSome (slice_get self.old.records.items at)
-            (λ w. is_fitting (⟦<Taken as Defined>⟧.loan w.taken).definition
-            (⟦<Taken as Defined>⟧.loan w.taken).definition.size ≡ true) }
-        ensures told { IfSome (slice_get self.old.records.items at) (λ w. IsNotifiedAt ⟦<Taken as Defined>⟧.loan
+            (λ w. is_fitting (⟦<TakenWindow as Defined>⟧.loan w.taken).definition
+            (⟦<TakenWindow as Defined>⟧.loan w.taken).definition.size ≡ true) }
+        ensures told { IfSome (slice_get self.old.records.items at) (λ w. IsNotifiedAt ⟦<TakenWindow as Defined>⟧.loan
             at change.entry result w self.old.records.items self.new.records.items) }
         ensures others { self.new ≡ record self.old { records = self.new.records } }
     {
@@ -320,7 +320,7 @@ impl WindowList {
 
     /// Takes the rearmost window's definition out and ends the window, or answers None where no window
     /// is left.
-    pub fn next_box(&mut self) -> Option<Taken>
+    pub fn next_box(&mut self) -> Option<TakenWindow>
         ensures taken { IfSome result (λ taken. IsLastBox self.old.records.items taken self.new.records.items) }
         ensures none { IfNone result (self.old.records.items ≡ []) }
         ensures others { self.new ≡ record self.old { records = self.new.records } }

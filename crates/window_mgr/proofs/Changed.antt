@@ -7,7 +7,7 @@ use Rattle.std.proofs.lemmas.List.Elements.{All-nil, All-cons}
 use Rattle.tb_geom.specs.declared.point.Point.{Point}
 use Rattle.tb_geom.specs.Points.{PixelSet, minus}
 use Rattle.tb_geom.specs.Pixels.{Pixels, holds}
-use Rattle.def_iface.specs.declared.taken.Taken.{Taken}
+use Rattle.def_iface.specs.Slots.{TakenBox}
 use Rattle.def_iface.specs.Meaning.{Definition, Loan, SameRegions}
 use Rattle.desk_layers.specs.Desk as layers
 use Rattle.desk_layers.specs.Desk.{LayeredDesk}
@@ -69,13 +69,13 @@ lost_none old gray changed none its empty p = empty p ∙ out (holds old.visible
     out false false g = refl
 
 -- the region has what of the gray region the window at the place of an edit had, and what it covers where it is to be
-pub record IsChangedBy {V : Type 0} {H : V → Type 0} (loan : Taken V H → Loan) (e : Edit) (t : WindowManager V H) (changed : Pixels) : Type 0 where
+pub record IsChangedBy {V : Type 0} {H : V → Type 0} (loan : TakenBox V H → Loan) (e : Edit) (t : WindowManager V H) (changed : Pixels) : Type 0 where
   pub area : Area
   pub at : area ≡ get_or t.areas.items e.at area
   pub is : (w : Window V H) → IsWindowAt t.windows.records.items e.at w
       → IsChangedWith area (λ p. e.shown && (loan w.taken).definition.structure e.size (minus p e.place)) t.gray changed
 
-module _ {V : Type 0} {H : V → Type 0} (loan : Taken V H → Loan) (t : WindowManager V H) (kept : IsKept loan t) where
+module _ {V : Type 0} {H : V → Type 0} (loan : TakenBox V H → Loan) (t : WindowManager V H) (kept : IsKept loan t) where
   abbrev before : State
   before = layered_state (state_of loan t [])
 

@@ -4,7 +4,7 @@ use Rattle.std.specs.List.{insert}
 use Rattle.std.proofs.lemmas.Bool.{not-true}
 use Rattle.std.proofs.lemmas.List.{length-map}
 use Rattle.tb_geom.specs.declared.point.Point.{Point}
-use Rattle.def_iface.specs.declared.taken.Taken.{Taken}
+use Rattle.def_iface.specs.Slots.{TakenBox}
 use Rattle.def_iface.specs.Meaning.{Definition, Loan}
 use Rattle.desk_layers.specs.Desk as layers
 use Rattle.desk_layers.specs.Owner.{Owner, own_bit, frame_bit, content_bit}
@@ -29,11 +29,11 @@ module _ (floating : Bool) where
   place_behind active false ws = refl
 
   -- the records are of the classes of their windows
-  pub place_records : {V : Type 0} {H : V → Type 0} (loan : Taken V H → Loan) (ws : List (Window V H)) → front_place is_floating floating (map (record_of loan) ws) ≡ front_place floats floating ws
+  pub place_records : {V : Type 0} {H : V → Type 0} (loan : TakenBox V H → Loan) (ws : List (Window V H)) → front_place is_floating floating (map (record_of loan) ws) ≡ front_place floats floating ws
   place_records loan ws = front_map (record_of loan) floats is_floating (λ w. refl) floating ws
 
   -- nor is its back another place for them
-  pub back_records : {V : Type 0} {H : V → Type 0} (loan : Taken V H → Loan) (ws : List (Window V H)) → back_place is_floating floating (map (record_of loan) ws) ≡ back_place floats floating ws
+  pub back_records : {V : Type 0} {H : V → Type 0} (loan : TakenBox V H → Loan) (ws : List (Window V H)) → back_place is_floating floating (map (record_of loan) ws) ≡ back_place floats floating ws
   back_records loan ws = by_class floating
     where
       by_class : (b : Bool) → back_place is_floating b (map (record_of loan) ws) ≡ back_place floats b ws

@@ -6,7 +6,7 @@ use Rattle.std.proofs.lemmas.Bool.{and_parts, eqb-true}
 use Rattle.std.proofs.lemmas.List.Elements.{All-head, All-tail}
 use Rattle.tb_geom.specs.declared.point.Point.{Point}
 use Rattle.tb_geom.specs.Rects.{rect_holds}
-use Rattle.def_iface.specs.declared.taken.Taken.{Taken}
+use Rattle.def_iface.specs.Slots.{TakenBox}
 use Rattle.def_iface.specs.Meaning.{Loan, IsWithin, GoesBy}
 use Rattle.def_iface.specs.Stocked.{SlotView}
 use Rattle.desk_layers.specs.Owner.{frame_bit, own_bit}
@@ -46,7 +46,7 @@ use Rattle.window_mgr.proofs.Committing.{turned}
 use Rattle.window_mgr.proofs.Arranged.{IsArrangedCall, is_left as arranged_is_left, is_whole as arranged_is_whole, spares as arranged_spares}
 use Rattle.window_mgr.specs.Sparing.{Spares}
 
-module _ {V : Type 0} {H : V → Type 0} (loan : Taken V H → Loan) where
+module _ {V : Type 0} {H : V → Type 0} (loan : TakenBox V H → Loan) where
   -- ---- the records of the code, after an activation
 
   lit_record : (s : Option ℕ) (w : Window V H) → record_of loan (lit_window s w) ≡ with_highlighting true s (record_of loan w)

@@ -14,7 +14,7 @@ use Rattle.bit_blit.specs.Draws.{Draws, IsWritten}
 use Rattle.window_mgr.specs.Sparing.{IsRepainted, Repaints}
 use Rattle.def_iface.specs.News.{no_news, told_change}
 use Rattle.def_iface.specs.declared.size.Size.{Size}
-use Rattle.def_iface.specs.declared.taken.Taken.{Taken}
+use Rattle.def_iface.specs.Slots.{TakenBox}
 use Rattle.def_iface.specs.declared.window_def.WindowChange.{WindowChange}
 use Rattle.def_iface.specs.declared.window_def.WindowChange.TheVariants.{Resized, Titled, Highlighted, Closable, Zoomed, Tracked}
 use Rattle.def_iface.specs.Meaning.{Definition, Loan, IsWithin}
@@ -96,9 +96,9 @@ frame_in look (y ∷ ys) (suc i) w p distinct e its =
 
 -- ---- the window's record, in the list
 
-module _ {V : Type 0} {H : V → Type 0} (loan : Taken V H → Loan) where
+module _ {V : Type 0} {H : V → Type 0} (loan : TakenBox V H → Loan) where
   -- its layers lie where they did
-  told_lies : (change : WindowChange) (x : Window V H) (taken : Taken V H) → LieThere x → LieThere (record (with_change change x) { taken = taken })
+  told_lies : (change : WindowChange) (x : Window V H) (taken : TakenBox V H) → LieThere x → LieThere (record (with_change change x) { taken = taken })
   told_lies (Resized s) x taken its = its
   told_lies (Titled t) x taken its = its
   told_lies (Highlighted b) x taken its = its
@@ -107,7 +107,7 @@ module _ {V : Type 0} {H : V → Type 0} (loan : Taken V H → Loan) where
   told_lies (Tracked b) x taken its = its
 
   -- the record is what it is to be
-  record_told : (change : WindowChange) (x : Window V H) (taken : Taken V H) → (loan taken).slot ≡ (loan x.taken).slot
+  record_told : (change : WindowChange) (x : Window V H) (taken : TakenBox V H) → (loan taken).slot ≡ (loan x.taken).slot
       → record_of loan (record (with_change change x) { taken = taken }) ≡ record (notified_record change (record_of loan x)) { definition = (loan taken).definition }
   record_told (Resized s) x taken slot = λ k. record (record_of loan x) { definition = (loan taken).definition; slot = slot k }
   record_told (Titled t) x taken slot = λ k. record (record_of loan x) { title = t.now; definition = (loan taken).definition; slot = slot k }

@@ -4,7 +4,7 @@ use Rattle.std.specs.Prelude.{Contains}
 use Rattle.std.specs.List.{remove}
 use Rattle.std.proofs.lemmas.Bool.{eqb-true}
 use Rattle.tb_geom.specs.declared.point.Point.{Point}
-use Rattle.def_iface.specs.declared.taken.Taken.{Taken}
+use Rattle.def_iface.specs.Slots.{TakenBox}
 use Rattle.def_iface.specs.Meaning.{Definition, Loan}
 use Rattle.desk_layers.specs.Desk as layers
 use Rattle.desk_layers.proofs.Owning.{same_number}
@@ -27,7 +27,7 @@ use Rattle.window_mgr.proofs.DimLemmas.{windows_behind}
 use Rattle.window_mgr.proofs.KeptWindows.{Was, all_were, kept_as_it_was, kept_anew, among_all, none_free, none_moves, one_or_rest, same_behind}
 use Rattle.window_mgr.proofs.PutIn.{put_in, put_is_insert, taken_out, map-put, IsFree}
 
-module _ {V : Type 0} {H : V → Type 0} (loan : Taken V H → Loan) (t : WindowManager V H) (distinct : layers.IsDesk (layered_desk (desk_of loan t []))) where
+module _ {V : Type 0} {H : V → Type 0} (loan : TakenBox V H → Loan) (t : WindowManager V H) (distinct : layers.IsDesk (layered_desk (desk_of loan t []))) where
   abbrev before : FullDesk
   before = desk_of loan t []
 

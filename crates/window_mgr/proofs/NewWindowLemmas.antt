@@ -12,7 +12,7 @@ use Rattle.tb_geom.specs.declared.rect.Rect.{Rect}
 use Rattle.tb_geom.specs.Points.{PixelSet}
 use Rattle.tb_geom.specs.Rects.{in_plane, is_in_range, moved_rect, rect_holds}
 use Rattle.bit_map.specs.Bits.{Bits}
-use Rattle.def_iface.specs.declared.taken.Taken.{Taken}
+use Rattle.def_iface.specs.Slots.{TakenBox}
 use Rattle.def_iface.specs.declared.size.Size.{Size}
 use Rattle.def_iface.specs.Sizes.{is_size}
 use Rattle.def_iface.specs.News.{AllNews, new_window_news}
@@ -154,7 +154,7 @@ module _ {V : Type 0} {H : V → Type 0} (added : Window V H) (active : Option �
       omega arith
 
 -- all windows are settled, with a new one among them
-pub settled_added : {V : Type 0} {H : V → Type 0} (loan : Taken V H → Loan) (floating : Bool) (w : NewWindow) (n slot : ℕ) (d begun : Definition) (added : Window V H) (active : Option ℕ) (ws items : List (Window V H)) → record_of loan added ≡ new_record floating w n slot begun → items ≡ with_new active added ws → IsBegun (first_news floating w) d begun → is_placed (Some d) w.place w.size ≡ true → IsWithin (d.content w.size) (rect_holds (d.bounds w.size)) → All IsSettled (map (record_of loan) ws) → All IsSettled (map (record_of loan) items)
+pub settled_added : {V : Type 0} {H : V → Type 0} (loan : TakenBox V H → Loan) (floating : Bool) (w : NewWindow) (n slot : ℕ) (d begun : Definition) (added : Window V H) (active : Option ℕ) (ws items : List (Window V H)) → record_of loan added ≡ new_record floating w n slot begun → items ≡ with_new active added ws → IsBegun (first_news floating w) d begun → is_placed (Some d) w.place w.size ≡ true → IsWithin (d.content w.size) (rect_holds (d.bounds w.size)) → All IsSettled (map (record_of loan) ws) → All IsSettled (map (record_of loan) items)
 settled_added loan floating w n slot d begun added active ws items seen items_are live placed within settled =
     let k = place_in added active ws items items_are in
     let others = others_in added active ws items items_are in
@@ -162,7 +162,7 @@ settled_added loan floating w n slot d begun added active ws items seen items_ar
     (sym (ap (map (record_of loan)) (put_among added active ws items items_are) ∙ map-put (record_of loan) k added others ∙ (λ i. put_in k (seen i) (records_behind loan active (leads added) ws i))))
     (All-put IsSettled k (new_record floating w n slot begun) (windows_behind active (leads added) (map (record_of loan) ws)) (settled_new floating w n slot d begun live placed within) (settled_behind active (leads added) (map (record_of loan) ws) settled))
 
-module _ {V : Type 0} {H : V → Type 0} (loan : Taken V H → Loan) where
+module _ {V : Type 0} {H : V → Type 0} (loan : TakenBox V H → Loan) where
   -- all that is known where a window was added
   pub record IsNew (floating : Bool) (w : NewWindow) (n : ℕ) (taken : Loan) (touch : Touch) (plan : Plan) (t planned new : WindowManager V H) (slots left : List SlotView) : Type 0 where
     pub whole : IsWholeManager loan t slots

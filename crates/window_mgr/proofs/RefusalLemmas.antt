@@ -6,7 +6,7 @@ use Rattle.std.proofs.lemmas.List.{length-map}
 use Rattle.std.proofs.lemmas.Slice.Eq.{bytes_eq-Decides}
 use Rattle.tb_geom.specs.declared.refusal.Refusal.{Refusal}
 use Rattle.tb_geom.specs.declared.refusal.Refusal.TheVariants.{OutOfRange, TooLong, TooMany, NoDefinition}
-use Rattle.def_iface.specs.declared.taken.Taken.{Taken}
+use Rattle.def_iface.specs.Slots.{TakenBox}
 use Rattle.def_iface.specs.Meaning.{Definition, Loan}
 use Rattle.def_iface.specs.Stocked.{SlotView, IsTaken, IsNotTaken, is_kind, has_kind, offered}
 use Rattle.desk_call.specs.declared.window.WindowCall.TheVariants.{New}
@@ -62,7 +62,7 @@ refusal_without w desk kind e named none judged =
     let at_hand : offered w.kind desk.stock ≡ None = ap (λ o. option_and_then (λ at. option_and_then (λ (s : SlotView). s.held) (slice_get desk.stock at)) o) there.1 in
     rw (there.0, at_hand) judged
 
-module _ {V : Type 0} {H : V → Type 0} (loan : Taken V H → Loan) (w : NewWindow) (taken : Loan) (t : WindowManager V H) (slots left : List SlotView) (took : IsTaken w.kind taken slots left) where
+module _ {V : Type 0} {H : V → Type 0} (loan : TakenBox V H → Loan) (w : NewWindow) (taken : Loan) (t : WindowManager V H) (slots left : List SlotView) (took : IsTaken w.kind taken slots left) where
   -- why a new window is refused, by the judgement of a window manager
   pub refusal_is : first_refusal (new_window_refusals w (desk_of loan t slots)) ≡ first_refusal (judged_refusals w (is_placed (Some taken.definition) w.place w.size) (length t.windows.records.items) t.windows.next)
   refusal_is =

@@ -11,7 +11,7 @@ use Rattle.bit_blit.specs.Draws.{Draws}
 use Rattle.draw_port.specs.declared.shapes.Op.{Op}
 use Rattle.draw_port.specs.Ops.{op_value}
 use Rattle.lent_ops.specs.OpRefs.{IsGood, IsMeant}
-use Rattle.def_iface.specs.declared.taken.Taken.{Taken}
+use Rattle.def_iface.specs.Slots.{TakenBox}
 use Rattle.def_iface.specs.Meaning.{Definition, Loan, SameRegions, IsWithin, IsBegun}
 use Rattle.window_list.specs.declared.window.Window.{Window}
 use Rattle.window_list.specs.Classes.{front_place}
@@ -118,7 +118,7 @@ module _ {V : Type 0} {H : V → Type 0} where
     pub title : ticket.title.items ≡ w.title
 
 -- `loan` says what a definition that was taken means
-module _ {V : Type 0} {H : V → Type 0} (loan : Taken V H → Loan) where
+module _ {V : Type 0} {H : V → Type 0} (loan : TakenBox V H → Loan) where
   -- all that changes on the screen once the window stands at the front of its class, whichever slot its definition has
   abbrev pub IsPlanWith : Bool → NewWindow → ℕ → Definition → Touch → WindowManager V H → Plan → Type 0
   IsPlanWith floating w serial d touch t plan = (slot : ℕ) (begun : Definition) → SameRegions d begun

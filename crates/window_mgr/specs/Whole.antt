@@ -3,7 +3,7 @@ use Rattle.std.specs.List.{list_all}
 use Rattle.std.specs.Prelude.{◌≡◌, ◌⊎◌, ℕ, ◌≤◌, true, false, List, length, map, None, Some, All, AllPairs, Contains, slice_get}
 use Rattle.tb_geom.specs.declared.point.Point.{Point}
 use Rattle.tb_geom.specs.Rects.{in_plane, is_in_range, moved_rect, rect_holds}
-use Rattle.def_iface.specs.declared.taken.Taken.{Taken}
+use Rattle.def_iface.specs.Slots.{TakenBox}
 use Rattle.def_iface.specs.declared.window_def.Stage.TheVariants.{Live}
 use Rattle.def_iface.specs.Meaning.{Loan, IsWithin, GoesBy, is_fitting}
 use Rattle.def_iface.specs.Stocked.{SlotView, IsFull, is_left}
@@ -64,7 +64,7 @@ abbrev pub LieThere : {V : Type 0} {H : V → Type 0} → Window V H → Type 0
 LieThere w = w.layers.place ≡ w.place
 
 -- `loan` says what a definition that was taken means
-module _ {V : Type 0} {H : V → Type 0} (loan : Taken V H → Loan) where
+module _ {V : Type 0} {H : V → Type 0} (loan : TakenBox V H → Loan) where
   -- a window manager and the slots of its stock, between calls
   pub record IsWholeManager (t : WindowManager V H) (slots : List SlotView) : Type 0 where
     pub sound : IsSoundDesk (desk_of loan t slots)

@@ -1,5 +1,5 @@
-use Rattle.def_iface.specs.contracts.taken_list.TakenListDefinedList.TheImpl as list
-use Rattle.def_iface.specs.contracts.list_stock.ListStockStockedLists.TheImpl as stock
+use Rattle.def_iface.specs.contracts.taken_list.TakenListDefined.TheImpl as list
+use Rattle.def_iface.specs.contracts.taken_list.ListStockStocked.TheImpl as stock
 use Rattle.window_items.specs.Items.{count_of}
 use Rattle.list_mgr.specs.WholeLists.{lists_state}
 use Rattle.list_mgr.proofs.ListsEnded.{IsBeingLeft}
@@ -7,8 +7,8 @@ use Rattle.list_mgr.proofs.ending.Lists+TakenList.end_of.Given as goal
 
 abbrev pub invariant-loop-list : goal.invariant-loop-list
 invariant-loop-list g l =
-    let loan = (list.list_loan-value g.dyn-1).it in
-    let slots = (stock.list_slots-value g.dyn-1).it in
+    let loan = (list.loan-value g.dyn-1).it in
+    let slots = (stock.slots-value g.dyn-1).it in
     IsBeingLeft l.fn.window (lists_state loan l.fn.self (slots l.fn.stock)) (lists_state loan l.self (slots l.stock))
 
 abbrev pub decreases-loop-list : goal.decreases-loop-list

@@ -5,8 +5,7 @@ use Rattle.tb_geom.specs.declared.refusal.Refusal.TheVariants.{NoSuchList, NoSuc
 use Rattle.tb_geom.specs.Refusals.{first_refusal}
 use Rattle.window_items.specs.Items.{item_index}
 use Rattle.window_items.proofs.SeenLemmas.{item_index-seen}
-use Rattle.def_iface.specs.declared.taken.Taken.{Taken}
-use Rattle.def_iface.specs.declared.taken_list.TakenList.{TakenList}
+use Rattle.def_iface.specs.Slots.{TakenBox}
 use Rattle.def_iface.specs.ListMeaning.{ListLoan}
 use Rattle.def_iface.specs.Meaning.{Loan}
 use Rattle.desk_call.specs.declared.list.ListOf.{ListOf}
@@ -23,12 +22,12 @@ use Rattle.list_mgr.specs.ListDesks.{index_of}
 use Rattle.list_mgr.specs.ListRefusals.{missing_refusals}
 use Rattle.list_mgr.specs.Spots.{IsSpotOf}
 use Rattle.list_mgr.specs.WholeLists.{records_of}
-use Rattle.def_iface.specs.contracts.taken.TakenDefined.TheImpl as window
-use Rattle.def_iface.specs.contracts.taken_list.TakenListDefinedList.TheImpl as list
+use Rattle.def_iface.specs.contracts.taken_window.TakenWindowDefined.TheImpl as window
+use Rattle.def_iface.specs.contracts.taken_list.TakenListDefined.TheImpl as list
 use Rattle.list_mgr.proofs.spots.Lists+TakenList.spot.Goals as goal
 use Rattle.list_mgr.specs.Seen.{kept_seen}
 
-module _ {V : Type 0} {H : V → Type 0} (loan : Taken V H → Loan) where
+module _ {V : Type 0} {H : V → Type 0} (loan : TakenBox V H → Loan) where
   -- a window that stands somewhere is not missing
   stands_there : (ws : List (Window V H)) (s i : ℕ) → StandsAt ws s i → is_missing s (map (record_of loan) ws) ≡ false
   stands_there [] s i at = let low = at.0 in absurd (omega arith)
@@ -39,7 +38,7 @@ module _ {V : Type 0} {H : V → Type 0} (loan : Taken V H → Loan) where
       by_test true rest = refl
       by_test false rest = rest
 
-  module _ {X : Type 0} {L : X → Type 0} (list_loan : TakenList X L → ListLoan) (c : ListOf) (t : WindowManager V H) (m : Lists (TakenList X L)) where
+  module _ {X : Type 0} {L : X → Type 0} (list_loan : TakenBox X L → ListLoan) (c : ListOf) (t : WindowManager V H) (m : Lists (TakenBox X L)) where
     seen_there : (o : Option ℕ) → o ≡ item_index c.window c.list m.list.items.items → index_of c (records_of list_loan m) ≡ o
     seen_there o found = item_index-seen (kept_seen list_loan) c.window c.list m.list.items.items ∙ sym found
 
@@ -62,10 +61,10 @@ module _ {V : Type 0} {H : V → Type 0} (loan : Taken V H → Loan) where
 
 pub returns-in-Some-find : goal.returns-in-Some-find
 returns-in-Some-find g c =
-    spot_of (window.loan-value g.dyn-2).it (list.list_loan-value g.dyn-1).it c.args.list c.args.windows.now c.args.self.now _
+    spot_of (window.loan-value g.dyn-2).it (list.loan-value g.dyn-1).it c.args.list c.args.windows.now c.args.self.now _
     c.in-Some.ensures c.in-Some-find.ensures.first c.in-Some-find.ensures.within
 
 pub returns-in-None : goal.returns-in-None
 returns-in-None g c =
-    no_list (window.loan-value g.dyn-2).it (list.list_loan-value g.dyn-1).it c.args.list c.args.windows.now c.args.self.now c.in-Some.window
+    no_list (window.loan-value g.dyn-2).it (list.loan-value g.dyn-1).it c.args.list c.args.windows.now c.args.self.now c.in-Some.window
     c.in-Some.ensures c.in-None.ensures.first
