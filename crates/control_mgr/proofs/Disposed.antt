@@ -36,7 +36,7 @@ use Rattle.window_mgr.specs.Refused.{is_missing}
 use Rattle.window_mgr.specs.Relayered.{AreLayersSet, IsPartAt}
 use Rattle.window_mgr.specs.Whole.{IsWholeManager}
 use Rattle.control_mgr.specs.declared.controls.Controls.{Controls}
-use Rattle.control_mgr.specs.declared.spots.Spot.{Spot}
+use Rattle.control_mgr.specs.declared.spots.ControlAt.{ControlAt}
 use Rattle.control_mgr.specs.declared.ending.Ending.{Ending}
 use Rattle.control_mgr.specs.ControlDesks.{ControlRecord, ControlSlot, ControlsState, controls_show, index_of}
 use Rattle.control_mgr.specs.ControlRefusals.{most_controls}
@@ -126,7 +126,7 @@ module _ {W : Type 0} {K : W → Type 0} (control_loan : TakenBox W K → Contro
   settled_left at xs is settled = subst AreSettled (sym (ap (all_seen control_loan) is ∙ remove-seen (kept_seen control_loan) m.list.items.items at)) (All-remove IsSettledControl at (records_of control_loan m) settled)
 
 module _ {V : Type 0} {H : V → Type 0} (loan : TakenBox V H → Loan) {W : Type 0} {K : W → Type 0} (control_loan : TakenBox W K → ControlLoan)
-    (c : ControlOf) (t : WindowManager V H) (m : Controls (TakenBox W K)) (s : Spot) (is : IsSpotOf loan control_loan c t m s) where
+    (c : ControlOf) (t : WindowManager V H) (m : Controls (TakenBox W K)) (s : ControlAt) (is : IsSpotOf loan control_loan c t m s) where
   abbrev cs : List ControlRecord
   cs = records_of control_loan m
 

@@ -51,7 +51,7 @@ use Rattle.window_mgr.proofs.Remarked.{area_is}
 use Rattle.window_mgr.proofs.Seating.{as_many}
 use Rattle.window_mgr.proofs.Showing.{owner_showing}
 use Rattle.control_mgr.specs.declared.controls.Controls.{Controls}
-use Rattle.control_mgr.specs.declared.spots.Spot.{Spot}
+use Rattle.control_mgr.specs.declared.spots.ControlAt.{ControlAt}
 use Rattle.control_mgr.specs.ControlDesks.{ControlRecord, controls_show, control_of, index_of}
 use Rattle.control_mgr.specs.ControlSteps.{IsControlStep, control_found_by, found_control, found_from, found_in, tested}
 use Rattle.control_mgr.specs.Judged.{part_tested}
@@ -178,14 +178,14 @@ module _ {W : Type 0} {K : W → Type 0} (control_loan : TakenBox W K → Contro
 module _ {V : Type 0} {H : V → Type 0} (loan : TakenBox V H → Loan) {W : Type 0} {K : W → Type 0} (control_loan : TakenBox W K → ControlLoan)
     (t : WindowManager V H) (m : Controls (TakenBox W K)) where
   -- a point that is none of the range, where nothing is missing
-  pub test_refused : (asked : PointAtControl) (s : Spot) (o : Opened) → IsSpotOf loan control_loan asked.control t m s → in_plane asked.point ≡ false
+  pub test_refused : (asked : PointAtControl) (s : ControlAt) (o : Opened) → IsSpotOf loan control_loan asked.control t m s → in_plane asked.point ≡ false
       → LeavesControls control_loan loan (IsControlStep (asks.Test asked) (Err OutOfRange)) t o m t o m
   test_refused asked s o is out =
       refused loan control_loan (asks.Test asked) OutOfRange t o m
       (λ others slots kept. other_reasons loan control_loan asked.control t m s is ((not (in_plane asked.point), OutOfRange) ∷ []) ∙ one_holds (not (in_plane asked.point)) OutOfRange (ap not out))
 
   -- the part of a control that the point lies in
-  pub test_told : (asked : PointAtControl) (s : Spot) (o : Opened) (x : Item (Control (TakenBox W K))) (answer : Option ControlPart) → IsSpotOf loan control_loan asked.control t m s
+  pub test_told : (asked : PointAtControl) (s : ControlAt) (o : Opened) (x : Item (Control (TakenBox W K))) (answer : Option ControlPart) → IsSpotOf loan control_loan asked.control t m s
       → x ≡ get_or m.list.items.items s.control x → in_plane asked.point ≡ true → answer ≡ part_tested (seen control_loan x) asked.point
       → LeavesControls control_loan loan (IsControlStep (asks.Test asked) (Ok (reply.Part answer))) t o m t o m
   test_told asked s o x answer is read within answers =

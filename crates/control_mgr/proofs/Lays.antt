@@ -41,7 +41,7 @@ use Rattle.window_mgr.specs.Whole.{IsSettled, IsWholeManager}
 use Rattle.window_mgr.proofs.Contents as contents
 use Rattle.control_mgr.specs.declared.controls.Controls.{Controls}
 use Rattle.control_mgr.specs.declared.laying.Lie.{Lie}
-use Rattle.control_mgr.specs.declared.spots.Spot.{Spot}
+use Rattle.control_mgr.specs.declared.spots.ControlAt.{ControlAt}
 use Rattle.control_mgr.specs.ControlDesks.{ControlRecord, controls_show}
 use Rattle.control_mgr.specs.ControlSteps.{AreLayersOf, IsChangedAt, IsControlLaid, IsLayerOf, behind_controls}
 use Rattle.control_mgr.specs.Judged.{may_be_placed}
@@ -133,7 +133,7 @@ module _ {W : Type 0} {K : W → Type 0} (control_loan : TakenBox W K → Contro
       (there_is (records_of control_loan m) at (subst (λ k. at < k) (sym (length-seen (kept_seen control_loan) m.list.items.items)) low)) set told
 
 module _ {V : Type 0} {H : V → Type 0} (loan : TakenBox V H → Loan) {W : Type 0} {K : W → Type 0} (control_loan : TakenBox W K → ControlLoan) where
-  module _ (c : ControlOf) (t : WindowManager V H) (m : Controls (TakenBox W K)) (s : Spot) (is : IsSpotOf loan control_loan c t m s)
+  module _ (c : ControlOf) (t : WindowManager V H) (m : Controls (TakenBox W K)) (s : ControlAt) (is : IsSpotOf loan control_loan c t m s)
       (l : Lie) (may : MayLie control_loan t m s l) (w : Window V H) (lies : IsWindowAt t.windows.records.items s.window w) (index : ℕ) (index_is : index ≡ place_among s.control m.list.items.items) where
     abbrev low : s.window < length t.windows.records.items
     low = is.window.0
@@ -247,7 +247,7 @@ module _ {V : Type 0} {H : V → Type 0} (loan : TakenBox V H → Loan) {W : Typ
       → (was : List ℕ → Part → PixelSet) (slots : List SlotView) → IsWholeManager loan t slots
       → IsWholeManager loan u slots × AreLayersSet w.serial ls afresh (state_showing was (state_of loan t slots)) (state_showing shows (state_of loan u slots))
 
-  pub laid : (c : ControlOf) (t u : WindowManager V H) (m n : Controls (TakenBox W K)) (s : Spot) → (is : IsSpotOf loan control_loan c t m s) → (l : Lie) → MayLie control_loan t m s l
+  pub laid : (c : ControlOf) (t u : WindowManager V H) (m n : Controls (TakenBox W K)) (s : ControlAt) → (is : IsSpotOf loan control_loan c t m s) → (l : Lie) → MayLie control_loan t m s l
       → (shape : LayerShape) → IsShapeOf (record_there loan control_loan c t m s is).item.kept.definition.definition l shape
       → (index : ℕ) → index ≡ place_among s.control m.list.items.items
       → (relaid : Relaid) → ((w : Window V H) → IsWindowAt t.windows.records.items s.window w → relaid.layers ≡ record w.layers { layers = reshaped shape index w.layers.layers })
@@ -312,12 +312,12 @@ module _ {V : Type 0} {H : V → Type 0} (loan : TakenBox V H → Loan) {W : Typ
     pub lies : (k : Layer) → IsLayerAt w.layers.place (with_shape shape k)
 
   -- and once it was
-  pub record AfterLaying (t : WindowManager V H) (s : Spot) (index : ℕ) (relaid : Relaid) : Type 0 where
+  pub record AfterLaying (t : WindowManager V H) (s : ControlAt) (index : ℕ) (relaid : Relaid) : Type 0 where
     pub low : index < length relaid.layers.layers
     pub may : MayHaveLayers s.window t relaid.layers
     pub gained : (afresh : Option Part) → IsPartAt relaid.layers.layers (Some index) afresh → IsGainedAt s.window afresh t relaid
 
-  module _ (t : WindowManager V H) (m : Controls (TakenBox W K)) (s : Spot) (spot : IsSpot loan control_loan t m s) (l : Lie) (may : MayLie control_loan t m s l)
+  module _ (t : WindowManager V H) (m : Controls (TakenBox W K)) (s : ControlAt) (spot : IsSpot loan control_loan t m s) (l : Lie) (may : MayLie control_loan t m s l)
       (x : Item (Control (TakenBox W K))) (read : x ≡ get_or m.list.items.items s.control x) where
     -- the control that was read is the one that stands there
     same_control : slice_get (records_of control_loan m) s.control ≡ Some (seen control_loan x)

@@ -34,7 +34,7 @@ use Rattle.window_mgr.specs.Whole.{IsSettled}
 use Rattle.window_mgr.proofs.Steps.{found}
 use Rattle.control_mgr.specs.declared.controls.Controls.{Controls}
 use Rattle.control_mgr.specs.declared.laying.Lie.{Lie}
-use Rattle.control_mgr.specs.declared.spots.Spot.{Spot}
+use Rattle.control_mgr.specs.declared.spots.ControlAt.{ControlAt}
 use Rattle.control_mgr.specs.ControlDesks.{ControlDesk, ControlRecord, ControlSlot, control_of, index_of}
 use Rattle.control_mgr.specs.ControlRefusals.{control_refusals, may_control_grow}
 use Rattle.control_mgr.specs.ControlSteps.{IsControlEffect, IsControlLaid, IsControlStep}
@@ -60,7 +60,7 @@ all_at f (k ∷ ks) zero l e h = let same : k ≡ l = cc in ap f (sym same) ∙ 
 all_at f (k ∷ ks) (suc i) l e h = all_at f ks i l e (and_parts (f k) (list_all f ks) h).1
 
 module _ {V : Type 0} {H : V → Type 0} (loan : TakenBox V H → Loan) {W : Type 0} {K : W → Type 0} (control_loan : TakenBox W K → ControlLoan) where
-  module _ (c : ControlOf) (t : WindowManager V H) (m : Controls (TakenBox W K)) (s : Spot) (is : IsSpotOf loan control_loan c t m s) where
+  module _ (c : ControlOf) (t : WindowManager V H) (m : Controls (TakenBox W K)) (s : ControlAt) (is : IsSpotOf loan control_loan c t m s) where
     abbrev item : ControlRecord
     item = (record_there loan control_loan c t m s is).item
 

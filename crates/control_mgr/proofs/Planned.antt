@@ -16,7 +16,7 @@ use Rattle.window_mgr.specs.Kept.{IsKept}
 use Rattle.window_mgr.specs.Records.{desk_of}
 use Rattle.control_mgr.specs.declared.controls.Controls.{Controls}
 use Rattle.control_mgr.specs.declared.making.Ticket.{Ticket}
-use Rattle.control_mgr.specs.declared.spots.Spot.{Spot}
+use Rattle.control_mgr.specs.declared.spots.ControlAt.{ControlAt}
 use Rattle.control_mgr.specs.ControlDesks.{ControlSlot}
 use Rattle.control_mgr.specs.Ending.{IsReadyToEnd}
 use Rattle.control_mgr.specs.Making.{IsReadyToAdd, IsRoomier, IsTicket}
@@ -50,7 +50,7 @@ module _ {V : Type 0} {H : V → Type 0} (loan : TakenBox V H → Loan) {W : Typ
   }
 
   -- a control that is there can be ended of windows and controls as they are
-  pub ending_now : (c : ControlOf) (t : WindowManager V H) (m : Controls (TakenBox W K)) (s : Spot) → IsKept loan t → (slots : List ControlSlot) → AreWholeControls (desk_of loan t []).windows (controls_state control_loan m slots)
+  pub ending_now : (c : ControlOf) (t : WindowManager V H) (m : Controls (TakenBox W K)) (s : ControlAt) → IsKept loan t → (slots : List ControlSlot) → AreWholeControls (desk_of loan t []).windows (controls_state control_loan m slots)
       → IsSpotOf loan control_loan c t m s → (w : Window V H) → IsWindowAt t.windows.records.items s.window w → (a : Area) → a ≡ get_or t.areas.items s.window a
       → IsReadyToEnd loan control_loan c s.window w.layers a.update t t m
   ending_now c t m s kept slots whole is w lies a read = record {

@@ -32,7 +32,7 @@ use Rattle.window_mgr.specs.Records.{desk_of}
 use Rattle.window_mgr.specs.Refused.{is_missing}
 use Rattle.control_mgr.specs.declared.controls.Controls.{Controls}
 use Rattle.control_mgr.specs.declared.setting.State.{State}
-use Rattle.control_mgr.specs.declared.spots.Spot.{Spot}
+use Rattle.control_mgr.specs.declared.spots.ControlAt.{ControlAt}
 use Rattle.control_mgr.specs.ControlDesks.{ControlDesk, ControlRecord, control_of, index_of}
 use Rattle.control_mgr.specs.ControlRefusals.{missing_refusals, point_refusals}
 use Rattle.control_mgr.specs.ControlSteps.{IsControlStep, IsHighlighted, IsTracked, highlight_after, highlight_of, is_thumb, released, released_setting, tested, tracked_part}
@@ -61,7 +61,7 @@ released_agrees tracked p part was is x e v h t = λ i. with_kept (λ k. record 
 module _ {V : Type 0} {H : V → Type 0} (loan : TakenBox V H → Loan) {W : Type 0} {K : W → Type 0} (control_loan : TakenBox W K → ControlLoan) where
   -- ---- controls shown anew
 
-  module _ (c : ControlOf) (t : WindowManager V H) (m : Controls (TakenBox W K)) (s : Spot) (is : IsSpotOf loan control_loan c t m s) where
+  module _ (c : ControlOf) (t : WindowManager V H) (m : Controls (TakenBox W K)) (s : ControlAt) (is : IsSpotOf loan control_loan c t m s) where
     -- by another change that agrees where it is made
     pub leaves_alike : (f g : ControlRecord → ControlRecord) (u : WindowManager V H) (n : Controls (TakenBox W K)) (o r : Opened)
         → ((x : ControlRecord) → slice_get (records_of control_loan m) s.control ≡ Some x → f x ≡ g x)
@@ -111,7 +111,7 @@ module _ {V : Type 0} {H : V → Type 0} (loan : TakenBox V H → Loan) {W : Typ
 
   -- ---- the button is pressed
 
-  pub tracked_step : (p : PointAtControl) (part : Option ControlPart) (t u : WindowManager V H) (m n : Controls (TakenBox W K)) (s : Spot) (o r : Opened) → IsSpotOf loan control_loan p.control t m s → in_plane p.point ≡ true
+  pub tracked_step : (p : PointAtControl) (part : Option ControlPart) (t u : WindowManager V H) (m n : Controls (TakenBox W K)) (s : ControlAt) (o r : Opened) → IsSpotOf loan control_loan p.control t m s → in_plane p.point ≡ true
       → tested p.control (records_of control_loan m) p.point ≡ part → LeavesControls control_loan loan (IsWhereRight (IsTracked p part)) t o m u r n → LeavesControls control_loan loan (IsWhereRight (IsControlStep (Track p) (Ok (Part part)))) t o m u r n
   tracked_step p part t u m n s o r is on is_part leaves kept others slots whole controls =
       let l = leaves kept others slots whole controls in (

@@ -27,7 +27,7 @@ use Rattle.window_mgr.specs.Relayered.{IsLayerDrawnWithin, IsLayerRedrawn, IsSam
 use Rattle.window_mgr.specs.Whole.{IsWholeManager}
 use Rattle.control_mgr.specs.declared.controls.Controls.{Controls}
 use Rattle.control_mgr.specs.declared.setting.State.{State}
-use Rattle.control_mgr.specs.declared.spots.Spot.{Spot}
+use Rattle.control_mgr.specs.declared.spots.ControlAt.{ControlAt}
 use Rattle.control_mgr.specs.ControlDesks.{ControlRecord, control_bit, controls_show, news_of_control, with_serial}
 use Rattle.control_mgr.specs.ControlSteps.{IsChangedAt, IsChangedTo}
 use Rattle.control_mgr.specs.Damages.{IsDamageAt, IsDamageOf, IsPut}
@@ -114,7 +114,7 @@ module _ {W : Type 0} {K : W → Type 0} (control_loan : TakenBox W K → Contro
 
   module _ {V : Type 0} {H : V → Type 0} (loan : TakenBox V H → Loan) where
     -- its layer is there
-    pub layer_low : (t : WindowManager V H) (m : Controls (TakenBox W K)) (spot : Spot) → IsSpot loan control_loan t m spot → AreBeside control_loan loan t m
+    pub layer_low : (t : WindowManager V H) (m : Controls (TakenBox W K)) (spot : ControlAt) → IsSpot loan control_loan t m spot → AreBeside control_loan loan t m
         → (w : Window V H) → IsWindowAt t.windows.records.items spot.window w → place_among spot.control m.list.items.items < length w.layers.layers
     layer_low t m spot is beside w lies =
         let its = layer_there loan control_loan is.of t m spot is.is w lies beside.whole.joined in
@@ -126,7 +126,7 @@ module _ {W : Type 0} {K : W → Type 0} (control_loan : TakenBox W K → Contro
         → (was : List ℕ → Part → PixelSet) (slots : List SlotView) → IsWholeManager loan t slots
         → IsWholeManager loan u slots × IsLayerDrawnWithin damage w.serial l (state_showing was (state_of loan t slots)) (state_showing shows (state_of loan u slots))
 
-    pub put_shown : (c : ControlOf) (s : State) → MayHave s → (t u : WindowManager V H) (m n : Controls (TakenBox W K)) (spot : Spot) → IsSpotOf loan control_loan c t m spot
+    pub put_shown : (c : ControlOf) (s : State) → MayHave s → (t u : WindowManager V H) (m n : Controls (TakenBox W K)) (spot : ControlAt) → IsSpotOf loan control_loan c t m spot
         → IsChangedAt (with_state s) spot.control (records_of control_loan m) (records_of control_loan n) → n.list.next ≡ m.list.next
         → (index : ℕ) → index ≡ place_among spot.control m.list.items.items → (damage : Rect) → ((x y : ControlRecord) → slice_get (records_of control_loan m) spot.control ≡ Some x → slice_get (records_of control_loan n) spot.control ≡ Some y → IsDamageOf damage x y)
         → IsDrawnFor damage spot.window index (alone (records_of control_loan n)) t u

@@ -20,7 +20,7 @@ use Rattle.window_mgr.specs.DeskStates.{Opened}
 use Rattle.window_mgr.specs.Records.{desk_of}
 use Rattle.control_mgr.specs.declared.controls.Controls.{Controls}
 use Rattle.control_mgr.specs.declared.setting.State.{State}
-use Rattle.control_mgr.specs.declared.spots.Spot.{Spot}
+use Rattle.control_mgr.specs.declared.spots.ControlAt.{ControlAt}
 use Rattle.control_mgr.specs.ControlDesks.{ControlDesk, ControlRecord, ControlSlot, control_of}
 use Rattle.control_mgr.specs.ControlRefusals.{control_refusals, may_be_maximum, may_be_minimum, missing_refusals}
 use Rattle.control_mgr.specs.ControlSteps.{IsControlEffect, IsControlStep, IsSet}
@@ -63,7 +63,7 @@ title_agrees n was is c e v h t = λ i. with_kept (λ k. record k {
 pub chosen : {X : Type 0} (b : Bool) (x y z : X) → z ≡ cond b x y → b ≡ true → z ≡ x
 chosen b x y z e h = e ∙ ap (λ t. cond t x y) h
 
-module _ {V : Type 0} {H : V → Type 0} (loan : TakenBox V H → Loan) {W : Type 0} {K : W → Type 0} (control_loan : TakenBox W K → ControlLoan) (c : ControlOf) (t : WindowManager V H) (m : Controls (TakenBox W K)) (s : Spot) (is : IsSpotOf loan control_loan c t m s) where
+module _ {V : Type 0} {H : V → Type 0} (loan : TakenBox V H → Loan) {W : Type 0} {K : W → Type 0} (control_loan : TakenBox W K → ControlLoan) (c : ControlOf) (t : WindowManager V H) (m : Controls (TakenBox W K)) (s : ControlAt) (is : IsSpotOf loan control_loan c t m s) where
   -- the control that is named is the one that stands here
   pub named_here : control_of c (records_of control_loan m) ≡ Some (record_there loan control_loan c t m s is).item
   named_here = ap (λ o. option_and_then (slice_get (records_of control_loan m)) o) is.control ∙ (record_there loan control_loan c t m s is).there

@@ -15,7 +15,7 @@ use Rattle.window_mgr.specs.Records.{desk_of}
 use Rattle.window_mgr.specs.Refused.{is_missing}
 use Rattle.control_mgr.specs.declared.controls.Controls.{Controls}
 use Rattle.control_mgr.specs.declared.setting.State.{State}
-use Rattle.control_mgr.specs.declared.spots.Spot.{Spot}
+use Rattle.control_mgr.specs.declared.spots.ControlAt.{ControlAt}
 use Rattle.control_mgr.specs.ControlDesks.{index_of}
 use Rattle.control_mgr.specs.ControlRefusals.{missing_refusals}
 use Rattle.control_mgr.specs.ControlSteps.{IsSettingPutAt}
@@ -53,7 +53,7 @@ module _ {V : Type 0} {H : V → Type 0} (loan : TakenBox V H → Loan) {W : Typ
   )
 
   -- else it has another state, with this setting
-  pub setting_put : (setting : Setting) (s : Spot) → IsSpotOf loan control_loan c t m s → (was now : State) → IfSome (slice_get (records_of control_loan m) s.control) (λ x. was ≡ state_of_control x)
+  pub setting_put : (setting : Setting) (s : ControlAt) → IsSpotOf loan control_loan c t m s → (was now : State) → IfSome (slice_get (records_of control_loan m) s.control) (λ x. was ≡ state_of_control x)
       → now ≡ record was { values = setting } → (u : WindowManager V H) (n : Controls (TakenBox W K)) (o r : Opened) → LeavesControls control_loan loan (IsPut c (with_state now)) t o m u r n
       → LeavesControls control_loan loan (IsSettingGiven c setting) t o m u r n
   setting_put setting s is was now read is_now u n o r leaves kept others slots whole controls =

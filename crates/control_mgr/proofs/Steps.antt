@@ -18,7 +18,7 @@ use Rattle.window_mgr.specs.DeskStates.{Opened}
 use Rattle.window_mgr.specs.FullDesk.{FullDesk}
 use Rattle.window_mgr.specs.Records.{desk_of, desk_showing}
 use Rattle.control_mgr.specs.declared.controls.Controls.{Controls}
-use Rattle.control_mgr.specs.declared.spots.Spot.{Spot}
+use Rattle.control_mgr.specs.declared.spots.ControlAt.{ControlAt}
 use Rattle.control_mgr.specs.ControlDesks.{ControlDesk, ControlRecord, ControlSlot, IsControlDeskUnchanged, controls_show, index_of}
 use Rattle.control_mgr.specs.ControlRefusals.{control_refusals, may_control_grow, missing_refusals}
 use Rattle.control_mgr.specs.ControlSteps.{IsChangedTo, IsControlEffect, IsControlStep}
@@ -119,7 +119,7 @@ module _ {V : Type 0} {H : V → Type 0} (loan : TakenBox V H → Loan) {W : Typ
 
   -- ---- a control that is there
 
-  module _ (c : ControlOf) (t : WindowManager V H) (m : Controls (TakenBox W K)) (s : Spot) (is : IsSpotOf loan control_loan c t m s) where
+  module _ (c : ControlOf) (t : WindowManager V H) (m : Controls (TakenBox W K)) (s : ControlAt) (is : IsSpotOf loan control_loan c t m s) where
     pub nothing_missing : first_refusal (missing_refusals c (desk_of loan t []) (records_of control_loan m)) ≡ None
     nothing_missing = none_missing c (desk_of loan t []) (records_of control_loan m) _ (is_none (index_of c (records_of control_loan m))) is.there (ap is_none is.control)
 

@@ -34,7 +34,7 @@ use Rattle.window_mgr.specs.Relayered.{HasUpdate, IsGainedAt, IsPartAt, IsPlanOf
 use Rattle.window_mgr.proofs.Steps.{found}
 use Rattle.control_mgr.specs.declared.controls.Controls.{Controls}
 use Rattle.control_mgr.specs.declared.ending.Ending.{Ending}
-use Rattle.control_mgr.specs.declared.spots.Spot.{Spot}
+use Rattle.control_mgr.specs.declared.spots.ControlAt.{ControlAt}
 use Rattle.control_mgr.specs.ControlDesks.{ControlRecord, index_of}
 use Rattle.control_mgr.specs.ControlSteps.{AreLayersOf}
 use Rattle.control_mgr.specs.Ending.{IsEnding, IsReadyToEnd, IsTakenOut}
@@ -117,7 +117,7 @@ module _ {V : Type 0} {H : V → Type 0} (loan : TakenBox V H → Loan) {W : Typ
     its : (at : ℕ) × (index_of c cs ≡ Some at) × (place_among at cs ≡ i)
     its = place_found (index_of c cs) i cs (sym index_is ∙ is)
 
-    abbrev spot : Spot
+    abbrev spot : ControlAt
     spot = record { window = at; control = its.0 }
 
     spot_is : IsSpotOf loan control_loan c u m spot

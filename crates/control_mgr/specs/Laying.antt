@@ -22,7 +22,7 @@ use Rattle.window_mgr.specs.declared.manager.WindowManager.{WindowManager}
 use Rattle.window_mgr.specs.Edits.{IsWindowAt}
 use Rattle.control_mgr.specs.declared.controls.Controls.{Controls}
 use Rattle.control_mgr.specs.declared.laying.Lie.{Lie}
-use Rattle.control_mgr.specs.declared.spots.Spot.{Spot}
+use Rattle.control_mgr.specs.declared.spots.ControlAt.{ControlAt}
 use Rattle.control_mgr.specs.ControlDesks.{ControlDesk, ControlRecord, IsControlDeskUnchanged}
 use Rattle.control_mgr.specs.ControlSteps.{IsControlLaid}
 use Rattle.control_mgr.specs.Judged.{may_be_placed}
@@ -57,7 +57,7 @@ module _ {W : Type 0} {K : W → Type 0} (control_loan : TakenBox W K → Contro
   definition_if taken = option_map (λ t. (control_loan t.now).definition) taken
 
   -- the control at this place may lie so in its window
-  abbrev pub MayLie : {V : Type 0} {H : V → Type 0} → WindowManager V H → Controls (TakenBox W K) → Spot → Lie → Type 0
+  abbrev pub MayLie : {V : Type 0} {H : V → Type 0} → WindowManager V H → Controls (TakenBox W K) → ControlAt → Lie → Type 0
   MayLie t m s l = (c : ControlRecord) (w : Window _ _) → slice_get (records_of control_loan m) s.control ≡ Some c
       → IsWindowAt t.windows.records.items s.window w
       → may_be_placed (Some c.kept.definition.definition) l.place l.size w.place ≡ true

@@ -16,7 +16,7 @@ use Rattle.window_mgr.specs.Refused.{is_missing}
 use Rattle.control_mgr.specs.declared.controls.Controls.{Controls}
 use Rattle.control_mgr.specs.declared.laying.Lie.{Lie}
 use Rattle.control_mgr.specs.declared.setting.State.{State}
-use Rattle.control_mgr.specs.declared.spots.Spot.{Spot}
+use Rattle.control_mgr.specs.declared.spots.ControlAt.{ControlAt}
 use Rattle.control_mgr.specs.ControlDesks.{ControlRecord, index_of}
 use Rattle.control_mgr.specs.WholeControls.{records_of}
 
@@ -39,13 +39,13 @@ pub record IsTellable (c : ControlRecord) : Type 0 where
 
 module _ {V : Type 0} {H : V → Type 0} (loan : TakenBox V H → Loan) {W : Type 0} {K : W → Type 0} (control_loan : TakenBox W K → ControlLoan) where
   -- the control stands here, and its window
-  pub record IsSpotOf (c : ControlOf) (t : WindowManager V H) (m : Controls (TakenBox W K)) (s : Spot) : Type 0 where
+  pub record IsSpotOf (c : ControlOf) (t : WindowManager V H) (m : Controls (TakenBox W K)) (s : ControlAt) : Type 0 where
     pub window : StandsAt t.windows.records.items c.window s.window
     pub there : is_missing c.window (desk_of loan t []).windows ≡ false
     pub control : index_of c (records_of control_loan m) ≡ Some s.control
     pub low : s.control < length m.list.items.items
 
   -- some control stands here, and its window
-  pub record IsSpot (t : WindowManager V H) (m : Controls (TakenBox W K)) (s : Spot) : Type 0 where
+  pub record IsSpot (t : WindowManager V H) (m : Controls (TakenBox W K)) (s : ControlAt) : Type 0 where
     pub of : ControlOf
     pub is : IsSpotOf of t m s

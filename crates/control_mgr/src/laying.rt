@@ -13,7 +13,7 @@ ghost use Rattle.control_mgr.specs.Spots.{IsSpot, IsSpotOf, IsTellable, with_lie
 ghost use Rattle.control_mgr.specs.WholeControls.{AreBeside, LeavesControls, records_of};
 
 use crate::Controls;
-use crate::spots::Spot;
+use crate::spots::ControlAt;
 use def_iface::{Defined, Size, TakenControl, TakenWindow};
 use desk_call::{ControlOf, ControlReply, MoveControl, SizeControl};
 use std::alloc::{AllocError, Global};
@@ -109,7 +109,7 @@ impl Controls<TakenControl> {
     }
 
     /// Whether the control that stands here may lie so in its window.
-    fn may_lie(&self, windows: &WindowManager, spot: Spot, lie: Lie) -> bool
+    fn may_lie(&self, windows: &WindowManager, spot: ControlAt, lie: Lie) -> bool
         requires window { spot.window < length windows.now.windows.records.items }
         requires control { spot.control < length self.now.list.items.items }
         ensures { IfSome (slice_get (records_of ⟦<TakenControl as Defined>⟧.loan self.now) spot.control) (λ c.
@@ -125,7 +125,7 @@ impl Controls<TakenControl> {
     fn lay(
         &mut self,
         windows: &mut WindowManager,
-        spot: Spot,
+        spot: ControlAt,
         lie: Lie,
     ) -> Result<ControlReply, Refusal>
         requires kept { IsKept ⟦<TakenWindow as Defined>⟧.loan windows.old }

@@ -12,7 +12,7 @@ ghost use Rattle.control_mgr.specs.Spots.{IsSpot, IsSpotOf, with_state};
 ghost use Rattle.control_mgr.specs.WholeControls.{AreBeside, LeavesControls, records_of};
 
 use crate::Controls;
-use crate::spots::Spot;
+use crate::spots::ControlAt;
 use control_values::{ControlValues, Highlight};
 use def_iface::{Defined, TakenControl, TakenWindow};
 use desk_call::{ControlNumber, ControlOf, ControlReply, ControlTitle};
@@ -55,7 +55,7 @@ impl Controls<TakenControl> {
     }
 
     /// Gives a control this state, and draws it within the damage where it is not to be redrawn. Takes no memory.
-    pub(crate) fn put(&mut self, windows: &mut WindowManager, spot: Spot, state: State)
+    pub(crate) fn put(&mut self, windows: &mut WindowManager, spot: ControlAt, state: State)
         requires kept { IsKept ⟦<TakenWindow as Defined>⟧.loan windows.old }
         requires beside { AreBeside ⟦<TakenControl as Defined>⟧.loan ⟦<TakenWindow as Defined>⟧.loan windows.old self.old }
         requires spot { IsSpot ⟦<TakenWindow as Defined>⟧.loan ⟦<TakenControl as Defined>⟧.loan windows.old self.old spot }

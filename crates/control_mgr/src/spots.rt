@@ -14,14 +14,18 @@ use window_mgr::WindowManager;
 
 /// Where a control stands in the list, and its window, counted from the front.
 #[derive(Clone, Copy)]
-pub(crate) struct Spot {
+pub(crate) struct ControlAt {
     pub window: usize,
     pub control: usize,
 }
 
 impl Controls<TakenControl> {
     /// Where this control stands.
-    pub(crate) fn spot(&self, windows: &WindowManager, control: ControlOf) -> Result<Spot, Refusal>
+    pub(crate) fn spot(
+        &self,
+        windows: &WindowManager,
+        control: ControlOf,
+    ) -> Result<ControlAt, Refusal>
         ensures { let refusals = missing_refusals control (desk_of ⟦<TakenWindow as Defined>⟧.loan windows.now [])
             (records_of ⟦<TakenControl as Defined>⟧.loan self.now) in
             MatchResult result
@@ -32,7 +36,7 @@ impl Controls<TakenControl> {
             return Err(Refusal::NoSuchWindow);
         };
         match self.list.find(control.window, control.control) {
-            Some(control) => Ok(Spot { window, control }),
+            Some(control) => Ok(ControlAt { window, control }),
             None => Err(Refusal::NoSuchControl),
         }
     }

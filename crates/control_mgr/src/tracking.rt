@@ -18,7 +18,7 @@ ghost use Rattle.control_mgr.specs.WholeControls.{AreBeside, IsTrackable, Leaves
 
 use crate::Controls;
 use crate::asking::{is_within, part_tested};
-use crate::spots::Spot;
+use crate::spots::ControlAt;
 use control_values::{ControlPart, ControlValues, Highlight};
 use def_iface::{Defined, TakenControl, TakenWindow};
 use desk_call::{Activity, ControlReply, PointAtControl, TrackedControl};
@@ -125,7 +125,7 @@ impl Controls<TakenControl> {
     }
 
     /// Highlights a control, and draws it within the damage where it is not to be redrawn.
-    fn highlight(&mut self, windows: &mut WindowManager, spot: Spot, highlight: Highlight)
+    fn highlight(&mut self, windows: &mut WindowManager, spot: ControlAt, highlight: Highlight)
         requires kept { IsKept ⟦<TakenWindow as Defined>⟧.loan windows.old }
         requires beside { AreBeside ⟦<TakenControl as Defined>⟧.loan ⟦<TakenWindow as Defined>⟧.loan windows.old self.old }
         requires spot { IsSpot ⟦<TakenWindow as Defined>⟧.loan ⟦<TakenControl as Defined>⟧.loan windows.old self.old spot }
@@ -142,7 +142,7 @@ impl Controls<TakenControl> {
     fn highlight_part(
         &mut self,
         windows: &mut WindowManager,
-        spot: Spot,
+        spot: ControlAt,
         tracked: ControlPart,
         highlight: Highlight,
     )

@@ -14,17 +14,16 @@ ghost use Rattle.desk_toolbox.specs.Economy.{IsCallEconomical};
 ghost use Rattle.desk_toolbox.specs.EventSteps.{events_left};
 ghost use Rattle.desk_toolbox.specs.Run.{AreControlsLeft, AreListsLeft, IsAdmitted, IsControlTold, IsEventAnswer, IsFormFault, IsListAnswer, IsUpdateTold, IsWindowTold, is_covered, is_hidden_by_menu, is_under_menu};
 ghost use Rattle.desk_toolbox.specs.ToolboxStates.{ToolboxState};
-ghost use Rattle.desk_toolbox.specs.WholeToolbox.{AreWholeManagers, IsKeptToolbox, IsWholeToolbox, toolbox_state};
 
 use crate::events::Events;
 use crate::{
-    Call, ControlCall, ControlReply, EventCall, EventReply, Found, ListCall, ListReply,
+    Call, ControlCall, ControlReply, Desk, EventCall, EventReply, Found, ListCall, ListReply,
     PointInWindow, Reply, Toolbox, UpdateCall, WindowCall, WindowPart, WindowReply,
 };
 use control_mgr::Controls;
 use def_iface::{
     ControlStock, Defined, ListStock, Stock, Stocked, StockedAll, TakenControl, TakenList,
-    TakenMenu, TakenWindow,
+    TakenWindow,
 };
 use list_mgr::{Contents, Lists};
 use tb_geom::Refusal;
@@ -36,12 +35,12 @@ use window_update::{first_to_update, update_form_refusal};
 impl Toolbox {
     /// Performs one call that may come.
     pub(crate) fn perform(&mut self, call: &Call<'_>, stock: &mut Stock) -> Result<Reply, Refusal>
-        requires whole { IsWholeToolbox ⟦<TakenWindow as Defined>⟧.loan ⟦<TakenMenu as Defined>⟧.loan ⟦<TakenControl as Defined>⟧.loan ⟦<TakenList as Defined>⟧.loan self.old (⟦<Stock as StockedAll>⟧.all_slots stock.old) }
+        requires whole { ⟦<Self as Desk>⟧.IsWhole self.old stock.old }
         requires admitted { gate self.old.activity (standing_of call.now) ≡ None }
-        ensures whole { AreWholeManagers ⟦<TakenWindow as Defined>⟧.loan ⟦<TakenMenu as Defined>⟧.loan ⟦<TakenControl as Defined>⟧.loan ⟦<TakenList as Defined>⟧.loan self.new (⟦<Stock as StockedAll>⟧.all_slots stock.new) }
+        ensures whole { ⟦<Self as Desk>⟧.HasWholeManagers self.new stock.new }
         ensures step { IsAdmitted call.now result
-            (toolbox_state ⟦<TakenWindow as Defined>⟧.loan ⟦<TakenMenu as Defined>⟧.loan ⟦<TakenControl as Defined>⟧.loan ⟦<TakenList as Defined>⟧.loan self.old (⟦<Stock as StockedAll>⟧.all_slots stock.old))
-            (toolbox_state ⟦<TakenWindow as Defined>⟧.loan ⟦<TakenMenu as Defined>⟧.loan ⟦<TakenControl as Defined>⟧.loan ⟦<TakenList as Defined>⟧.loan self.new (⟦<Stock as StockedAll>⟧.all_slots stock.new)) }
+            (⟦<Self as Desk>⟧.state self.old stock.old)
+            (⟦<Self as Desk>⟧.state self.new stock.new) }
         ensures economy { AreInformed (windows_of ⟦<TakenWindow as Defined>⟧.loan self.old.windows)
             → IsCallEconomical ⟦<TakenWindow as Defined>⟧.loan call.now self.old.windows self.new.windows }
     {
@@ -98,15 +97,16 @@ impl Toolbox {
         call: &WindowCall<'_>,
         stock: &mut Stock,
     ) -> Result<WindowReply, Refusal>
-        requires whole { IsWholeToolbox ⟦<TakenWindow as Defined>⟧.loan ⟦<TakenMenu as Defined>⟧.loan ⟦<TakenControl as Defined>⟧.loan ⟦<TakenList as Defined>⟧.loan self.old (⟦<Stock as StockedAll>⟧.all_slots stock.old) }
+        requires whole { ⟦<Self as Desk>⟧.IsWhole self.old stock.old }
         requires admitted { gate self.old.activity (window_standing call.now) ≡ None }
-        ensures whole { AreWholeManagers ⟦<TakenWindow as Defined>⟧.loan ⟦<TakenMenu as Defined>⟧.loan ⟦<TakenControl as Defined>⟧.loan ⟦<TakenList as Defined>⟧.loan self.new (⟦<Stock as StockedAll>⟧.all_slots stock.new) }
-        ensures step { let before = toolbox_state ⟦<TakenWindow as Defined>⟧.loan ⟦<TakenMenu as Defined>⟧.loan ⟦<TakenControl as Defined>⟧.loan ⟦<TakenList as Defined>⟧.loan self.old (⟦<Stock as StockedAll>⟧.all_slots stock.old) in
+        ensures whole { ⟦<Self as Desk>⟧.HasWholeManagers self.new stock.new }
+        ensures step { let before = ⟦<Self as Desk>⟧.state self.old stock.old in
             IsWindowTold (is_covered call.now before) call.now result before
-            (toolbox_state ⟦<TakenWindow as Defined>⟧.loan ⟦<TakenMenu as Defined>⟧.loan ⟦<TakenControl as Defined>⟧.loan ⟦<TakenList as Defined>⟧.loan self.new (⟦<Stock as StockedAll>⟧.all_slots stock.new)) }
+            (⟦<Self as Desk>⟧.state self.new stock.new) }
         ensures economy { AreInformed (windows_of ⟦<TakenWindow as Defined>⟧.loan self.old.windows)
             → IsEconomical ⟦<TakenWindow as Defined>⟧.loan call.now self.old.windows self.new.windows }
-        ensures aside { (self.new.menus ≡ self.old.menus) × ((self.new.updates ≡ self.old.updates) × (self.new.activity ≡ self.old.activity)) }
+        ensures aside { (self.new.menus ≡ self.old.menus)
+            × ((self.new.updates ≡ self.old.updates) × (self.new.activity ≡ self.old.activity)) }
     {
         if self.is_covered(call) {
             return Ok(WindowReply::Found(Found {
@@ -137,9 +137,8 @@ impl Toolbox {
 
     /// Whether a call asks whose a point of the pulled menu is.
     fn is_covered(&self, call: &WindowCall<'_>) -> bool
-        requires { IsKeptToolbox ⟦<TakenWindow as Defined>⟧.loan ⟦<TakenMenu as Defined>⟧.loan ⟦<TakenControl as Defined>⟧.loan ⟦<TakenList as Defined>⟧.loan self.now }
-        ensures { (stocks : AllSlots) → result
-            ≡ is_covered call.now (toolbox_state ⟦<TakenWindow as Defined>⟧.loan ⟦<TakenMenu as Defined>⟧.loan ⟦<TakenControl as Defined>⟧.loan ⟦<TakenList as Defined>⟧.loan self.now stocks) }
+        requires { ⟦<Self as Desk>⟧.IsKept self.now }
+        ensures { (stocks : AllSlots) → result ≡ is_covered call.now (⟦<Self as Desk>⟧.state_over self.now stocks) }
     {
         match call {
             WindowCall::Find(point) => self.menus.has_point(&self.windows, self.activity, *point),
@@ -149,16 +148,16 @@ impl Toolbox {
 
     /// Answers a call about what is to be redrawn.
     fn tell_update(&mut self, call: &UpdateCall<'_>) -> Result<WindowReply, Refusal>
-        requires kept { IsKeptToolbox ⟦<TakenWindow as Defined>⟧.loan ⟦<TakenMenu as Defined>⟧.loan ⟦<TakenControl as Defined>⟧.loan ⟦<TakenList as Defined>⟧.loan self.old }
+        requires kept { ⟦<Self as Desk>⟧.IsKept self.old }
         requires admitted { gate self.old.activity (update_standing call.now) ≡ None }
         ensures whole { (stocks : AllSlots)
-            → IsWholeToolbox ⟦<TakenWindow as Defined>⟧.loan ⟦<TakenMenu as Defined>⟧.loan ⟦<TakenControl as Defined>⟧.loan ⟦<TakenList as Defined>⟧.loan self.old stocks
-            → AreWholeManagers ⟦<TakenWindow as Defined>⟧.loan ⟦<TakenMenu as Defined>⟧.loan ⟦<TakenControl as Defined>⟧.loan ⟦<TakenList as Defined>⟧.loan self.new stocks }
+            → ⟦<Self as Desk>⟧.IsWholeOver self.old stocks
+            → ⟦<Self as Desk>⟧.HasWholeManagersOver self.new stocks }
         ensures step { (stocks : AllSlots)
-            → IsWholeToolbox ⟦<TakenWindow as Defined>⟧.loan ⟦<TakenMenu as Defined>⟧.loan ⟦<TakenControl as Defined>⟧.loan ⟦<TakenList as Defined>⟧.loan self.old stocks
+            → ⟦<Self as Desk>⟧.IsWholeOver self.old stocks
             → IsUpdateTold call.now result
-            (toolbox_state ⟦<TakenWindow as Defined>⟧.loan ⟦<TakenMenu as Defined>⟧.loan ⟦<TakenControl as Defined>⟧.loan ⟦<TakenList as Defined>⟧.loan self.old stocks)
-            (toolbox_state ⟦<TakenWindow as Defined>⟧.loan ⟦<TakenMenu as Defined>⟧.loan ⟦<TakenControl as Defined>⟧.loan ⟦<TakenList as Defined>⟧.loan self.new stocks) }
+            (⟦<Self as Desk>⟧.state_over self.old stocks)
+            (⟦<Self as Desk>⟧.state_over self.new stocks) }
     {
         let contents = Contents {
             controls: &self.controls,
@@ -174,12 +173,12 @@ impl Toolbox {
         call: &ControlCall<'_>,
         stock: &mut Stock,
     ) -> Result<ControlReply, Refusal>
-        requires whole { IsWholeToolbox ⟦<TakenWindow as Defined>⟧.loan ⟦<TakenMenu as Defined>⟧.loan ⟦<TakenControl as Defined>⟧.loan ⟦<TakenList as Defined>⟧.loan self.old (⟦<Stock as StockedAll>⟧.all_slots stock.old) }
+        requires whole { ⟦<Self as Desk>⟧.IsWhole self.old stock.old }
         requires admitted { gate self.old.activity (control_standing call.now) ≡ None }
-        ensures whole { AreWholeManagers ⟦<TakenWindow as Defined>⟧.loan ⟦<TakenMenu as Defined>⟧.loan ⟦<TakenControl as Defined>⟧.loan ⟦<TakenList as Defined>⟧.loan self.new (⟦<Stock as StockedAll>⟧.all_slots stock.new) }
-        ensures step { let before = toolbox_state ⟦<TakenWindow as Defined>⟧.loan ⟦<TakenMenu as Defined>⟧.loan ⟦<TakenControl as Defined>⟧.loan ⟦<TakenList as Defined>⟧.loan self.old (⟦<Stock as StockedAll>⟧.all_slots stock.old) in
+        ensures whole { ⟦<Self as Desk>⟧.HasWholeManagers self.new stock.new }
+        ensures step { let before = ⟦<Self as Desk>⟧.state self.old stock.old in
             IsControlTold (is_hidden_by_menu call.now before) call.now result before
-            (toolbox_state ⟦<TakenWindow as Defined>⟧.loan ⟦<TakenMenu as Defined>⟧.loan ⟦<TakenControl as Defined>⟧.loan ⟦<TakenList as Defined>⟧.loan self.new (⟦<Stock as StockedAll>⟧.all_slots stock.new)) }
+            (⟦<Self as Desk>⟧.state self.new stock.new) }
     {
         if self.is_hidden_by_menu(call) {
             return Ok(ControlReply::Found(None));
@@ -194,9 +193,9 @@ impl Toolbox {
 
     /// Whether a call asks for a control at a point of the pulled menu.
     fn is_hidden_by_menu(&self, call: &ControlCall<'_>) -> bool
-        requires { IsKeptToolbox ⟦<TakenWindow as Defined>⟧.loan ⟦<TakenMenu as Defined>⟧.loan ⟦<TakenControl as Defined>⟧.loan ⟦<TakenList as Defined>⟧.loan self.now }
+        requires { ⟦<Self as Desk>⟧.IsKept self.now }
         ensures { (stocks : AllSlots) → result
-            ≡ is_hidden_by_menu call.now (toolbox_state ⟦<TakenWindow as Defined>⟧.loan ⟦<TakenMenu as Defined>⟧.loan ⟦<TakenControl as Defined>⟧.loan ⟦<TakenList as Defined>⟧.loan self.now stocks) }
+            ≡ is_hidden_by_menu call.now (⟦<Self as Desk>⟧.state_over self.now stocks) }
     {
         match call {
             ControlCall::Find(asked) => self.is_under_menu(*asked),
@@ -206,9 +205,8 @@ impl Toolbox {
 
     /// Whether a point of a window lies where the menu does that is pulled down.
     fn is_under_menu(&self, asked: PointInWindow) -> bool
-        requires { IsKeptToolbox ⟦<TakenWindow as Defined>⟧.loan ⟦<TakenMenu as Defined>⟧.loan ⟦<TakenControl as Defined>⟧.loan ⟦<TakenList as Defined>⟧.loan self.now }
-        ensures { (stocks : AllSlots) → result
-            ≡ is_under_menu (toolbox_state ⟦<TakenWindow as Defined>⟧.loan ⟦<TakenMenu as Defined>⟧.loan ⟦<TakenControl as Defined>⟧.loan ⟦<TakenList as Defined>⟧.loan self.now stocks) asked }
+        requires { ⟦<Self as Desk>⟧.IsKept self.now }
+        ensures { (stocks : AllSlots) → result ≡ is_under_menu (⟦<Self as Desk>⟧.state_over self.now stocks) asked }
     {
         if !asked.point.is_in_range() {
             return false;
@@ -225,12 +223,12 @@ impl Toolbox {
 
     /// Answers a call about lists.
     fn tell_list(&mut self, call: &ListCall<'_>, stock: &mut Stock) -> Result<ListReply, Refusal>
-        requires whole { IsWholeToolbox ⟦<TakenWindow as Defined>⟧.loan ⟦<TakenMenu as Defined>⟧.loan ⟦<TakenControl as Defined>⟧.loan ⟦<TakenList as Defined>⟧.loan self.old (⟦<Stock as StockedAll>⟧.all_slots stock.old) }
+        requires whole { ⟦<Self as Desk>⟧.IsWhole self.old stock.old }
         requires admitted { gate self.old.activity (list_standing call.now) ≡ None }
-        ensures whole { AreWholeManagers ⟦<TakenWindow as Defined>⟧.loan ⟦<TakenMenu as Defined>⟧.loan ⟦<TakenControl as Defined>⟧.loan ⟦<TakenList as Defined>⟧.loan self.new (⟦<Stock as StockedAll>⟧.all_slots stock.new) }
+        ensures whole { ⟦<Self as Desk>⟧.HasWholeManagers self.new stock.new }
         ensures step { IsListAnswer call.now result
-            (toolbox_state ⟦<TakenWindow as Defined>⟧.loan ⟦<TakenMenu as Defined>⟧.loan ⟦<TakenControl as Defined>⟧.loan ⟦<TakenList as Defined>⟧.loan self.old (⟦<Stock as StockedAll>⟧.all_slots stock.old))
-            (toolbox_state ⟦<TakenWindow as Defined>⟧.loan ⟦<TakenMenu as Defined>⟧.loan ⟦<TakenControl as Defined>⟧.loan ⟦<TakenList as Defined>⟧.loan self.new (⟦<Stock as StockedAll>⟧.all_slots stock.new)) }
+            (⟦<Self as Desk>⟧.state self.old stock.old)
+            (⟦<Self as Desk>⟧.state self.new stock.new) }
     {
         self.lists.perform(
             &mut self.windows,
@@ -243,13 +241,13 @@ impl Toolbox {
 
     /// Answers a call about events.
     fn answer_event(&mut self, call: EventCall) -> Result<EventReply, Refusal>
-        requires { IsKeptToolbox ⟦<TakenWindow as Defined>⟧.loan ⟦<TakenMenu as Defined>⟧.loan ⟦<TakenControl as Defined>⟧.loan ⟦<TakenList as Defined>⟧.loan self.old }
+        requires { ⟦<Self as Desk>⟧.IsKept self.old }
         ensures whole { (stocks : AllSlots)
-            → IsWholeToolbox ⟦<TakenWindow as Defined>⟧.loan ⟦<TakenMenu as Defined>⟧.loan ⟦<TakenControl as Defined>⟧.loan ⟦<TakenList as Defined>⟧.loan self.old stocks
-            → AreWholeManagers ⟦<TakenWindow as Defined>⟧.loan ⟦<TakenMenu as Defined>⟧.loan ⟦<TakenControl as Defined>⟧.loan ⟦<TakenList as Defined>⟧.loan self.new stocks }
+            → ⟦<Self as Desk>⟧.IsWholeOver self.old stocks
+            → ⟦<Self as Desk>⟧.HasWholeManagersOver self.new stocks }
         ensures step { (stocks : AllSlots) → IsEventAnswer call result
-            (toolbox_state ⟦<TakenWindow as Defined>⟧.loan ⟦<TakenMenu as Defined>⟧.loan ⟦<TakenControl as Defined>⟧.loan ⟦<TakenList as Defined>⟧.loan self.old stocks)
-            (toolbox_state ⟦<TakenWindow as Defined>⟧.loan ⟦<TakenMenu as Defined>⟧.loan ⟦<TakenControl as Defined>⟧.loan ⟦<TakenList as Defined>⟧.loan self.new stocks) }
+            (⟦<Self as Desk>⟧.state_over self.old stocks)
+            (⟦<Self as Desk>⟧.state_over self.new stocks) }
     {
         let active = self.windows.list().active();
         let update = first_to_update(&self.windows, self.activity);
@@ -268,18 +266,24 @@ fn forget(
     list_stock: &mut ListStock,
 )
     requires live { AreLiveControls (records_of ⟦<TakenControl as Defined>⟧.loan controls.old) }
-    requires stocked { AreStocked (λ d. d.stage) (slots_of (records_of ⟦<TakenControl as Defined>⟧.loan controls.old))
+    requires stocked { AreStocked (λ d. d.stage)
+        (slots_of (records_of ⟦<TakenControl as Defined>⟧.loan controls.old))
         (⟦<ControlStock as Stocked>⟧.slots control_stock.old) }
     requires live_lists { AreLiveLists (whole_lists.records_of ⟦<TakenList as Defined>⟧.loan lists.old) }
-    requires stocked_lists { AreStocked (λ d. d.stage) (whole_lists.slots_of (whole_lists.records_of ⟦<TakenList as Defined>⟧.loan lists.old))
+    requires stocked_lists { AreStocked (λ d. d.stage)
+        (whole_lists.slots_of (whole_lists.records_of ⟦<TakenList as Defined>⟧.loan lists.old))
         (⟦<ListStock as Stocked>⟧.slots list_stock.old) }
     ensures events { (call : Named) → outcome_of call ≡ outcome → events.new ≡ events_left call events.old }
     ensures controls { (call : Named) → outcome_of call ≡ outcome → AreControlsLeft call
-        (controls_state ⟦<TakenControl as Defined>⟧.loan controls.old (⟦<ControlStock as Stocked>⟧.slots control_stock.old))
-        (controls_state ⟦<TakenControl as Defined>⟧.loan controls.new (⟦<ControlStock as Stocked>⟧.slots control_stock.new)) }
+        (controls_state ⟦<TakenControl as Defined>⟧.loan controls.old
+        (⟦<ControlStock as Stocked>⟧.slots control_stock.old))
+        (controls_state ⟦<TakenControl as Defined>⟧.loan controls.new
+        (⟦<ControlStock as Stocked>⟧.slots control_stock.new)) }
     ensures lists { (call : Named) → outcome_of call ≡ outcome → AreListsLeft call
-        (lists_state ⟦<TakenList as Defined>⟧.loan lists.old (⟦<ListStock as Stocked>⟧.slots list_stock.old))
-        (lists_state ⟦<TakenList as Defined>⟧.loan lists.new (⟦<ListStock as Stocked>⟧.slots list_stock.new)) }
+        (lists_state ⟦<TakenList as Defined>⟧.loan lists.old
+        (⟦<ListStock as Stocked>⟧.slots list_stock.old))
+        (lists_state ⟦<TakenList as Defined>⟧.loan lists.new
+        (⟦<ListStock as Stocked>⟧.slots list_stock.new)) }
 {
     if let Outcome::Ended(window) = outcome {
         events.forget(window);
@@ -292,7 +296,8 @@ fn forget(
 pub(crate) fn form_refusal_of(call: &Call<'_>, stock: &Stock) -> Option<Refusal>
     ensures { let stocks = ⟦<Stock as StockedAll>⟧.all_slots stock.now in
         (before : ToolboxState) → before.desk.windows.desk.stock ≡ stocks.windows → before.menus.stock ≡ stocks.menus
-        → before.controls.stock ≡ stocks.controls → before.lists.stock ≡ stocks.lists → IsFormFault call.now before result }
+        → before.controls.stock ≡ stocks.controls → before.lists.stock ≡ stocks.lists
+        → IsFormFault call.now before result }
 {
     match call {
         Call::Window(call) => form_refusal(call, &stock.windows),

@@ -4,10 +4,9 @@ ghost use Rattle.def_iface.specs.Stocks.{AllSlots};
 ghost use Rattle.desk_call.specs.declared.activity.Standing.TheVariants as Standing;
 ghost use Rattle.desk_call.specs.Gates.{gate, outline_standing};
 ghost use Rattle.desk_toolbox.specs.Run.{IsLetGo, IsOutlineMoved, IsOutlineTold};
-ghost use Rattle.desk_toolbox.specs.WholeToolbox.{AreWholeManagers, IsKeptToolbox, IsWholeToolbox, toolbox_state};
 
-use crate::{Activity, OutlineCall, OutlineReply, Toolbox, WindowCall};
-use def_iface::{Defined, Stock, StockedAll, TakenControl, TakenList, TakenMenu, TakenWindow};
+use crate::{Activity, Desk, OutlineCall, OutlineReply, Toolbox, WindowCall};
+use def_iface::Stock;
 use desk_call::MoveWindow;
 use tb_geom::Refusal;
 use window_outline::{let_go, outlined_by};
@@ -19,12 +18,12 @@ impl Toolbox {
         call: &OutlineCall,
         stock: &mut Stock,
     ) -> Result<OutlineReply, Refusal>
-        requires whole { IsWholeToolbox ⟦<TakenWindow as Defined>⟧.loan ⟦<TakenMenu as Defined>⟧.loan ⟦<TakenControl as Defined>⟧.loan ⟦<TakenList as Defined>⟧.loan self.old (⟦<Stock as StockedAll>⟧.all_slots stock.old) }
+        requires whole { ⟦<Self as Desk>⟧.IsWhole self.old stock.old }
         requires admitted { gate self.old.activity (outline_standing call.now) ≡ None }
-        ensures whole { AreWholeManagers ⟦<TakenWindow as Defined>⟧.loan ⟦<TakenMenu as Defined>⟧.loan ⟦<TakenControl as Defined>⟧.loan ⟦<TakenList as Defined>⟧.loan self.new (⟦<Stock as StockedAll>⟧.all_slots stock.new) }
+        ensures whole { ⟦<Self as Desk>⟧.HasWholeManagers self.new stock.new }
         ensures step { IsOutlineTold call.now result
-            (toolbox_state ⟦<TakenWindow as Defined>⟧.loan ⟦<TakenMenu as Defined>⟧.loan ⟦<TakenControl as Defined>⟧.loan ⟦<TakenList as Defined>⟧.loan self.old (⟦<Stock as StockedAll>⟧.all_slots stock.old))
-            (toolbox_state ⟦<TakenWindow as Defined>⟧.loan ⟦<TakenMenu as Defined>⟧.loan ⟦<TakenControl as Defined>⟧.loan ⟦<TakenList as Defined>⟧.loan self.new (⟦<Stock as StockedAll>⟧.all_slots stock.new)) }
+            (⟦<Self as Desk>⟧.state self.old stock.old)
+            (⟦<Self as Desk>⟧.state self.new stock.new) }
     {
         match let_go(&self.windows, self.activity, call) {
             Some(drop) => self.drop_window(drop, stock),
@@ -34,16 +33,16 @@ impl Toolbox {
 
     /// Answers a call about an outline that moves no window, and shows the outline that there is then.
     fn outline(&mut self, call: &OutlineCall) -> Result<OutlineReply, Refusal>
-        requires kept { IsKeptToolbox ⟦<TakenWindow as Defined>⟧.loan ⟦<TakenMenu as Defined>⟧.loan ⟦<TakenControl as Defined>⟧.loan ⟦<TakenList as Defined>⟧.loan self.old }
+        requires kept { ⟦<Self as Desk>⟧.IsKept self.old }
         requires admitted { gate self.old.activity (outline_standing call.now) ≡ None }
         ensures whole { (stocks : AllSlots)
-            → IsWholeToolbox ⟦<TakenWindow as Defined>⟧.loan ⟦<TakenMenu as Defined>⟧.loan ⟦<TakenControl as Defined>⟧.loan ⟦<TakenList as Defined>⟧.loan self.old stocks
-            → AreWholeManagers ⟦<TakenWindow as Defined>⟧.loan ⟦<TakenMenu as Defined>⟧.loan ⟦<TakenControl as Defined>⟧.loan ⟦<TakenList as Defined>⟧.loan self.new stocks }
+            → ⟦<Self as Desk>⟧.IsWholeOver self.old stocks
+            → ⟦<Self as Desk>⟧.HasWholeManagersOver self.new stocks }
         ensures step { (stocks : AllSlots)
-            → IsWholeToolbox ⟦<TakenWindow as Defined>⟧.loan ⟦<TakenMenu as Defined>⟧.loan ⟦<TakenControl as Defined>⟧.loan ⟦<TakenList as Defined>⟧.loan self.old stocks
+            → ⟦<Self as Desk>⟧.IsWholeOver self.old stocks
             → IsOutlineMoved call.now result
-            (toolbox_state ⟦<TakenWindow as Defined>⟧.loan ⟦<TakenMenu as Defined>⟧.loan ⟦<TakenControl as Defined>⟧.loan ⟦<TakenList as Defined>⟧.loan self.old stocks)
-            (toolbox_state ⟦<TakenWindow as Defined>⟧.loan ⟦<TakenMenu as Defined>⟧.loan ⟦<TakenControl as Defined>⟧.loan ⟦<TakenList as Defined>⟧.loan self.new stocks) }
+            (⟦<Self as Desk>⟧.state_over self.old stocks)
+            (⟦<Self as Desk>⟧.state_over self.new stocks) }
     {
         match outlined_by(&self.windows, self.activity, call) {
             Ok(next) => {
@@ -58,12 +57,12 @@ impl Toolbox {
 
     /// Moves the window that was dragged, and selects it, and nothing is open then; where the move is refused, all stays.
     fn drop_window(&mut self, drop: MoveWindow, stock: &mut Stock) -> Result<OutlineReply, Refusal>
-        requires whole { IsWholeToolbox ⟦<TakenWindow as Defined>⟧.loan ⟦<TakenMenu as Defined>⟧.loan ⟦<TakenControl as Defined>⟧.loan ⟦<TakenList as Defined>⟧.loan self.old (⟦<Stock as StockedAll>⟧.all_slots stock.old) }
+        requires whole { ⟦<Self as Desk>⟧.IsWhole self.old stock.old }
         requires dragged { gate self.old.activity Standing.Drags ≡ None }
-        ensures whole { AreWholeManagers ⟦<TakenWindow as Defined>⟧.loan ⟦<TakenMenu as Defined>⟧.loan ⟦<TakenControl as Defined>⟧.loan ⟦<TakenList as Defined>⟧.loan self.new (⟦<Stock as StockedAll>⟧.all_slots stock.new) }
+        ensures whole { ⟦<Self as Desk>⟧.HasWholeManagers self.new stock.new }
         ensures step { IsLetGo drop result
-            (toolbox_state ⟦<TakenWindow as Defined>⟧.loan ⟦<TakenMenu as Defined>⟧.loan ⟦<TakenControl as Defined>⟧.loan ⟦<TakenList as Defined>⟧.loan self.old (⟦<Stock as StockedAll>⟧.all_slots stock.old))
-            (toolbox_state ⟦<TakenWindow as Defined>⟧.loan ⟦<TakenMenu as Defined>⟧.loan ⟦<TakenControl as Defined>⟧.loan ⟦<TakenList as Defined>⟧.loan self.new (⟦<Stock as StockedAll>⟧.all_slots stock.new)) }
+            (⟦<Self as Desk>⟧.state self.old stock.old)
+            (⟦<Self as Desk>⟧.state self.new stock.new) }
     {
         let open = self.activity;
         self.activity = Activity::Idle;

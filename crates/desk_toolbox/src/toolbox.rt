@@ -7,34 +7,29 @@ ghost use Rattle.desk_ground.specs.Screens as screens;
 ghost use Rattle.window_mgr.specs.Begin.{IsEmptyDesk};
 ghost use Rattle.window_mgr.specs.Closing.{IsClosed};
 ghost use Rattle.window_mgr.specs.FullDesk.{IsRightState};
-ghost use Rattle.window_mgr.specs.Records.{desk_of, state_of, state_showing};
 ghost use Rattle.window_mgr.specs.Refused.{is_missing};
 ghost use Rattle.desk_call.specs.declared.activity.Activity.TheVariants.{Idle};
 ghost use Rattle.bit_map.specs.Bits.{bit, on_map};
 ghost use Rattle.control_mgr.specs.ControlClosing.{AreAllControlsClosed};
-ghost use Rattle.control_mgr.specs.ControlDesks.{controls_show};
-ghost use Rattle.control_mgr.specs.WholeControls.{records_of};
 ghost use Rattle.list_mgr.specs.ListClosing.{AreAllListsClosed};
-ghost use Rattle.list_mgr.specs.ListDesks.{lists_show};
-ghost use Rattle.list_mgr.specs.WholeLists as whole_lists;
 ghost use Rattle.menu_mgr.specs.MenuClosing.{AreMenusClosed};
-ghost use Rattle.menu_mgr.specs.WholeMenus.{AreNoMenus, menus_of};
+ghost use Rattle.menu_mgr.specs.WholeMenus.{AreNoMenus};
 ghost use Rattle.tb_geom.specs.declared.point.Point.{Point};
 ghost use Rattle.desk_toolbox.specs.Fronts.{screen_of};
 ghost use Rattle.window_update.specs.Rightness.{IsJudgement};
+ghost use Rattle.desk_toolbox.specs.Boxed.{no_slots};
 ghost use Rattle.desk_toolbox.specs.Economy.{IsCallEconomical};
 ghost use Rattle.desk_toolbox.specs.EventSteps.{first_events};
 ghost use Rattle.desk_toolbox.specs.Reached.{IsConsistent, IsJustBegun};
 ghost use Rattle.desk_toolbox.specs.Run.{IsRunOfCalls, IsStep};
 ghost use Rattle.desk_toolbox.specs.ToolboxStates.{IsToolboxUnchanged};
-ghost use Rattle.desk_toolbox.specs.WholeToolbox.{IsKeptToolbox, IsWholeToolbox, toolbox_state};
 
 use crate::answering::form_refusal_of;
 use crate::events::Events;
-use crate::{Activity, Call, Reply};
+use crate::{Activity, Call, Desk, Reply};
 use bit_map::BitMap;
 use control_mgr::Controls;
-use def_iface::{Defined, Stock, StockedAll, TakenControl, TakenList, TakenMenu, TakenWindow};
+use def_iface::{Defined, Stock, StockedAll, TakenControl, TakenList, TakenWindow};
 use desk_ground::is_screen;
 use list_mgr::{Contents, Lists};
 use menu_list::MenuList;
@@ -76,7 +71,8 @@ impl DeskParts {
     fn new(alloc: Global, width: i32, height: i32) -> Result<DeskParts, AllocError>
         requires width { screens.is_screen_side width ≡ true }
         requires height { screens.is_screen_side height ≡ true }
-        ensures updates { IfOk result (λ p. (pos p.updates.buffer.width ≡ width) × (pos p.updates.buffer.height ≡ height)) }
+        ensures updates { IfOk result (λ p. (pos p.updates.buffer.width ≡ width)
+            × (pos p.updates.buffer.height ≡ height)) }
         ensures menus { IfOk result (λ p. AreNoMenus width height p.menus) }
         ensures events { IfOk result (λ p. p.events ≡ first_events) }
     {
@@ -104,9 +100,10 @@ impl Toolbox {
             → IsEmptyDesk ⟦<TakenWindow as Defined>⟧.loan width height bar font t.windows slots) }
         ensures idle { IfOk result (λ t. t.activity ≡ Idle) }
         ensures events { IfOk result (λ t. t.events ≡ first_events) }
-        ensures whole { IfOk result (λ t. (stocks : AllSlots) → AreAllFull stocks → IsWholeToolbox ⟦<TakenWindow as Defined>⟧.loan ⟦<TakenMenu as Defined>⟧.loan ⟦<TakenControl as Defined>⟧.loan ⟦<TakenList as Defined>⟧.loan t stocks) }
+        ensures whole { IfOk result (λ t. (stocks : AllSlots) → AreAllFull stocks
+            → ⟦<Self as Desk>⟧.IsWholeOver t stocks) }
         ensures just_begun { IfOk result (λ t. (stocks : AllSlots) → AreAllFull stocks
-            → IsJustBegun (toolbox_state ⟦<TakenWindow as Defined>⟧.loan ⟦<TakenMenu as Defined>⟧.loan ⟦<TakenControl as Defined>⟧.loan ⟦<TakenList as Defined>⟧.loan t stocks)) }
+            → IsJustBegun (⟦<Self as Desk>⟧.state_over t stocks)) }
         ensures in_range { IfOk result (λ t. screens.is_screen width height bar ≡ true) }
         ensures refused { IfErr result (λ e. (e.font ≡ font)
             × (e.refusal ≡ (if screens.is_screen width height bar then Refusal.NoMemory else Refusal.OutOfRange))) }
@@ -145,7 +142,8 @@ impl Toolbox {
         ensures menus { IfOk result (λ t. t.menus ≡ parts.menus) }
         ensures controls { IfOk result (λ t. (t.controls.list.items.items ≡ []) × (t.controls.list.next ≡ Some 1)) }
         ensures lists { IfOk result (λ t. (t.lists.list.items.items ≡ []) × (t.lists.list.next ≡ Some 1)) }
-        ensures whole { IfOk result (λ t. (stocks : AllSlots) → AreAllFull stocks → IsWholeToolbox ⟦<TakenWindow as Defined>⟧.loan ⟦<TakenMenu as Defined>⟧.loan ⟦<TakenControl as Defined>⟧.loan ⟦<TakenList as Defined>⟧.loan t stocks) }
+        ensures whole { IfOk result (λ t. (stocks : AllSlots) → AreAllFull stocks
+            → ⟦<Self as Desk>⟧.IsWholeOver t stocks) }
         ensures in_range { IfOk result (λ t. screens.is_screen width height bar ≡ true) }
         ensures refused { IfErr result (λ e. (e.font ≡ font)
             × (e.refusal ≡ (if screens.is_screen width height bar then Refusal.NoMemory else Refusal.OutOfRange))) }
@@ -174,11 +172,11 @@ impl Toolbox {
     /// The screen: the pulled menu where it lies, and else what the windows, the menu bar and the desktop show, with the outline
     /// of a window that is dragged or grown.
     pub fn screen(&self) -> &BitMap
-        requires { IsKeptToolbox ⟦<TakenWindow as Defined>⟧.loan ⟦<TakenMenu as Defined>⟧.loan ⟦<TakenControl as Defined>⟧.loan ⟦<TakenList as Defined>⟧.loan self.now }
+        requires { ⟦<Self as Desk>⟧.IsKept self.now }
         ensures width { result.now.width ≡ self.now.windows.screen.width }
         ensures height { result.now.height ≡ self.now.windows.screen.height }
         ensures shown { (stocks : AllSlots) (p : Point) → on_map result.now p ≡ true
-            → bit result.now p ≡ screen_of (toolbox_state ⟦<TakenWindow as Defined>⟧.loan ⟦<TakenMenu as Defined>⟧.loan ⟦<TakenControl as Defined>⟧.loan ⟦<TakenList as Defined>⟧.loan self.now stocks) p }
+            → bit result.now p ≡ screen_of (⟦<Self as Desk>⟧.state_over self.now stocks) p }
     {
         match self.activity {
             Activity::Pulling(_) | Activity::Dragging(_) | Activity::Growing(_) => {
@@ -237,14 +235,14 @@ impl Toolbox {
     /// first where several would do stands with the call. While something is open, a call that may not
     /// come then is refused for that, but first for a name that no table has, or bytes without their form.
     pub fn call(&mut self, call: &Call<'_>, stock: &mut Stock) -> Result<Reply, Refusal>
-        requires { IsWholeToolbox ⟦<TakenWindow as Defined>⟧.loan ⟦<TakenMenu as Defined>⟧.loan ⟦<TakenControl as Defined>⟧.loan ⟦<TakenList as Defined>⟧.loan self.old (⟦<Stock as StockedAll>⟧.all_slots stock.old) }
-        ensures whole { IsWholeToolbox ⟦<TakenWindow as Defined>⟧.loan ⟦<TakenMenu as Defined>⟧.loan ⟦<TakenControl as Defined>⟧.loan ⟦<TakenList as Defined>⟧.loan self.new (⟦<Stock as StockedAll>⟧.all_slots stock.new) }
+        requires { ⟦<Self as Desk>⟧.IsWhole self.old stock.old }
+        ensures whole { ⟦<Self as Desk>⟧.IsWhole self.new stock.new }
         ensures step { IsStep call.now result
-            (toolbox_state ⟦<TakenWindow as Defined>⟧.loan ⟦<TakenMenu as Defined>⟧.loan ⟦<TakenControl as Defined>⟧.loan ⟦<TakenList as Defined>⟧.loan self.old (⟦<Stock as StockedAll>⟧.all_slots stock.old))
-            (toolbox_state ⟦<TakenWindow as Defined>⟧.loan ⟦<TakenMenu as Defined>⟧.loan ⟦<TakenControl as Defined>⟧.loan ⟦<TakenList as Defined>⟧.loan self.new (⟦<Stock as StockedAll>⟧.all_slots stock.new)) }
-        ensures right { IsRightState (toolbox_state ⟦<TakenWindow as Defined>⟧.loan ⟦<TakenMenu as Defined>⟧.loan ⟦<TakenControl as Defined>⟧.loan ⟦<TakenList as Defined>⟧.loan self.old (⟦<Stock as StockedAll>⟧.all_slots stock.old)).desk.windows
-            → IsRightState (toolbox_state ⟦<TakenWindow as Defined>⟧.loan ⟦<TakenMenu as Defined>⟧.loan ⟦<TakenControl as Defined>⟧.loan ⟦<TakenList as Defined>⟧.loan self.new (⟦<Stock as StockedAll>⟧.all_slots stock.new)).desk.windows }
-        ensures economy { IsConsistent (toolbox_state ⟦<TakenWindow as Defined>⟧.loan ⟦<TakenMenu as Defined>⟧.loan ⟦<TakenControl as Defined>⟧.loan ⟦<TakenList as Defined>⟧.loan self.old (⟦<Stock as StockedAll>⟧.all_slots stock.old))
+            (⟦<Self as Desk>⟧.state self.old stock.old)
+            (⟦<Self as Desk>⟧.state self.new stock.new) }
+        ensures right { IsRightState (⟦<Self as Desk>⟧.state self.old stock.old).desk.windows
+            → IsRightState (⟦<Self as Desk>⟧.state self.new stock.new).desk.windows }
+        ensures economy { IsConsistent (⟦<Self as Desk>⟧.state self.old stock.old)
             → IsCallEconomical ⟦<TakenWindow as Defined>⟧.loan call.now self.old.windows self.new.windows }
     {
         match self.activity.admit(call.standing()) {
@@ -263,17 +261,17 @@ impl Toolbox {
         calls: &[Call<'_>],
         stock: &mut Stock,
     ) -> Result<Vec<Result<Reply, Refusal>>, AllocError>
-        requires { IsWholeToolbox ⟦<TakenWindow as Defined>⟧.loan ⟦<TakenMenu as Defined>⟧.loan ⟦<TakenControl as Defined>⟧.loan ⟦<TakenList as Defined>⟧.loan self.old (⟦<Stock as StockedAll>⟧.all_slots stock.old) }
-        ensures whole { IsWholeToolbox ⟦<TakenWindow as Defined>⟧.loan ⟦<TakenMenu as Defined>⟧.loan ⟦<TakenControl as Defined>⟧.loan ⟦<TakenList as Defined>⟧.loan self.new (⟦<Stock as StockedAll>⟧.all_slots stock.new) }
+        requires { ⟦<Self as Desk>⟧.IsWhole self.old stock.old }
+        ensures whole { ⟦<Self as Desk>⟧.IsWhole self.new stock.new }
         ensures run { IfOk result (λ answers. IsRunOfCalls
-            (toolbox_state ⟦<TakenWindow as Defined>⟧.loan ⟦<TakenMenu as Defined>⟧.loan ⟦<TakenControl as Defined>⟧.loan ⟦<TakenList as Defined>⟧.loan self.old (⟦<Stock as StockedAll>⟧.all_slots stock.old))
+            (⟦<Self as Desk>⟧.state self.old stock.old)
             calls.now answers.items
-            (toolbox_state ⟦<TakenWindow as Defined>⟧.loan ⟦<TakenMenu as Defined>⟧.loan ⟦<TakenControl as Defined>⟧.loan ⟦<TakenList as Defined>⟧.loan self.new (⟦<Stock as StockedAll>⟧.all_slots stock.new))) }
+            (⟦<Self as Desk>⟧.state self.new stock.new)) }
         ensures kept { OnErr result (IsToolboxUnchanged
-            (toolbox_state ⟦<TakenWindow as Defined>⟧.loan ⟦<TakenMenu as Defined>⟧.loan ⟦<TakenControl as Defined>⟧.loan ⟦<TakenList as Defined>⟧.loan self.old (⟦<Stock as StockedAll>⟧.all_slots stock.old))
-            (toolbox_state ⟦<TakenWindow as Defined>⟧.loan ⟦<TakenMenu as Defined>⟧.loan ⟦<TakenControl as Defined>⟧.loan ⟦<TakenList as Defined>⟧.loan self.new (⟦<Stock as StockedAll>⟧.all_slots stock.new))) }
-        ensures right { IsRightState (toolbox_state ⟦<TakenWindow as Defined>⟧.loan ⟦<TakenMenu as Defined>⟧.loan ⟦<TakenControl as Defined>⟧.loan ⟦<TakenList as Defined>⟧.loan self.old (⟦<Stock as StockedAll>⟧.all_slots stock.old)).desk.windows
-            → IsRightState (toolbox_state ⟦<TakenWindow as Defined>⟧.loan ⟦<TakenMenu as Defined>⟧.loan ⟦<TakenControl as Defined>⟧.loan ⟦<TakenList as Defined>⟧.loan self.new (⟦<Stock as StockedAll>⟧.all_slots stock.new)).desk.windows }
+            (⟦<Self as Desk>⟧.state self.old stock.old)
+            (⟦<Self as Desk>⟧.state self.new stock.new)) }
+        ensures right { IsRightState (⟦<Self as Desk>⟧.state self.old stock.old).desk.windows
+            → IsRightState (⟦<Self as Desk>⟧.state self.new stock.new).desk.windows }
     {
         let mut answers = Vec::with_capacity(self.alloc, calls.len())?;
         for call in calls {
@@ -287,16 +285,12 @@ impl Toolbox {
     /// screen has the value that painting the desk from nothing gives. NoSuchWindow is the only refusal. Takes no
     /// memory, and changes nothing that a call can tell.
     pub fn pixels_right(&mut self, window: u64, rect: Rect) -> Result<bool, Refusal>
-        requires { IsKeptToolbox ⟦<TakenWindow as Defined>⟧.loan ⟦<TakenMenu as Defined>⟧.loan ⟦<TakenControl as Defined>⟧.loan ⟦<TakenList as Defined>⟧.loan self.old }
-        ensures whole { (stocks : AllSlots)
-            → IsWholeToolbox ⟦<TakenWindow as Defined>⟧.loan ⟦<TakenMenu as Defined>⟧.loan ⟦<TakenControl as Defined>⟧.loan ⟦<TakenList as Defined>⟧.loan self.old stocks
-            → IsWholeToolbox ⟦<TakenWindow as Defined>⟧.loan ⟦<TakenMenu as Defined>⟧.loan ⟦<TakenControl as Defined>⟧.loan ⟦<TakenList as Defined>⟧.loan self.new stocks }
-        ensures same { (stocks : AllSlots)
-            → toolbox_state ⟦<TakenWindow as Defined>⟧.loan ⟦<TakenMenu as Defined>⟧.loan ⟦<TakenControl as Defined>⟧.loan ⟦<TakenList as Defined>⟧.loan self.new stocks
-            ≡ toolbox_state ⟦<TakenWindow as Defined>⟧.loan ⟦<TakenMenu as Defined>⟧.loan ⟦<TakenControl as Defined>⟧.loan ⟦<TakenList as Defined>⟧.loan self.old stocks }
-        ensures right { let state = state_showing (controls_show (lists_show (whole_lists.records_of ⟦<TakenList as Defined>⟧.loan self.old.lists))
-            (records_of ⟦<TakenControl as Defined>⟧.loan self.old.controls))
-            (state_of ⟦<TakenWindow as Defined>⟧.loan self.old.windows []) in MatchResult result
+        requires { ⟦<Self as Desk>⟧.IsKept self.old }
+        ensures whole { (stocks : AllSlots) → ⟦<Self as Desk>⟧.IsWholeOver self.old stocks
+            → ⟦<Self as Desk>⟧.IsWholeOver self.new stocks }
+        ensures same { (stocks : AllSlots) → ⟦<Self as Desk>⟧.state_over self.new stocks
+            ≡ ⟦<Self as Desk>⟧.state_over self.old stocks }
+        ensures right { let state = (⟦<Self as Desk>⟧.state_over self.old no_slots).desk.windows in MatchResult result
             (λ right. (is_missing window state.desk.windows ≡ false) × IsJudgement window (rect_holds rect) state right)
             (λ e. (is_missing window state.desk.windows ≡ true) × (e ≡ Refusal.NoSuchWindow)) }
     {
@@ -311,15 +305,17 @@ impl Toolbox {
     /// Ends the desk: the definition of every window, control, list and menu is disposed of, and put back Closed into its slot,
     /// while every other slot stays as it was. Takes no memory, and refuses nothing.
     pub fn close(self, stock: &mut Stock)
-        requires { IsWholeToolbox ⟦<TakenWindow as Defined>⟧.loan ⟦<TakenMenu as Defined>⟧.loan ⟦<TakenControl as Defined>⟧.loan ⟦<TakenList as Defined>⟧.loan self (⟦<Stock as StockedAll>⟧.all_slots stock.old) }
-        ensures windows { IsClosed (desk_of ⟦<TakenWindow as Defined>⟧.loan self.windows (⟦<Stock as StockedAll>⟧.all_slots stock.old).windows).windows
-            (⟦<Stock as StockedAll>⟧.all_slots stock.old).windows (⟦<Stock as StockedAll>⟧.all_slots stock.new).windows }
-        ensures controls { AreAllControlsClosed (records_of ⟦<TakenControl as Defined>⟧.loan self.controls)
-            (⟦<Stock as StockedAll>⟧.all_slots stock.old).controls (⟦<Stock as StockedAll>⟧.all_slots stock.new).controls }
-        ensures lists { AreAllListsClosed (whole_lists.records_of ⟦<TakenList as Defined>⟧.loan self.lists)
-            (⟦<Stock as StockedAll>⟧.all_slots stock.old).lists (⟦<Stock as StockedAll>⟧.all_slots stock.new).lists }
-        ensures menus { AreMenusClosed (menus_of ⟦<TakenMenu as Defined>⟧.loan self.menus.list.menus.items)
-            (⟦<Stock as StockedAll>⟧.all_slots stock.old).menus (⟦<Stock as StockedAll>⟧.all_slots stock.new).menus }
+        requires { ⟦<Self as Desk>⟧.IsWhole self stock.old }
+        ensures windows { let old = ⟦<Self as Desk>⟧.state self stock.old in
+            IsClosed old.desk.windows.desk.windows old.desk.windows.desk.stock
+            (⟦<Stock as StockedAll>⟧.all_slots stock.new).windows }
+        ensures controls { let old = ⟦<Self as Desk>⟧.state self stock.old in
+            AreAllControlsClosed old.controls.controls old.controls.stock
+            (⟦<Stock as StockedAll>⟧.all_slots stock.new).controls }
+        ensures lists { let old = ⟦<Self as Desk>⟧.state self stock.old in
+            AreAllListsClosed old.lists.lists old.lists.stock (⟦<Stock as StockedAll>⟧.all_slots stock.new).lists }
+        ensures menus { let old = ⟦<Self as Desk>⟧.state self stock.old in
+            AreMenusClosed old.menus.menus old.menus.stock (⟦<Stock as StockedAll>⟧.all_slots stock.new).menus }
     {
         let Toolbox {
             windows,

@@ -20,7 +20,7 @@ use Rattle.desk_call.specs.declared.list.ListReply.{ListReply}
 use Rattle.desk_call.specs.declared.list.ListReply.TheVariants as reply
 use Rattle.window_mgr.specs.declared.manager.WindowManager.{WindowManager}
 use Rattle.list_mgr.specs.declared.lists.Lists.{Lists}
-use Rattle.list_mgr.specs.declared.spots.Spot.{Spot}
+use Rattle.list_mgr.specs.declared.spots.ListAt.{ListAt}
 use Rattle.list_mgr.specs.ListDesks.{KeptList}
 use Rattle.list_mgr.specs.ListSteps.{IsDataOf, IsListStep, told_of}
 use Rattle.list_mgr.specs.Spots.{IsSpotOf}
@@ -30,12 +30,12 @@ use Rattle.list_mgr.proofs.Steps.{cell_there, its_reasons, list_named, list_read
 module _ {V : Type 0} {H : V → Type 0} (loan : TakenBox V H → Loan) {X : Type 0} {L : X → Type 0} (list_loan : TakenBox X L → ListLoan)
     (t : WindowManager V H) (m : Lists (TakenBox X L)) where
   -- what is told of the list that stands here
-  told_is : (l : ListOf) (s : Spot) (x : Item (ListRecord (TakenBox X L))) → IsSpotOf loan list_loan l t m s → x ≡ get_or m.list.items.items s.list x
+  told_is : (l : ListOf) (s : ListAt) (x : Item (ListRecord (TakenBox X L))) → IsSpotOf loan list_loan l t m s → x ≡ get_or m.list.items.items s.list x
       → (f : KeptList → ListReply) → told_of l f (records_of list_loan m) ≡ f (seen list_loan x)
   told_is l s x is read f =
       ap (λ o. option_map_or f o reply.Done) (list_named loan list_loan l t m s is (seen list_loan x) (list_read loan list_loan l t m s is x read))
 
-  module _ (c : CellOf) (s : Spot) (x : Item (ListRecord (TakenBox X L))) (is : IsSpotOf loan list_loan c.list t m s) (read : x ≡ get_or m.list.items.items s.list x) where
+  module _ (c : CellOf) (s : ListAt) (x : Item (ListRecord (TakenBox X L))) (is : IsSpotOf loan list_loan c.list t m s) (read : x ≡ get_or m.list.items.items s.list x) where
     abbrev its : KeptList
     its = seen list_loan x
 
@@ -47,7 +47,7 @@ module _ {V : Type 0} {H : V → Type 0} (loan : TakenBox V H → Loan) {X : Typ
         told loan list_loan (asks.GetCell c) answer t m (λ o slots cs kept. cell_there loan list_loan c.list t m s is c.cell its there has)
         (λ o slots cs kept. ((its, list_named loan list_loan c.list t m s is its there, are), unchanged loan list_loan t o slots cs m kept))
 
-  module _ (c : CellText) (s : Spot) (x : Item (ListRecord (TakenBox X L))) (is : IsSpotOf loan list_loan c.cell.list t m s) (read : x ≡ get_or m.list.items.items s.list x) where
+  module _ (c : CellText) (s : ListAt) (x : Item (ListRecord (TakenBox X L))) (is : IsSpotOf loan list_loan c.cell.list t m s) (read : x ≡ get_or m.list.items.items s.list x) where
     search_there : slice_get (records_of list_loan m) s.list ≡ Some (seen list_loan x)
     search_there = list_read loan list_loan c.cell.list t m s is x read
 

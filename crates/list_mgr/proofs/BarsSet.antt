@@ -21,7 +21,7 @@ use Rattle.control_mgr.specs.declared.controls.Controls.{Controls}
 use Rattle.control_mgr.specs.Damages.{IsSettingGiven}
 use Rattle.control_mgr.specs.WholeControls.{AreBeside as AreControlsBeside, LeavesControls}
 use Rattle.list_mgr.specs.declared.lists.Lists.{Lists}
-use Rattle.list_mgr.specs.declared.spots.Spot.{Spot}
+use Rattle.list_mgr.specs.declared.spots.ListAt.{ListAt}
 use Rattle.list_mgr.specs.Spots.{IsSpotOf}
 use Rattle.list_mgr.proofs.Places.{found_names}
 use Rattle.list_mgr.proofs.Steps.{list_read}
@@ -82,7 +82,7 @@ module _ {W : Type 0} {K : W → Type 0} (control_loan : TakenBox W K → Contro
       (record { slots = kept.slots; whole = left.0 }, record { slots = beside.slots; whole = left.1 })
 
   -- those of a list that stands here, as the code reads it
-  module _ {X : Type 0} {L : X → Type 0} (list_loan : TakenBox X L → ListLoan) (l : ListOf) (t : WindowManager V H) (m : Lists (TakenBox X L)) (s : Spot) (is : IsSpotOf loan list_loan l t m s)
+  module _ {X : Type 0} {L : X → Type 0} (list_loan : TakenBox X L → ListLoan) (l : ListOf) (t : WindowManager V H) (m : Lists (TakenBox X L)) (s : ListAt) (is : IsSpotOf loan list_loan l t m s)
       (x : Item (ListRecord (TakenBox X L))) (read : x ≡ get_or m.list.items.items s.list x) where
     there : slice_get (records_of list_loan m) s.list ≡ Some (seen list_loan x)
     there = list_read loan list_loan l t m s is x read

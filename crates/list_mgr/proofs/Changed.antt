@@ -40,7 +40,7 @@ use Rattle.window_mgr.specs.Whole.{IsWholeManager}
 use Rattle.control_mgr.specs.ControlDesks.{ControlsState, controls_show}
 use Rattle.control_mgr.proofs.Places.{IsThere, within}
 use Rattle.list_mgr.specs.declared.lists.Lists.{Lists}
-use Rattle.list_mgr.specs.declared.spots.Spot.{Spot}
+use Rattle.list_mgr.specs.declared.spots.ListAt.{ListAt}
 use Rattle.list_mgr.specs.Changing.{IsDrawing, IsMark, IsSameOrNot, IsShownOrMarked}
 use Rattle.list_mgr.specs.ListDesks.{IsListDeskUnchanged, KeptList, ListDesk, ListSlot, index_of, list_bit, lists_show, with_serial}
 use Rattle.list_mgr.specs.ListRefusals.{is_drawing_off, may_list_grow}
@@ -140,7 +140,7 @@ module _ {V : Type 0} {H : V → Type 0} (loan : TakenBox V H → Loan) {X : Typ
 -- ---- a list that was changed
 
 module _ {V : Type 0} {H : V → Type 0} (loan : TakenBox V H → Loan) {X : Type 0} {L : X → Type 0} (list_loan : TakenBox X L → ListLoan)
-    (l : ListOf) (t : WindowManager V H) (m n : Lists (TakenBox X L)) (s : Spot) (is : IsSpotOf loan list_loan l t m s)
+    (l : ListOf) (t : WindowManager V H) (m n : Lists (TakenBox X L)) (s : ListAt) (is : IsSpotOf loan list_loan l t m s)
     (f : KeptList → KeptList) (keeps : Keeps f) (edited : records_of list_loan n ≡ edit_at f s.list (records_of list_loan m)) (next : n.list.next ≡ m.list.next)
     (stays : (x : KeptList) → slice_get (records_of list_loan m) s.list ≡ Some x → IsSettledList x → IsSettledList (f x)) where
   abbrev its : IsThere (records_of list_loan m) s.list
@@ -257,7 +257,7 @@ module _ {V : Type 0} {H : V → Type 0} (loan : TakenBox V H → Loan) {X : Typ
 
 -- a call that asks for memory only where the drawing of the list that stands here is off may ask for it
 pub grows_off : {V : Type 0} {H : V → Type 0} (loan : TakenBox V H → Loan) {X : Type 0} {L : X → Type 0} (list_loan : TakenBox X L → ListLoan)
-    (l : ListOf) (t : WindowManager V H) (m : Lists (TakenBox X L)) (s : Spot) → IsSpotOf loan list_loan l t m s → IsDrawing list_loan false m s
+    (l : ListOf) (t : WindowManager V H) (m : Lists (TakenBox X L)) (s : ListAt) → IsSpotOf loan list_loan l t m s → IsDrawing list_loan false m s
     → (kept : List ListSlot) → is_drawing_off l (lists_state list_loan m kept) ≡ true
 grows_off loan list_loan l t m s is (x, there, off) kept =
     ap (λ o. option_map_or (λ (y : KeptList). not y.kept.drawing) o false) (list_named loan list_loan l t m s is x there) ∙ ap not off

@@ -24,7 +24,7 @@ use Rattle.window_mgr.specs.declared.manager.WindowManager.{WindowManager}
 use Rattle.window_mgr.specs.Records.{desk_of}
 use Rattle.control_mgr.proofs.Steps.{first_fails, first_of, one_fails, one_holds}
 use Rattle.list_mgr.specs.declared.lists.Lists.{Lists}
-use Rattle.list_mgr.specs.declared.spots.Spot.{Spot}
+use Rattle.list_mgr.specs.declared.spots.ListAt.{ListAt}
 use Rattle.list_mgr.specs.ListRefusals.{is_word, missing_refusals}
 use Rattle.list_mgr.specs.ListSteps.{IsClickOn, IsListStep, IsSelectionChanged, clicked_at}
 use Rattle.list_mgr.specs.Spots.{IsSpotOf}
@@ -67,7 +67,7 @@ module _ {V : Type 0} {H : V → Type 0} (loan : TakenBox V H → Loan) {X : Typ
   pub click_missing : (e : Refusal) → first_refusal (missing_refusals k.list (desk_of loan t []) (records_of list_loan m)) ≡ Some e → IsTold loan list_loan (asks.Click k) t m (λ why. first_refusal why ≡ Some e)
   click_missing e h o slots cs kept = first_of (missing_refusals k.list (desk_of loan t []) (records_of list_loan m)) others e h
 
-  module _ (s : Spot) (is : IsSpotOf loan list_loan k.list t m s) where
+  module _ (s : ListAt) (is : IsSpotOf loan list_loan k.list t m s) where
     pub click_outside : in_plane k.point ≡ false → IsTold loan list_loan (asks.Click k) t m (λ why. first_refusal why ≡ Some OutOfRange)
     click_outside out o slots cs kept =
         other_reasons loan list_loan k.list t m s is others ∙ ap (λ b. if not b then Some OutOfRange else first_refusal ((not (is_word k.modifiers), OutOfRange) ∷ [])) out

@@ -19,7 +19,7 @@ use Rattle.window_mgr.specs.declared.manager.WindowManager.{WindowManager}
 use Rattle.window_mgr.specs.Records.{desk_of}
 use Rattle.control_mgr.specs.ControlDesks.{ControlRecord, controls_show}
 use Rattle.list_mgr.specs.declared.lists.Lists.{Lists}
-use Rattle.list_mgr.specs.declared.spots.Spot.{Spot}
+use Rattle.list_mgr.specs.declared.spots.ListAt.{ListAt}
 use Rattle.list_mgr.specs.ListDesks.{KeptList, list_bit, lists_show}
 use Rattle.list_mgr.specs.ListSteps.{IsListStep}
 use Rattle.list_mgr.specs.Spots.{IsSpotOf}
@@ -70,7 +70,7 @@ both_show cs xs ys font same (part.Control n) p = refl
 both_show cs xs ys font same (part.List n) p = same (part.List n) p
 
 module _ {V : Type 0} {H : V → Type 0} (loan : TakenBox V H → Loan) {X : Type 0} {L : X → Type 0} (list_loan : TakenBox X L → ListLoan)
-    (t : WindowManager V H) (m n : Lists (TakenBox X L)) (d : ListDrawing) (s : Spot) (is : IsSpotOf loan list_loan d.list t m s)
+    (t : WindowManager V H) (m n : Lists (TakenBox X L)) (d : ListDrawing) (s : ListAt) (is : IsSpotOf loan list_loan d.list t m s)
     (edited : records_of list_loan n ≡ edit_at (with_drawing d.drawing) s.list (records_of list_loan m)) (next : n.list.next ≡ m.list.next) where
   shows : (cs : List ControlRecord) (q : Part) (p : Point) → controls_show (lists_show (records_of list_loan n)) cs t.font q p ≡ controls_show (lists_show (records_of list_loan m)) cs t.font q p
   shows cs q p =

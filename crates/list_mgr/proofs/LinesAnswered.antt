@@ -21,7 +21,7 @@ use Rattle.control_mgr.specs.declared.controls.Controls.{Controls}
 use Rattle.control_mgr.specs.ControlDesks.{ControlsState}
 use Rattle.control_mgr.specs.WholeControls.{controls_state}
 use Rattle.list_mgr.specs.declared.lists.Lists.{Lists}
-use Rattle.list_mgr.specs.declared.spots.Spot.{Spot}
+use Rattle.list_mgr.specs.declared.spots.ListAt.{ListAt}
 use Rattle.list_mgr.specs.ListDesks.{KeptList, ListDesk, ListSlot, ListsState}
 use Rattle.list_mgr.specs.ListRefusals.{list_reasons, list_refusals, may_list_grow}
 use Rattle.list_mgr.specs.ListSteps.{IsListEffect, IsListStep, IsRelined, told_of}
@@ -39,7 +39,7 @@ none_refused o p e a b c = let both : None ≡ Some e = a ∙ b ∙ c in absurd 
 module _ {V : Type 0} {H : V → Type 0} (loan : TakenBox V H → Loan) {X : Type 0} {L : X → Type 0} (list_loan : TakenBox X L → ListLoan) where
   -- ---- what is told of a list that is there
 
-  module _ (l : ListOf) (t : WindowManager V H) (m : Lists (TakenBox X L)) (s : Spot) (is : IsSpotOf loan list_loan l t m s) (x : Item (ListRecord (TakenBox X L))) (read : x ≡ get_or m.list.items.items s.list x) where
+  module _ (l : ListOf) (t : WindowManager V H) (m : Lists (TakenBox X L)) (s : ListAt) (is : IsSpotOf loan list_loan l t m s) (x : Item (ListRecord (TakenBox X L))) (read : x ≡ get_or m.list.items.items s.list x) where
     -- why a call is refused that is judged by the list
     pub judged : (call : ListCall) (f : KeptList → List (Bool × Refusal)) → ((desk : FullDesk) (cs : ControlsState) (state : ListsState) → list_refusals call desk cs state ≡ list_reasons l f desk state.lists)
         → IsTold loan list_loan call t m (λ why. first_refusal why ≡ first_refusal (f (seen list_loan x)))

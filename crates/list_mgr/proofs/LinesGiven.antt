@@ -13,7 +13,7 @@ use Rattle.window_items.specs.Items.{edit_at}
 use Rattle.desk_call.specs.declared.list.ListOf.{ListOf}
 use Rattle.window_mgr.specs.declared.manager.WindowManager.{WindowManager}
 use Rattle.list_mgr.specs.declared.lists.Lists.{Lists}
-use Rattle.list_mgr.specs.declared.spots.Spot.{Spot}
+use Rattle.list_mgr.specs.declared.spots.ListAt.{ListAt}
 use Rattle.list_mgr.specs.Changing.{IsSameOrNot}
 use Rattle.list_mgr.specs.ListDesks.{KeptList}
 use Rattle.list_mgr.specs.ListSteps.{with_columns_fewer, with_columns_more, with_grid, with_rows_fewer, with_rows_more, with_scroll}
@@ -34,7 +34,7 @@ edit_twice f g zero (x ∷ xs) = refl
 edit_twice f g (suc i) (x ∷ xs) = ap (λ ys. x ∷ ys) (edit_twice f g i xs)
 
 -- whether a list that was scrolled is scrolled otherwise
-pub scroll_agrees : {X : Type 0} {L : X → Type 0} (list_loan : TakenBox X L → ListLoan) (m : Lists (TakenBox X L)) (s : Spot) (columns rows : ℤ) (changes : Bool)
+pub scroll_agrees : {X : Type 0} {L : X → Type 0} (list_loan : TakenBox X L → ListLoan) (m : Lists (TakenBox X L)) (s : ListAt) (columns rows : ℤ) (changes : Bool)
     → IfSome (slice_get (records_of list_loan m) s.list) (λ x. IsSameOrNot changes (with_scroll columns rows x) x)
     → (x : KeptList) → slice_get (records_of list_loan m) s.list ≡ Some x → IsSameOrNot changes (with_scroll columns rows x) x
 scroll_agrees list_loan m s columns rows changes agree x there = subst (λ o. IfSome o (λ y. IsSameOrNot changes (with_scroll columns rows y) y)) there agree
@@ -43,7 +43,7 @@ module _ {V : Type 0} {H : V → Type 0} (loan : TakenBox V H → Loan) {X : Typ
   -- ---- scrolled
 
   -- the list that stands here was changed so, which keeps its place and its drawing, and leaves it settled once it is scrolled back
-  record IsChangeBut (l : ListOf) (t : WindowManager V H) (m n : Lists (TakenBox X L)) (s : Spot) (f : KeptList → KeptList) : Type 0 where
+  record IsChangeBut (l : ListOf) (t : WindowManager V H) (m n : Lists (TakenBox X L)) (s : ListAt) (f : KeptList → KeptList) : Type 0 where
     pub is : IsSpotOf loan list_loan l t m s
     pub keeps : Keeps f
     pub draws : (x : KeptList) → (f x).kept.drawing ≡ x.kept.drawing
@@ -52,7 +52,7 @@ module _ {V : Type 0} {H : V → Type 0} (loan : TakenBox V H → Loan) {X : Typ
     pub stays : (x : KeptList) → slice_get (records_of list_loan m) s.list ≡ Some x → IsSettledList x → IsSettledBut (f x)
 
   -- a changed list that was scrolled as well
-  then_scrolled : (l : ListOf) (t : WindowManager V H) (m n k : Lists (TakenBox X L)) (s : Spot) (f : KeptList → KeptList) (columns rows : ℤ) → IsChangeBut l t m n s f
+  then_scrolled : (l : ListOf) (t : WindowManager V H) (m n k : Lists (TakenBox X L)) (s : ListAt) (f : KeptList → KeptList) (columns rows : ℤ) → IsChangeBut l t m n s f
       → records_of list_loan k ≡ edit_at (with_scroll columns rows) s.list (records_of list_loan n) → k.list.next ≡ n.list.next
       → IsChange loan list_loan l t m k s (λ x. with_scroll columns rows (f x))
   then_scrolled l t m n k s f columns rows change scrolled next = record {
@@ -70,7 +70,7 @@ module _ {V : Type 0} {H : V → Type 0} (loan : TakenBox V H → Loan) {X : Typ
   }
 
   -- a list that was scrolled
-  pub scroll_change : (l : ListOf) (t : WindowManager V H) (m n : Lists (TakenBox X L)) (s : Spot) (columns rows : ℤ) → IsSpotOf loan list_loan l t m s
+  pub scroll_change : (l : ListOf) (t : WindowManager V H) (m n : Lists (TakenBox X L)) (s : ListAt) (columns rows : ℤ) → IsSpotOf loan list_loan l t m s
       → records_of list_loan n ≡ edit_at (with_scroll columns rows) s.list (records_of list_loan m) → n.list.next ≡ m.list.next → IsChange loan list_loan l t m n s (with_scroll columns rows)
   scroll_change l t m n s columns rows is =
       then_scrolled l t m m n s (λ x. x) columns rows (record {
@@ -84,7 +84,7 @@ module _ {V : Type 0} {H : V → Type 0} (loan : TakenBox V H → Loan) {X : Typ
 
   -- ---- given other cells
 
-  module _ (l : ListOf) (t : WindowManager V H) (m : Lists (TakenBox X L)) (s : Spot) (is : IsSpotOf loan list_loan l t m s)
+  module _ (l : ListOf) (t : WindowManager V H) (m : Lists (TakenBox X L)) (s : ListAt) (is : IsSpotOf loan list_loan l t m s)
       (x : Item (ListRecord (TakenBox X L))) (read : x ≡ get_or m.list.items.items s.list x) (cells : Grid) where
     abbrev n : Lists (TakenBox X L)
     n = given.with_cells_there loan list_loan l t m s is x read cells

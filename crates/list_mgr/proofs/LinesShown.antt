@@ -15,7 +15,7 @@ use Rattle.desk_call.specs.declared.list.ListOf.{ListOf}
 use Rattle.window_mgr.specs.declared.manager.WindowManager.{WindowManager}
 use Rattle.control_mgr.proofs.Lays.{one_item}
 use Rattle.list_mgr.specs.declared.lists.Lists.{Lists}
-use Rattle.list_mgr.specs.declared.spots.Spot.{Spot}
+use Rattle.list_mgr.specs.declared.spots.ListAt.{ListAt}
 use Rattle.list_mgr.specs.Changing.{IsSameOrNot}
 use Rattle.list_mgr.specs.LinesFrom.{AreColumnsFrom, AreRowsFrom}
 use Rattle.list_mgr.specs.ListDesks.{KeptList}
@@ -30,7 +30,7 @@ use Rattle.list_mgr.proofs.Steps.{list_read}
 use Rattle.window_items.proofs.EditLemmas.{there_edited}
 
 module _ {V : Type 0} {H : V → Type 0} (loan : TakenBox V H → Loan) {X : Type 0} {L : X → Type 0} (list_loan : TakenBox X L → ListLoan)
-    (l : ListOf) (t : WindowManager V H) (m : Lists (TakenBox X L)) (s : Spot) (is : IsSpotOf loan list_loan l t m s)
+    (l : ListOf) (t : WindowManager V H) (m : Lists (TakenBox X L)) (s : ListAt) (is : IsSpotOf loan list_loan l t m s)
     (x : Item (ListRecord (TakenBox X L))) (read : x ≡ get_or m.list.items.items s.list x) where
   -- a list that was read twice has one view
   same_view : (w : Item (ListRecord (TakenBox X L))) → w ≡ get_or m.list.items.items s.list w → w.kept.view ≡ x.kept.view

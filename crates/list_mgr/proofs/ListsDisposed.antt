@@ -56,7 +56,7 @@ use Rattle.control_mgr.proofs.Places.{at_window, read_is, there_is}
 use Rattle.control_mgr.proofs.PlannedNext.{apart_left, ending_after, ending_left}
 use Rattle.control_mgr.proofs.Reshown.{set_reshown}
 use Rattle.list_mgr.specs.declared.lists.Lists.{Lists}
-use Rattle.list_mgr.specs.declared.spots.Spot.{Spot}
+use Rattle.list_mgr.specs.declared.spots.ListAt.{ListAt}
 use Rattle.list_mgr.specs.BarEnds.{IsBarGoneOver, bar_of, bar_serial}
 use Rattle.list_mgr.specs.Changing.{IsItsLayer}
 use Rattle.list_mgr.specs.Lines.{desk_beside}
@@ -70,7 +70,7 @@ use Rattle.list_mgr.proofs.ListsWhole.{whole_gone}
 use Rattle.list_mgr.proofs.Steps.{nothing_missing}
 
 module _ {V : Type 0} {H : V → Type 0} (loan : TakenBox V H → Loan) {X : Type 0} {L : X → Type 0} (list_loan : TakenBox X L → ListLoan) {W : Type 0} {K : W → Type 0} (control_loan : TakenBox W K → ControlLoan)
-    (l : ListOf) (t : WindowManager V H) (m : Lists (TakenBox X L)) (s : Spot) (is : IsSpotOf loan list_loan l t m s) (kept : IsKept loan t)
+    (l : ListOf) (t : WindowManager V H) (m : Lists (TakenBox X L)) (s : ListAt) (is : IsSpotOf loan list_loan l t m s) (kept : IsKept loan t)
     (w : Window V H) (lies : IsWindowAt t.windows.records.items s.window w) (layer : ℕ) (its : IsItsLayer list_loan m s w.layers.layers layer) where
   abbrev at : ℕ
   at = s.window

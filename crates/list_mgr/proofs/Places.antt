@@ -1,5 +1,5 @@
 -- Where a list stands: its record, its window, and its layer there.
-use Rattle.std.proofs.Common.{◌≡◌, ℕ, zero, suc, ◌==◌, ◌||◌, Bool, true, false, not, if◌then◌else◌, List, [], ◌∷◌, get_or, Option, Some, None, refl, sym, ap, ◌∙◌, subst, eqb-true}
+use Rattle.std.proofs.Common.{◌≡◌, ◌<◌, ℕ, zero, suc, ◌==◌, ◌||◌, Bool, true, false, not, if◌then◌else◌, List, [], ◌∷◌, length, get_or, Option, Some, None, refl, sym, ap, ◌∙◌, subst, eqb-true}
 use Rattle.std.specs.Prelude.{All, IfSome, slice_get}
 use Rattle.std.specs.List.{AllZip, filter, list_any}
 use Rattle.std.specs.Option.{option_map_or}
@@ -29,7 +29,7 @@ use Rattle.window_mgr.specs.Records.{desk_of}
 use Rattle.control_mgr.specs.ControlSteps.{behind_controls}
 use Rattle.control_mgr.proofs.Places.{IsThere, at_window, get_is, read_is, within}
 use Rattle.list_mgr.specs.declared.lists.Lists.{Lists}
-use Rattle.list_mgr.specs.declared.spots.Spot.{Spot}
+use Rattle.list_mgr.specs.declared.spots.ListAt.{ListAt}
 use Rattle.list_mgr.specs.Changing.{IsItsLayer}
 use Rattle.list_mgr.specs.ListDesks.{KeptList, ListsState}
 use Rattle.list_mgr.specs.ListSteps.{AreListLayers, IsLayerOf}
@@ -142,7 +142,7 @@ found_names window serial at ls x found there =
 
 -- what is known of a list that stands here
 module _ {V : Type 0} {H : V → Type 0} (loan : TakenBox V H → Loan) {X : Type 0} {L : X → Type 0} (list_loan : TakenBox X L → ListLoan)
-    (l : ListOf) (t : WindowManager V H) (m : Lists (TakenBox X L)) (s : Spot) (is : IsSpotOf loan list_loan l t m s) where
+    (l : ListOf) (t : WindowManager V H) (m : Lists (TakenBox X L)) (s : ListAt) (is : IsSpotOf loan list_loan l t m s) where
   abbrev ls : List KeptList
   ls = records_of list_loan m
 

@@ -28,7 +28,7 @@ use Rattle.control_mgr.specs.ControlDesks.{ControlSlot}
 use Rattle.control_mgr.specs.WholeControls.{AreBeside as AreControlsBeside, AreWholeControls, controls_state}
 use Rattle.control_mgr.proofs.Places.{get_is, read_is, there_is}
 use Rattle.list_mgr.specs.declared.lists.Lists.{Lists}
-use Rattle.list_mgr.specs.declared.spots.Spot.{Spot}
+use Rattle.list_mgr.specs.declared.spots.ListAt.{ListAt}
 use Rattle.list_mgr.specs.Changing.{IsMark, IsSameOrNot, IsShownOrMarked}
 use Rattle.list_mgr.specs.Lines.{IsShownWithBars}
 use Rattle.list_mgr.specs.ListDesks.{KeptList, ListDesk, ListSlot, lists_show}
@@ -59,7 +59,7 @@ stands_alike loan ws vs same s i stands =
 
 module _ {V : Type 0} {H : V → Type 0} (loan : TakenBox V H → Loan) {X : Type 0} {L : X → Type 0} (list_loan : TakenBox X L → ListLoan) where
   -- what shows a list or marks it keeps the windows' records
-  shown_windows : (within : Rect) (mark : Option Pixels) (changes : Bool) (s : Spot) (m : Lists (TakenBox X L)) (t u : WindowManager V H) → IsShownOrMarked list_loan loan within mark changes s m t u
+  shown_windows : (within : Rect) (mark : Option Pixels) (changes : Bool) (s : ListAt) (m : Lists (TakenBox X L)) (t u : WindowManager V H) → IsShownOrMarked list_loan loan within mark changes s m t u
       → (x : KeptList) → slice_get (records_of list_loan m) s.list ≡ Some x → (slots : List SlotView) → IsWholeManager loan t slots
       → IsWholeManager loan u slots × ((desk_of loan u []).windows ≡ (desk_of loan t []).windows)
   shown_windows within None changes s m t u shown x there slots whole =
@@ -75,7 +75,7 @@ module _ {V : Type 0} {H : V → Type 0} (loan : TakenBox V H → Loan) {X : Typ
 
   module _ (t u : WindowManager V H) (same : (desk_of loan u []).windows ≡ (desk_of loan t []).windows) (m : Lists (TakenBox X L)) where
     -- a list and its window stand where they stood
-    pub spot_alike : (l : ListOf) (s : Spot) → IsSpotOf loan list_loan l t m s → IsSpotOf loan list_loan l u m s
+    pub spot_alike : (l : ListOf) (s : ListAt) → IsSpotOf loan list_loan l t m s → IsSpotOf loan list_loan l u m s
     spot_alike l s is = record {
       window = stands_alike loan t.windows.records.items u.windows.records.items same l.window s.window is.window;
       there = ap (is_missing l.window) same ∙ is.there;
@@ -88,7 +88,7 @@ module _ {V : Type 0} {H : V → Type 0} (loan : TakenBox V H → Loan) {X : Typ
 
   -- ---- once a list was shown or marked
 
-  module _ (t u : WindowManager V H) (m : Lists (TakenBox X L)) (s : Spot) (spot : IsSpot loan list_loan t m s) (kept : IsKept loan t)
+  module _ (t u : WindowManager V H) (m : Lists (TakenBox X L)) (s : ListAt) (spot : IsSpot loan list_loan t m s) (kept : IsKept loan t)
       (within : Rect) (mark : Option Pixels) (changes : Bool) (shown : IsShownOrMarked list_loan loan within mark changes s m t u) where
     left : IsWholeManager loan u kept.slots × ((desk_of loan u []).windows ≡ (desk_of loan t []).windows)
     left = let its = list_there loan list_loan spot.of t m s spot.is in shown_windows within mark changes s m t u shown its.item its.there kept.slots kept.whole
@@ -111,7 +111,7 @@ module _ {V : Type 0} {H : V → Type 0} (loan : TakenBox V H → Loan) {X : Typ
   -- ---- a list that was changed
 
   -- the list that stands here was changed so, which keeps its place, its drawing, and that it is settled
-  pub record IsChange (l : ListOf) (t : WindowManager V H) (m n : Lists (TakenBox X L)) (s : Spot) (f : KeptList → KeptList) : Type 0 where
+  pub record IsChange (l : ListOf) (t : WindowManager V H) (m n : Lists (TakenBox X L)) (s : ListAt) (f : KeptList → KeptList) : Type 0 where
     pub is : IsSpotOf loan list_loan l t m s
     pub keeps : Keeps f
     pub draws : (x : KeptList) → (f x).kept.drawing ≡ x.kept.drawing
@@ -119,7 +119,7 @@ module _ {V : Type 0} {H : V → Type 0} (loan : TakenBox V H → Loan) {X : Typ
     pub next : n.list.next ≡ m.list.next
     pub stays : (x : KeptList) → slice_get (records_of list_loan m) s.list ≡ Some x → IsSettledList x → IsSettledList (f x)
 
-  module _ (l : ListOf) (t : WindowManager V H) (m n : Lists (TakenBox X L)) (s : Spot) (f : KeptList → KeptList) (change : IsChange l t m n s f) where
+  module _ (l : ListOf) (t : WindowManager V H) (m n : Lists (TakenBox X L)) (s : ListAt) (f : KeptList → KeptList) (change : IsChange l t m n s f) where
     pub beside_changed : AreBeside list_loan loan t m → AreBeside list_loan loan t n
     beside_changed = beside_after loan list_loan l t m n s change.is f change.keeps change.edited change.next change.stays
 

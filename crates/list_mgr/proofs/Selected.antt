@@ -34,7 +34,7 @@ use Rattle.window_mgr.proofs.Steps.{found}
 use Rattle.control_mgr.specs.ControlDesks.{ControlsState, controls_show}
 use Rattle.control_mgr.proofs.Places.{read_is, there_is}
 use Rattle.list_mgr.specs.declared.lists.Lists.{Lists}
-use Rattle.list_mgr.specs.declared.spots.Spot.{Spot}
+use Rattle.list_mgr.specs.declared.spots.ListAt.{ListAt}
 use Rattle.list_mgr.specs.Changing.{IsMark, IsListMarkedBy, IsMarkedIf, IsSameOrNot, IsShownOrMarked, IsToggledOrMarked}
 use Rattle.list_mgr.specs.ListDesks.{KeptList, ListDesk, ListSlot, lists_show}
 use Rattle.list_mgr.specs.ListSteps.{IsListChanged, IsSeenOrNot, IsSelectionChanged, IsToggledOrNot, with_grid}
@@ -74,7 +74,7 @@ unseen true l g x before after off h = absurd (true≢false off)
 unseen false l g x before after off h = h
 
 module _ {V : Type 0} {H : V → Type 0} (loan : TakenBox V H → Loan) {X : Type 0} {L : X → Type 0} (list_loan : TakenBox X L → ListLoan)
-    (l : ListOf) (t : WindowManager V H) (m : Lists (TakenBox X L)) (s : Spot) (is : IsSpotOf loan list_loan l t m s)
+    (l : ListOf) (t : WindowManager V H) (m : Lists (TakenBox X L)) (s : ListAt) (is : IsSpotOf loan list_loan l t m s)
     (x : Item (ListRecord (TakenBox X L))) (read : x ≡ get_or m.list.items.items s.list x)
     (h : SelectionFlags → Grid → Grid) (cells : Grid) (now : cells ≡ h x.kept.flags x.kept.cells) (selecting : Selecting) (chosen : IsSelecting x.kept.cells (h x.kept.flags x.kept.cells) selecting)
     (single : x.kept.flags.only_one ≡ true → count_selected x.kept.cells ≤ 1 → count_selected (h x.kept.flags x.kept.cells) ≤ 1) where
@@ -162,7 +162,7 @@ module _ {V : Type 0} {H : V → Type 0} (loan : TakenBox V H → Loan) {X : Typ
             y,
             list_named loan list_loan l t m s is y y_there,
             unseen y.kept.drawing l g y (list_desk list_loan loan t o slots cs m kept) (list_desk list_loan loan u o slots cs n kept) drawn
-                (subst (λ k. IsSeenOrNot k.drawing l (with_grid g) k (list_desk list_loan loan t o slots cs m kept) (list_desk list_loan loan u o slots cs n kept)) same changed),
+                (subst (λ k. IsSeenOrNot k.kept.drawing l (with_grid g) k (list_desk list_loan loan t o slots cs m kept) (list_desk list_loan loan u o slots cs n kept)) same changed),
           )
 
       by_change : (changes : Bool) × IsChange changes x.kept.cells (selected_by selecting x.kept.cells) × IsMarkedIf list_loan loan changes y t u → IsChangedOver list_loan loan (IsSelectionChanged l h) t m u n

@@ -25,7 +25,7 @@ use Rattle.window_mgr.specs.Whole.{IsWholeManager}
 use Rattle.control_mgr.proofs.Lays.{one_item}
 use Rattle.control_mgr.proofs.Places.{IsThere, read_is, there_is}
 use Rattle.list_mgr.specs.declared.lists.Lists.{Lists}
-use Rattle.list_mgr.specs.declared.spots.Spot.{Spot}
+use Rattle.list_mgr.specs.declared.spots.ListAt.{ListAt}
 use Rattle.list_mgr.specs.Changing.{IsItsLayer, IsListMarkedBy, IsDrawnBy, IsMarkedRegion, LeavesShown}
 use Rattle.list_mgr.specs.ListDesks.{KeptList, lists_show}
 use Rattle.list_mgr.specs.Spots.{IsSpot}
@@ -40,7 +40,7 @@ of_layer : (within : Rect) (s : ℕ) (l : Layer) (before after : FullState) → 
 of_layer within s l before after drawn = record { desk = drawn.desk; redrawn = λ right same. drawn.redrawn right (λ p has out. same p out) }
 
 module _ {V : Type 0} {H : V → Type 0} (loan : TakenBox V H → Loan) {X : Type 0} {L : X → Type 0} (list_loan : TakenBox X L → ListLoan)
-    (t : WindowManager V H) (m : Lists (TakenBox X L)) (s : Spot) (spot : IsSpot loan list_loan t m s) where
+    (t : WindowManager V H) (m : Lists (TakenBox X L)) (s : ListAt) (spot : IsSpot loan list_loan t m s) where
   -- its window
   window : IsThere t.windows.records.items s.window
   window = there_is t.windows.records.items s.window spot.is.window.0

@@ -25,7 +25,7 @@ use Rattle.control_mgr.specs.ControlDesks.{ControlsState}
 use Rattle.control_mgr.proofs.Places.{IsThere, get_is, there_is}
 use Rattle.control_mgr.proofs.Steps.{first_behind, first_fails, one_fails}
 use Rattle.list_mgr.specs.declared.lists.Lists.{Lists}
-use Rattle.list_mgr.specs.declared.spots.Spot.{Spot}
+use Rattle.list_mgr.specs.declared.spots.ListAt.{ListAt}
 use Rattle.list_mgr.specs.ListDesks.{IsListDeskUnchanged, KeptList, ListSlot, index_of, list_of}
 use Rattle.list_mgr.specs.ListRefusals.{cell_refusals, list_reasons, list_refusals, missing_refusals, of_list}
 use Rattle.list_mgr.specs.ListSteps.{IsListEffect, IsListStep}
@@ -55,7 +55,7 @@ module _ {V : Type 0} {H : V → Type 0} (loan : TakenBox V H → Loan) {X : Typ
 
   -- ---- a list that is there
 
-  module _ (l : ListOf) (t : WindowManager V H) (m : Lists (TakenBox X L)) (s : Spot) (is : IsSpotOf loan list_loan l t m s) where
+  module _ (l : ListOf) (t : WindowManager V H) (m : Lists (TakenBox X L)) (s : ListAt) (is : IsSpotOf loan list_loan l t m s) where
     abbrev ls : List KeptList
     ls = records_of list_loan m
 

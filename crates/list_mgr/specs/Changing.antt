@@ -24,7 +24,7 @@ use Rattle.window_mgr.specs.Records.{state_of, state_showing}
 use Rattle.window_mgr.specs.Relayered.{IsLayerToggled}
 use Rattle.window_mgr.specs.Whole.{IsWholeManager}
 use Rattle.list_mgr.specs.declared.lists.Lists.{Lists}
-use Rattle.list_mgr.specs.declared.spots.Spot.{Spot}
+use Rattle.list_mgr.specs.declared.spots.ListAt.{ListAt}
 use Rattle.list_mgr.specs.ListDesks.{KeptList, lists_show}
 use Rattle.list_mgr.specs.ListSteps.{IsLayerMarked, IsLayerOf}
 use Rattle.list_mgr.specs.WholeLists.{records_of}
@@ -37,25 +37,25 @@ IsSameOrNot false after before = after ≡ before
 
 module _ {X : Type 0} {L : X → Type 0} (list_loan : TakenBox X L → ListLoan) where
   -- the layer at this place is that of the list that stands here
-  pub record IsItsLayer (m : Lists (TakenBox X L)) (s : Spot) (layers : List Layer) (at : ℕ) : Type 0 where
+  pub record IsItsLayer (m : Lists (TakenBox X L)) (s : ListAt) (layers : List Layer) (at : ℕ) : Type 0 where
     pub list : KeptList
     pub there : slice_get (records_of list_loan m) s.list ≡ Some list
     pub low : at < length layers
     pub is : (k : Layer) → k ≡ slice_index_or layers at k → IsLayerOf list k
 
   -- the list that stands here is drawn
-  abbrev pub IsDrawing : Bool → Lists (TakenBox X L) → Spot → Type 0
+  abbrev pub IsDrawing : Bool → Lists (TakenBox X L) → ListAt → Type 0
   IsDrawing drawing m s = (x : KeptList) × (slice_get (records_of list_loan m) s.list ≡ Some x) × (x.kept.drawing ≡ drawing)
 
   module _ {V : Type 0} {H : V → Type 0} (loan : TakenBox V H → Loan) where
     -- the region is the update region of the window that the list stands in, with all that the list owns
-    abbrev pub IsMarkedRegion : WindowManager V H → Lists (TakenBox X L) → Spot → Pixels → Type 0
+    abbrev pub IsMarkedRegion : WindowManager V H → Lists (TakenBox X L) → ListAt → Pixels → Type 0
     IsMarkedRegion t m s update = (w : Window V H) (a : Area) (x : KeptList) → IsWindowAt t.windows.records.items s.window w
         → a ≡ slice_index_or t.areas.items s.window a → slice_get (records_of list_loan m) s.list ≡ Some x → (p : Point)
         → holds update p ≡ (holds a.update p || (holds a.visible p && belongs_to (part.List x.serial) w.layers.layers (minus p w.layers.place)))
 
     -- nothing is marked of a list whose drawing is on, and all that it owns of another
-    abbrev pub IsMark : WindowManager V H → Lists (TakenBox X L) → Spot → Option Pixels → Type 0
+    abbrev pub IsMark : WindowManager V H → Lists (TakenBox X L) → ListAt → Option Pixels → Type 0
     IsMark t m s None = IsDrawing true m s
     IsMark t m s (Some update) = IsDrawing false m s × IsMarkedRegion t m s update
 
@@ -76,14 +76,14 @@ module _ {X : Type 0} {L : X → Type 0} (list_loan : TakenBox X L → ListLoan)
     IsListMarkedBy x t u = (was is : List ℕ → Part → PixelSet) → LeavesShown (IsLayerMarked x.window (part.List x.serial)) was is t u
 
     -- the list that stands here was drawn within the rectangle, or marked where its drawing is off and something of it changes
-    abbrev pub IsShownOrMarked : Rect → Option Pixels → Bool → Spot → Lists (TakenBox X L) → WindowManager V H → WindowManager V H → Type 0
+    abbrev pub IsShownOrMarked : Rect → Option Pixels → Bool → ListAt → Lists (TakenBox X L) → WindowManager V H → WindowManager V H → Type 0
     IsShownOrMarked within None changes s m t u = (x : KeptList) → slice_get (records_of list_loan m) s.list ≡ Some x → IsDrawnBy within m x t u
     IsShownOrMarked within (Some update) true s m t u = (x : KeptList) → slice_get (records_of list_loan m) s.list ≡ Some x → IsListMarkedBy x t u
     IsShownOrMarked within (Some update) false s m t u = u ≡ t
 
     -- what it leaves of them that what this makes of the selection of the list x, in the window that stands here, highlights
     -- otherwise was inverted
-    abbrev pub IsToggledBy : Selecting → Spot → KeptList → WindowManager V H → WindowManager V H → Type 0
+    abbrev pub IsToggledBy : Selecting → ListAt → KeptList → WindowManager V H → WindowManager V H → Type 0
     IsToggledBy selecting s x t u = (w : Window V H) → IsWindowAt t.windows.records.items s.window w → (was is : List ℕ → Part → PixelSet)
         → LeavesShown (IsLayerToggled x.window w.place (part.List x.serial)
         (λ font. is_turned font x.kept.definition.definition x.kept.view x.kept.cells (selected_by selecting x.kept.cells))) was is t u
@@ -94,11 +94,11 @@ module _ {X : Type 0} {L : X → Type 0} (list_loan : TakenBox X L → ListLoan)
     IsMarkedIf false x t u = u ≡ t
 
     -- the list x was toggled, or marked where its drawing is off and something is toggled
-    abbrev pub IsToggledAs : Option Pixels → Selecting → Spot → KeptList → WindowManager V H → WindowManager V H → Type 0
+    abbrev pub IsToggledAs : Option Pixels → Selecting → ListAt → KeptList → WindowManager V H → WindowManager V H → Type 0
     IsToggledAs None selecting s x t u = IsToggledBy selecting s x t u
     IsToggledAs (Some update) selecting s x t u =
         (changes : Bool) × IsChange changes x.kept.cells (selected_by selecting x.kept.cells) × IsMarkedIf changes x t u
 
     -- so was the list that stands here
-    abbrev pub IsToggledOrMarked : Option Pixels → Selecting → Spot → Lists (TakenBox X L) → WindowManager V H → WindowManager V H → Type 0
+    abbrev pub IsToggledOrMarked : Option Pixels → Selecting → ListAt → Lists (TakenBox X L) → WindowManager V H → WindowManager V H → Type 0
     IsToggledOrMarked mark selecting s m t u = (x : KeptList) → slice_get (records_of list_loan m) s.list ≡ Some x → IsToggledAs mark selecting s x t u

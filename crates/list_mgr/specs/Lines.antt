@@ -17,7 +17,7 @@ use Rattle.control_mgr.specs.declared.controls.Controls.{Controls}
 use Rattle.control_mgr.specs.ControlDesks.{ControlSlot}
 use Rattle.control_mgr.specs.WholeControls.{AreWholeControls, control_desk, controls_state}
 use Rattle.list_mgr.specs.declared.lists.Lists.{Lists}
-use Rattle.list_mgr.specs.declared.spots.Spot.{Spot}
+use Rattle.list_mgr.specs.declared.spots.ListAt.{ListAt}
 use Rattle.list_mgr.specs.Changing.{IsShownOrMarked}
 use Rattle.list_mgr.specs.ListDesks.{ListDesk, ListsState, lists_show}
 use Rattle.list_mgr.specs.ListSteps.{AreBarsSet}
@@ -42,7 +42,7 @@ module _ {W : Type 0} {K : W → Type 0} (control_loan : TakenBox W K → Contro
       × IsBarGiven window bar setting (desk_beside t o slots c held lists) (desk_beside u o slots d held lists)
 
   -- the list that stands here was drawn within the rectangle, or marked, and then its scroll bars were set
-  abbrev pub IsShownWithBars : {X : Type 0} {L : X → Type 0} → (TakenBox X L → ListLoan) → Rect → Option Pixels → Bool → Spot → Lists (TakenBox X L)
+  abbrev pub IsShownWithBars : {X : Type 0} {L : X → Type 0} → (TakenBox X L → ListLoan) → Rect → Option Pixels → Bool → ListAt → Lists (TakenBox X L)
       → WindowManager V H → Controls (TakenBox W K) → WindowManager V H → Controls (TakenBox W K) → Type 0
   IsShownWithBars list_loan within mark changes s m t c u d = (l : ListOf) → IsSpotOf loan list_loan l t m s
       → (mid : WindowManager V H) × IsShownOrMarked list_loan loan within mark changes s m t mid × LeavesLists list_loan loan control_loan (IsWhereRight (AreBarsSet l)) mid c m u d m

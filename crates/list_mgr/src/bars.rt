@@ -9,7 +9,7 @@ ghost use Rattle.list_mgr.specs.WholeLists.{AreBeside, LeavesLists};
 ghost use Rattle.list_mgr.specs.Within.{IsWhereRight};
 
 use crate::Lists;
-use crate::spots::Spot;
+use crate::spots::ListAt;
 use control_mgr::Controls;
 use control_values::ControlValues;
 use def_iface::{Defined, TakenControl, TakenList, TakenWindow};
@@ -39,7 +39,7 @@ impl Lists<TakenList> {
         &self,
         windows: &mut WindowManager,
         controls: &mut Controls<TakenControl>,
-        spot: Spot,
+        spot: ListAt,
     )
         requires kept { IsKept ⟦<TakenWindow as Defined>⟧.loan windows.old }
         requires beside { AreControlsBeside ⟦<TakenControl as Defined>⟧.loan ⟦<TakenWindow as Defined>⟧.loan windows.old controls.old }

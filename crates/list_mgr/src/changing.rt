@@ -11,10 +11,10 @@ ghost use Rattle.list_mgr.specs.WholeLists.{AreBeside, IsChangedOver};
 ghost use Rattle.list_mgr.specs.Within.{IsWhereRight};
 
 use crate::Lists;
-use crate::spots::Spot;
+use crate::spots::ListAt;
 use def_iface::{Defined, TakenList, TakenWindow};
 use desk_call::{CellOf, CellText, ListDrawing, ListReply};
-use desk_layers::Part;
+use desk_layers::{Part, Part};
 use scan_region::Region;
 use std::alloc::AllocError;
 use tb_geom::{Rect, Refusal};
@@ -30,7 +30,7 @@ fn differ(old: &[u8], new: &[u8]) -> bool
 
 impl Lists<TakenList> {
     /// The index of a list's layer among the layers of its window.
-    pub(crate) fn layer(&self, windows: &WindowManager, spot: Spot) -> usize
+    pub(crate) fn layer(&self, windows: &WindowManager, spot: ListAt) -> usize
         requires beside { AreBeside ⟦<TakenList as Defined>⟧.loan ⟦<TakenWindow as Defined>⟧.loan windows.now self.now }
         requires spot { IsSpot ⟦<TakenWindow as Defined>⟧.loan ⟦<TakenList as Defined>⟧.loan windows.now self.now spot }
         ensures { (w : _) → IsWindowAt windows.now.windows.records.items spot.window w
@@ -46,7 +46,7 @@ impl Lists<TakenList> {
     pub(crate) fn mark(
         &self,
         windows: &WindowManager,
-        spot: Spot,
+        spot: ListAt,
     ) -> Result<Option<Region>, AllocError>
         requires kept { IsKept ⟦<TakenWindow as Defined>⟧.loan windows.now }
         requires beside { AreBeside ⟦<TakenList as Defined>⟧.loan ⟦<TakenWindow as Defined>⟧.loan windows.now self.now }
@@ -70,7 +70,7 @@ impl Lists<TakenList> {
     pub(crate) fn show(
         &self,
         windows: &mut WindowManager,
-        spot: Spot,
+        spot: ListAt,
         within: Rect,
         mark: Option<Region>,
         changes: bool,

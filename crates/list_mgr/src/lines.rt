@@ -13,7 +13,7 @@ ghost use Rattle.list_mgr.specs.Within.{IsWhereRight};
 
 use crate::Lists;
 use crate::lines_from::{columns_from, line_number, rows_from};
-use crate::spots::Spot;
+use crate::spots::ListAt;
 use control_mgr::Controls;
 use def_iface::{Defined, TakenControl, TakenList, TakenWindow};
 use desk_call::{ListLines, ListReply, ScrollList};
@@ -31,7 +31,7 @@ fn differ(old: ListView, new: ListView) -> bool
 
 impl Lists<TakenList> {
     /// Scrolls the list that stands here, as far as there are cells to be seen, and says whether it is scrolled otherwise then.
-    fn scroll_by(&mut self, spot: Spot, columns: i32, rows: i32) -> bool
+    fn scroll_by(&mut self, spot: ListAt, columns: i32, rows: i32) -> bool
         requires { spot.list < length self.old.list.items.items }
         ensures lists { records_of ⟦<TakenList as Defined>⟧.loan self.new ≡ edit_at (with_scroll columns rows) spot.list (records_of ⟦<TakenList as Defined>⟧.loan self.old) }
         ensures next { self.new.list.next ≡ self.old.list.next }
@@ -55,7 +55,7 @@ impl Lists<TakenList> {
         &self,
         windows: &mut WindowManager,
         controls: &mut Controls<TakenControl>,
-        spot: Spot,
+        spot: ListAt,
         within: Rect,
         mark: Option<Region>,
         changes: bool,

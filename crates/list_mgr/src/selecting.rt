@@ -10,7 +10,7 @@ ghost use Rattle.list_mgr.specs.Changing.{IsMark, IsToggledOrMarked};
 ghost use Rattle.list_mgr.specs.Spots.{IsSpot};
 ghost use Rattle.list_mgr.specs.WholeLists.{AreBeside, IsChangedOver, IsSettledList, records_of};
 
-use crate::spots::Spot;
+use crate::spots::ListAt;
 use crate::{ListRecord, Lists};
 use def_iface::{Defined, TakenList, TakenWindow};
 use desk_call::{ListClick, ListReply, SelectCell};
@@ -54,7 +54,7 @@ impl Lists<TakenList> {
     fn toggle(
         &self,
         windows: &mut WindowManager,
-        spot: Spot,
+        spot: ListAt,
         mark: Option<Region>,
         selecting: Selecting,
     )

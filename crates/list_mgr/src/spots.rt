@@ -14,14 +14,14 @@ use window_mgr::WindowManager;
 
 /// The index of a list in the list of lists, and that of its window from the front.
 #[derive(Clone, Copy)]
-pub(crate) struct Spot {
+pub(crate) struct ListAt {
     pub window: usize,
     pub list: usize,
 }
 
 impl Lists<TakenList> {
     /// Where this list stands.
-    pub(crate) fn spot(&self, windows: &WindowManager, list: ListOf) -> Result<Spot, Refusal>
+    pub(crate) fn spot(&self, windows: &WindowManager, list: ListOf) -> Result<ListAt, Refusal>
         ensures { let refusals = missing_refusals list (desk_of ⟦<TakenWindow as Defined>⟧.loan windows.now [])
             (records_of ⟦<TakenList as Defined>⟧.loan self.now) in
             MatchResult result
@@ -32,7 +32,7 @@ impl Lists<TakenList> {
             return Err(Refusal::NoSuchWindow);
         };
         match self.list.find(list.window, list.list) {
-            Some(list) => Ok(Spot { window, list }),
+            Some(list) => Ok(ListAt { window, list }),
             None => Err(Refusal::NoSuchList),
         }
     }

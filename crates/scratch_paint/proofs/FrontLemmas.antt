@@ -24,7 +24,8 @@ use Rattle.desk_toolbox.specs.declared.toolbox.Toolbox.{Toolbox}
 use Rattle.desk_toolbox.specs.ToolboxStates.{ToolboxState}
 use Rattle.desk_toolbox.specs.WholeToolbox.{toolbox_state}
 use Rattle.scratch_paint.specs.Paints.{IsPaintedDesk}
-use Rattle.scratch_paint.specs.Screens.{IsPaintedScreen, no_slots}
+use Rattle.desk_toolbox.specs.Boxed.{no_slots}
+use Rattle.scratch_paint.specs.Screens.{IsPaintedScreen}
 use Rattle.scratch_paint.proofs.DifferenceLemmas.{front_alike, on_its_screen}
 
 -- that was drawn over the base image that was painted from nothing

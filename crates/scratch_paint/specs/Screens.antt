@@ -1,14 +1,9 @@
 -- The whole screen painted from nothing.
-use Rattle.std.specs.Prelude.{◌≡◌, [], pos}
+use Rattle.std.specs.Prelude.{◌≡◌, pos}
 use Rattle.bit_map.specs.Bits.{Bits}
-use Rattle.def_iface.specs.Stocks.{AllSlots}
 use Rattle.desk_toolbox.specs.Fronts.{screen_scratch}
 use Rattle.desk_toolbox.specs.ToolboxStates.{ToolboxState}
 use Rattle.scratch_paint.specs.Paints.{IsPaintedSo}
-
--- no slot at all: whatever the slots, a screen shows the same
-abbrev pub no_slots : AllSlots
-no_slots = record { windows = []; menus = []; controls = []; lists = [] }
 
 -- the map has the size of the screen
 pub record IsAsLarge (s : ToolboxState) (m : Bits) : Type 0 where

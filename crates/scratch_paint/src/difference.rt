@@ -1,22 +1,20 @@
 //! How far the screen is from the desk painted from nothing.
 ghost use Rattle.std.specs.Prelude.{◌≡◌, ◌≤◌, ◌<◌, true, IfOk};
 ghost use Rattle.bit_map.specs.Bits.{bit, on_map};
-ghost use Rattle.desk_toolbox.specs.WholeToolbox.{IsKeptToolbox, toolbox_state};
+ghost use Rattle.desk_toolbox.specs.Boxed.{no_slots};
 ghost use Rattle.scratch_paint.specs.Differences.{differs, row_differences, differences_of, difference_count};
-ghost use Rattle.scratch_paint.specs.Screens.{IsAsLarge, no_slots};
+ghost use Rattle.scratch_paint.specs.Screens.{IsAsLarge};
 
 use crate::paint;
 use bit_map::BitMap;
-use def_iface::{Defined, TakenControl, TakenList, TakenMenu, TakenWindow};
-use desk_toolbox::Toolbox;
+use desk_toolbox::{Desk, Toolbox};
 use std::alloc::{AllocError, Global};
 use tb_geom::Point;
 
 /// How many pixels of the screen in no update region differ from the desk painted from nothing.
 pub fn differences(alloc: Global, toolbox: &Toolbox) -> Result<usize, AllocError>
-    requires { IsKeptToolbox ⟦<TakenWindow as Defined>⟧.loan ⟦<TakenMenu as Defined>⟧.loan ⟦<TakenControl as Defined>⟧.loan ⟦<TakenList as Defined>⟧.loan toolbox.now }
-    ensures { IfOk result (λ n. n ≡ difference_count
-        (toolbox_state ⟦<TakenWindow as Defined>⟧.loan ⟦<TakenMenu as Defined>⟧.loan ⟦<TakenControl as Defined>⟧.loan ⟦<TakenList as Defined>⟧.loan toolbox.now no_slots)) }
+    requires { ⟦<Toolbox as Desk>⟧.IsKept toolbox.now }
+    ensures { IfOk result (λ n. n ≡ difference_count (⟦<Toolbox as Desk>⟧.state_over toolbox.now no_slots)) }
 {
     let painted = paint(alloc, toolbox)?;
     Ok(differences_from(toolbox, &painted))
@@ -24,11 +22,10 @@ pub fn differences(alloc: Global, toolbox: &Toolbox) -> Result<usize, AllocError
 
 /// How many differ from this map.
 fn differences_from(toolbox: &Toolbox, painted: &BitMap) -> usize
-    requires kept { IsKeptToolbox ⟦<TakenWindow as Defined>⟧.loan ⟦<TakenMenu as Defined>⟧.loan ⟦<TakenControl as Defined>⟧.loan ⟦<TakenList as Defined>⟧.loan toolbox.now }
-    requires large { IsAsLarge
-        (toolbox_state ⟦<TakenWindow as Defined>⟧.loan ⟦<TakenMenu as Defined>⟧.loan ⟦<TakenControl as Defined>⟧.loan ⟦<TakenList as Defined>⟧.loan toolbox.now no_slots) painted.now }
+    requires kept { ⟦<Toolbox as Desk>⟧.IsKept toolbox.now }
+    requires large { IsAsLarge (⟦<Toolbox as Desk>⟧.state_over toolbox.now no_slots) painted.now }
     ensures { result ≡ differences_of
-        (toolbox_state ⟦<TakenWindow as Defined>⟧.loan ⟦<TakenMenu as Defined>⟧.loan ⟦<TakenControl as Defined>⟧.loan ⟦<TakenList as Defined>⟧.loan toolbox.now no_slots)
+        (⟦<Toolbox as Desk>⟧.state_over toolbox.now no_slots)
         (bit painted.now) painted.now.width painted.now.height }
 {
     let rows = painted.bounds().bottom as u16;
@@ -41,12 +38,11 @@ fn differences_from(toolbox: &Toolbox, painted: &BitMap) -> usize
 
 /// The same of a row.
 fn differences_in_row(toolbox: &Toolbox, painted: &BitMap, row: u16) -> usize
-    requires kept { IsKeptToolbox ⟦<TakenWindow as Defined>⟧.loan ⟦<TakenMenu as Defined>⟧.loan ⟦<TakenControl as Defined>⟧.loan ⟦<TakenList as Defined>⟧.loan toolbox.now }
-    requires large { IsAsLarge
-        (toolbox_state ⟦<TakenWindow as Defined>⟧.loan ⟦<TakenMenu as Defined>⟧.loan ⟦<TakenControl as Defined>⟧.loan ⟦<TakenList as Defined>⟧.loan toolbox.now no_slots) painted.now }
+    requires kept { ⟦<Toolbox as Desk>⟧.IsKept toolbox.now }
+    requires large { IsAsLarge (⟦<Toolbox as Desk>⟧.state_over toolbox.now no_slots) painted.now }
     requires row { row < painted.now.height }
     ensures count { result ≡ row_differences
-        (toolbox_state ⟦<TakenWindow as Defined>⟧.loan ⟦<TakenMenu as Defined>⟧.loan ⟦<TakenControl as Defined>⟧.loan ⟦<TakenList as Defined>⟧.loan toolbox.now no_slots)
+        (⟦<Toolbox as Desk>⟧.state_over toolbox.now no_slots)
         (bit painted.now) painted.now.width row }
     ensures few { result ≤ painted.now.width }
 {
@@ -66,13 +62,10 @@ fn differences_in_row(toolbox: &Toolbox, painted: &BitMap, row: u16) -> usize
 
 /// Whether a pixel of the screen differs, and is in no update region.
 fn differs_at(toolbox: &Toolbox, painted: &BitMap, point: Point) -> bool
-    requires kept { IsKeptToolbox ⟦<TakenWindow as Defined>⟧.loan ⟦<TakenMenu as Defined>⟧.loan ⟦<TakenControl as Defined>⟧.loan ⟦<TakenList as Defined>⟧.loan toolbox.now }
-    requires large { IsAsLarge
-        (toolbox_state ⟦<TakenWindow as Defined>⟧.loan ⟦<TakenMenu as Defined>⟧.loan ⟦<TakenControl as Defined>⟧.loan ⟦<TakenList as Defined>⟧.loan toolbox.now no_slots) painted.now }
+    requires kept { ⟦<Toolbox as Desk>⟧.IsKept toolbox.now }
+    requires large { IsAsLarge (⟦<Toolbox as Desk>⟧.state_over toolbox.now no_slots) painted.now }
     requires point { on_map painted.now point ≡ true }
-    ensures { result ≡ differs
-        (toolbox_state ⟦<TakenWindow as Defined>⟧.loan ⟦<TakenMenu as Defined>⟧.loan ⟦<TakenControl as Defined>⟧.loan ⟦<TakenList as Defined>⟧.loan toolbox.now no_slots)
-        (bit painted.now) point }
+    ensures { result ≡ differs (⟦<Toolbox as Desk>⟧.state_over toolbox.now no_slots) (bit painted.now) point }
 {
     toolbox.screen().get(point) != painted.get(point) && !toolbox.windows().is_stale(point)
 }

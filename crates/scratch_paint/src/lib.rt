@@ -7,7 +7,7 @@
 //! the menu bar stays in front. Then the bar gets its titles, and at last comes the menu that is pulled down, if one is, over
 //! all of that.
 //!
-//! Of the Toolbox it reads the desk alone, its windows (`Parts`), its menus, and which of them is pulled down: neither what
+//! Of the Toolbox it reads the desk alone, its windows (`DeskView`), its menus, and which of them is pulled down: neither what
 //! the screen shows, nor a region that is kept from call to call. What controls and lists show, it asks whoever keeps them
 //! (`Showing` of `window_paint`). So it is the yardstick for both: by its contract each of
 //! its pixels has the value `screen_scratch`, and by that of the Toolbox so has each pixel of the screen in no update

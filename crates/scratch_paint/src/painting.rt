@@ -6,15 +6,15 @@ ghost use Rattle.vis_update.specs.Records.{record_of};
 ghost use Rattle.window_mgr.specs.Kept.{IsKept};
 ghost use Rattle.window_mgr.specs.Records.{desk_of, desk_showing};
 ghost use Rattle.window_mgr.specs.Whole.{IsSettled};
-ghost use Rattle.desk_toolbox.specs.WholeToolbox.{IsKeptToolbox, toolbox_state};
+ghost use Rattle.desk_toolbox.specs.Boxed.{no_slots};
 ghost use Rattle.scratch_paint.specs.Paints.{IsPaintedDesk, look_in, windows_value};
-ghost use Rattle.scratch_paint.specs.Screens.{IsPaintedScreen, no_slots};
+ghost use Rattle.scratch_paint.specs.Screens.{IsPaintedScreen};
 
 use crate::windows::paint_window;
 use bit_map::BitMap;
-use def_iface::{Defined, TakenControl, TakenList, TakenMenu, TakenWindow};
+use def_iface::{Defined, TakenWindow};
 use desk_ground::{Ground, draw_bar, empty_ground};
-use desk_toolbox::Toolbox;
+use desk_toolbox::{Desk, Toolbox};
 use scan_region::Region;
 use std::alloc::{AllocError, Global};
 use strike_font::Font;
@@ -27,9 +27,8 @@ use window_paint::Showing;
 /// bar and the desktop show, controls and lists among that, and over it the menu that is pulled down, or the outline of a window
 /// that is dragged or grown. It reads neither the screen's pixels nor any region that the Toolbox keeps.
 pub fn paint(alloc: Global, toolbox: &Toolbox) -> Result<BitMap, AllocError>
-    requires { IsKeptToolbox ⟦<TakenWindow as Defined>⟧.loan ⟦<TakenMenu as Defined>⟧.loan ⟦<TakenControl as Defined>⟧.loan ⟦<TakenList as Defined>⟧.loan toolbox.now }
-    ensures { IfOk result (IsPaintedScreen
-        (toolbox_state ⟦<TakenWindow as Defined>⟧.loan ⟦<TakenMenu as Defined>⟧.loan ⟦<TakenControl as Defined>⟧.loan ⟦<TakenList as Defined>⟧.loan toolbox.now no_slots)) }
+    requires { ⟦<Toolbox as Desk>⟧.IsKept toolbox.now }
+    ensures { IfOk result (IsPaintedScreen (⟦<Toolbox as Desk>⟧.state_over toolbox.now no_slots)) }
 {
     let windows = toolbox.windows();
     let mut image = paint_base(alloc, windows, &toolbox.contents())?;

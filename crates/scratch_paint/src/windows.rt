@@ -62,7 +62,8 @@ fn paint_frame<'a>(
 )
     requires { IsSettled (record_of ⟦<TakenWindow as Defined>⟧.loan window.now) }
     ensures { Draws (λ p. holds gray.now p && holds structure.now p)
-        (λ p _. (⟦<TakenWindow as Defined>⟧.loan window.now.taken).definition.picture no_news font.now (minus p window.now.place))
+        (λ p _. (⟦<TakenWindow as Defined>⟧.loan window.now.taken).definition.picture no_news font.now
+        (minus p window.now.place))
         image.old image.new }
 {
     let cut = meeting(gray, structure);

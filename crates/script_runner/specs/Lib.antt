@@ -11,3 +11,4 @@ pub mod Script
 pub mod Session
 pub mod SessionViews
 pub mod ChosenRuns
+pub mod Boxed

@@ -34,7 +34,8 @@ pub fn run_chosen<F: Opener, R: Source, W: Sink>(
     requires going { IsOpen (R.input standard.old) }
     requires unfailed { (W.output sink.old).has_failed ≡ false }
     ensures full { AreAllFull (⟦<Stock as StockedAll>⟧.all_slots stock.new) }
-    ensures kinds { kinds_of (⟦<Stock as StockedAll>⟧.all_slots stock.new) ≡ kinds_of (⟦<Stock as StockedAll>⟧.all_slots stock.old) }
+    ensures kinds { kinds_of (⟦<Stock as StockedAll>⟧.all_slots stock.new)
+        ≡ kinds_of (⟦<Stock as StockedAll>⟧.all_slots stock.old) }
     ensures ends { ChosenEnds (F.opens files.now) F.Opened.input chosen.now
         (⟦<Stock as StockedAll>⟧.all_slots stock.old) (⟦<Stock as StockedAll>⟧.all_slots stock.new)
         (R.input standard.old) (R.input standard.new) (W.output sink.old) (W.output sink.new) result }

@@ -30,6 +30,7 @@ pub fn raw_runs_write_images_alone()
 #[tactic(auto, using(crate::proofs::FirstVersions::written_as_before))]
 pub fn scripts_of_version_1_write_what_they_wrote()
     ensures { (raw : Bool) (font : List ℕ) (stocks : AllSlots) (lines : List (List ℕ)) (text : List ℕ)
-        (state : ScriptState) → begins_with_version lines ≡ false → Written raw (first_state font stocks) lines text state
+        (state : ScriptState) → begins_with_version lines ≡ false
+        → Written raw (first_state font stocks) lines text state
         → WrittenBefore raw (unmade font stocks) lines text state.session }
 {}

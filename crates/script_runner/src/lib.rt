@@ -26,6 +26,7 @@ mod command_line;
 mod files;
 mod known;
 pub mod laws;
+mod on_stock;
 mod runner;
 mod script;
 mod session;

@@ -2,7 +2,6 @@
 ghost use Rattle.std.specs.Prelude.{◌≡◌, ◌≢◌, Option, Some, IsOk, IfOk, IfErr, OnOk, [], option_map, false};
 ghost use Rattle.def_iface.specs.Stocks.{AreAllFull};
 ghost use Rattle.script_text.specs.Held.{pushed, said_held};
-ghost use Rattle.script_runner.specs.SessionViews.{script_of, IsReady};
 ghost use Rattle.script_runner.specs.Fonts.{IsFontOf, why_fontless};
 ghost use Rattle.script_runner.specs.Kinds.{kinds_of};
 ghost use Rattle.script_runner.specs.Script.{ScriptState};
@@ -12,8 +11,9 @@ ghost use Rattle.watched_io.specs.Reads.{Input, IsOpen};
 ghost use Rattle.script_runner.specs.Runs.{CheckedEnds, RunEnds, ScriptEnds};
 ghost use Rattle.watched_io.specs.Writes.{Output};
 
+use crate::on_stock::ScriptOnStock;
 use crate::script::Script;
-use def_iface::{Defined, Stock, StockedAll, TakenControl, TakenList, TakenMenu, TakenWindow};
+use def_iface::{Stock, StockedAll};
 use script_text::LineBuffer;
 use std::alloc::Global;
 use strike_font::Font;
@@ -46,7 +46,8 @@ pub fn run<R: Source, W: Sink>(
     requires going { IsOpen (R.input source.old) }
     requires unfailed { (W.output sink.old).has_failed ≡ false }
     ensures full { AreAllFull (⟦<Stock as StockedAll>⟧.all_slots stock.new) }
-    ensures kinds { kinds_of (⟦<Stock as StockedAll>⟧.all_slots stock.new) ≡ kinds_of (⟦<Stock as StockedAll>⟧.all_slots stock.old) }
+    ensures kinds { kinds_of (⟦<Stock as StockedAll>⟧.all_slots stock.new)
+        ≡ kinds_of (⟦<Stock as StockedAll>⟧.all_slots stock.old) }
     ensures ends { RunEnds (option_map (λ bytes. bytes.now) font.entry) raw check
         (⟦<Stock as StockedAll>⟧.all_slots stock.old) (⟦<Stock as StockedAll>⟧.all_slots stock.new)
         (R.input source.old) (R.input source.new) (W.output sink.old) (W.output sink.new) result }
@@ -67,15 +68,15 @@ fn answer_and_check<R: Source, W: Sink>(
     raw: bool,
     check: bool,
 ) -> Result<(), Refusal>
-    requires ready { IsReady ⟦<TakenWindow as Defined>⟧.loan ⟦<TakenMenu as Defined>⟧.loan ⟦<TakenControl as Defined>⟧.loan ⟦<TakenList as Defined>⟧.loan script.old.session (⟦<Stock as StockedAll>⟧.all_slots stock.old) }
+    requires ready { ⟦<Script as ScriptOnStock>⟧.IsScriptReady script.old stock.old }
     requires unread { (R.input source.old).reads ≡ 0 }
     requires going { IsOpen (R.input source.old) }
     requires unfailed { (W.output sink.old).has_failed ≡ false }
-    ensures ready { IsReady ⟦<TakenWindow as Defined>⟧.loan ⟦<TakenMenu as Defined>⟧.loan ⟦<TakenControl as Defined>⟧.loan ⟦<TakenList as Defined>⟧.loan script.new.session (⟦<Stock as StockedAll>⟧.all_slots stock.new) }
+    ensures ready { ⟦<Script as ScriptOnStock>⟧.IsScriptReady script.new stock.new }
     ensures ends { CheckedEnds raw check
-        (script_of ⟦<TakenWindow as Defined>⟧.loan ⟦<TakenMenu as Defined>⟧.loan ⟦<TakenControl as Defined>⟧.loan ⟦<TakenList as Defined>⟧.loan script.old (⟦<Stock as StockedAll>⟧.all_slots stock.old))
+        (⟦<Script as ScriptOnStock>⟧.script script.old stock.old)
         (R.input source.old) (R.input source.new) (W.output sink.old) (W.output sink.new)
-        (script_of ⟦<TakenWindow as Defined>⟧.loan ⟦<TakenMenu as Defined>⟧.loan ⟦<TakenControl as Defined>⟧.loan ⟦<TakenList as Defined>⟧.loan script.new (⟦<Stock as StockedAll>⟧.all_slots stock.new)) result }
+        (⟦<Script as ScriptOnStock>⟧.script script.new stock.new) result }
 {
     match answer_all(script, source, sink, stock, raw) {
         Ok(()) if check => script.check(sink),
@@ -103,15 +104,15 @@ fn answer_all<R: Source, W: Sink>(
     stock: &mut Stock,
     raw: bool,
 ) -> Result<(), Refusal>
-    requires ready { IsReady ⟦<TakenWindow as Defined>⟧.loan ⟦<TakenMenu as Defined>⟧.loan ⟦<TakenControl as Defined>⟧.loan ⟦<TakenList as Defined>⟧.loan script.old.session (⟦<Stock as StockedAll>⟧.all_slots stock.old) }
+    requires ready { ⟦<Script as ScriptOnStock>⟧.IsScriptReady script.old stock.old }
     requires unread { (R.input source.old).reads ≡ 0 }
     requires going { IsOpen (R.input source.old) }
     requires unfailed { (W.output sink.old).has_failed ≡ false }
-    ensures ready { IsReady ⟦<TakenWindow as Defined>⟧.loan ⟦<TakenMenu as Defined>⟧.loan ⟦<TakenControl as Defined>⟧.loan ⟦<TakenList as Defined>⟧.loan script.new.session (⟦<Stock as StockedAll>⟧.all_slots stock.new) }
+    ensures ready { ⟦<Script as ScriptOnStock>⟧.IsScriptReady script.new stock.new }
     ensures ends { ScriptEnds raw
-        (script_of ⟦<TakenWindow as Defined>⟧.loan ⟦<TakenMenu as Defined>⟧.loan ⟦<TakenControl as Defined>⟧.loan ⟦<TakenList as Defined>⟧.loan script.old (⟦<Stock as StockedAll>⟧.all_slots stock.old))
+        (⟦<Script as ScriptOnStock>⟧.script script.old stock.old)
         (R.input source.old) (R.input source.new) (W.output sink.old) (W.output sink.new)
-        (script_of ⟦<TakenWindow as Defined>⟧.loan ⟦<TakenMenu as Defined>⟧.loan ⟦<TakenControl as Defined>⟧.loan ⟦<TakenList as Defined>⟧.loan script.new (⟦<Stock as StockedAll>⟧.all_slots stock.new)) result }
+        (⟦<Script as ScriptOnStock>⟧.script script.new stock.new) result }
 {
     let mut line = LineBuffer::new();
     let mut buffer = [0u8; 4096];
@@ -134,14 +135,15 @@ fn take_all<W: Sink>(
     sink: &mut W,
     raw: bool,
 ) -> Result<(), Refusal>
-    requires ready { IsReady ⟦<TakenWindow as Defined>⟧.loan ⟦<TakenMenu as Defined>⟧.loan ⟦<TakenControl as Defined>⟧.loan ⟦<TakenList as Defined>⟧.loan script.old.session (⟦<Stock as StockedAll>⟧.all_slots stock.old) }
+    requires ready { ⟦<Script as ScriptOnStock>⟧.IsScriptReady script.old stock.old }
     requires unfailed { (W.output sink.old).has_failed ≡ false }
-    ensures ready { IsReady ⟦<TakenWindow as Defined>⟧.loan ⟦<TakenMenu as Defined>⟧.loan ⟦<TakenControl as Defined>⟧.loan ⟦<TakenList as Defined>⟧.loan script.new.session (⟦<Stock as StockedAll>⟧.all_slots stock.new) }
+    ensures ready { ⟦<Script as ScriptOnStock>⟧.IsScriptReady script.new stock.new }
     ensures quiet { OnOk result ((W.output sink.new).has_failed ≡ false) }
-    ensures goes_on { (first : ScriptState) (input rest : Input) (old : Output) → SoFar raw first input old rest (W.output sink.old)
-        (script_of ⟦<TakenWindow as Defined>⟧.loan ⟦<TakenMenu as Defined>⟧.loan ⟦<TakenControl as Defined>⟧.loan ⟦<TakenList as Defined>⟧.loan script.old (⟦<Stock as StockedAll>⟧.all_slots stock.old)) line.old bytes.now
+    ensures goes_on { (first : ScriptState) (input rest : Input) (old : Output)
+        → SoFar raw first input old rest (W.output sink.old)
+        (⟦<Script as ScriptOnStock>⟧.script script.old stock.old) line.old bytes.now
         → GoesOn raw first input old rest (W.output sink.new)
-        (script_of ⟦<TakenWindow as Defined>⟧.loan ⟦<TakenMenu as Defined>⟧.loan ⟦<TakenControl as Defined>⟧.loan ⟦<TakenList as Defined>⟧.loan script.new (⟦<Stock as StockedAll>⟧.all_slots stock.new)) line.new result }
+        (⟦<Script as ScriptOnStock>⟧.script script.new stock.new) line.new result }
 {
     for byte in bytes {
         take(script, line, *byte, stock, sink, raw)?;
@@ -158,18 +160,18 @@ fn take<W: Sink>(
     sink: &mut W,
     raw: bool,
 ) -> Result<(), Refusal>
-    requires ready { IsReady ⟦<TakenWindow as Defined>⟧.loan ⟦<TakenMenu as Defined>⟧.loan ⟦<TakenControl as Defined>⟧.loan ⟦<TakenList as Defined>⟧.loan script.old.session (⟦<Stock as StockedAll>⟧.all_slots stock.old) }
+    requires ready { ⟦<Script as ScriptOnStock>⟧.IsScriptReady script.old stock.old }
     requires unfailed { (W.output sink.old).has_failed ≡ false }
-    ensures ready { IsReady ⟦<TakenWindow as Defined>⟧.loan ⟦<TakenMenu as Defined>⟧.loan ⟦<TakenControl as Defined>⟧.loan ⟦<TakenList as Defined>⟧.loan script.new.session (⟦<Stock as StockedAll>⟧.all_slots stock.new) }
+    ensures ready { ⟦<Script as ScriptOnStock>⟧.IsScriptReady script.new stock.new }
     ensures quiet { OnOk result ((W.output sink.new).has_failed ≡ false) }
     ensures newline { byte ≡ 10 → LineEnds raw
-        (script_of ⟦<TakenWindow as Defined>⟧.loan ⟦<TakenMenu as Defined>⟧.loan ⟦<TakenControl as Defined>⟧.loan ⟦<TakenList as Defined>⟧.loan script.old (⟦<Stock as StockedAll>⟧.all_slots stock.old)) (said_held line.old)
-        (script_of ⟦<TakenWindow as Defined>⟧.loan ⟦<TakenMenu as Defined>⟧.loan ⟦<TakenControl as Defined>⟧.loan ⟦<TakenList as Defined>⟧.loan script.new (⟦<Stock as StockedAll>⟧.all_slots stock.new))
+        (⟦<Script as ScriptOnStock>⟧.script script.old stock.old) (said_held line.old)
+        (⟦<Script as ScriptOnStock>⟧.script script.new stock.new)
         (W.output sink.old) (W.output sink.new) result }
     ensures cleared { byte ≡ 10 → OnOk result (line.new ≡ Some []) }
     ensures other { byte ≢ 10 → IsOk result × (line.new ≡ pushed line.old byte)
-        × (script_of ⟦<TakenWindow as Defined>⟧.loan ⟦<TakenMenu as Defined>⟧.loan ⟦<TakenControl as Defined>⟧.loan ⟦<TakenList as Defined>⟧.loan script.new (⟦<Stock as StockedAll>⟧.all_slots stock.new)
-        ≡ script_of ⟦<TakenWindow as Defined>⟧.loan ⟦<TakenMenu as Defined>⟧.loan ⟦<TakenControl as Defined>⟧.loan ⟦<TakenList as Defined>⟧.loan script.old (⟦<Stock as StockedAll>⟧.all_slots stock.old))
+        × (⟦<Script as ScriptOnStock>⟧.script script.new stock.new
+        ≡ ⟦<Script as ScriptOnStock>⟧.script script.old stock.old)
         × (W.output sink.new ≡ W.output sink.old) }
 {
     if byte != b'\n' {

@@ -2,18 +2,17 @@
 ghost use Rattle.std.specs.Prelude.{◌≡◌, ℕ, pos, List, Some, None, OnOk, false};
 ghost use Rattle.def_iface.specs.Stocks.{AllSlots, AreAllFull};
 ghost use Rattle.desk_call.specs.declared.call.Call.TheVariants as asks;
-ghost use Rattle.desk_toolbox.specs.WholeToolbox.{IsKeptToolbox};
 ghost use Rattle.watched_io.specs.Writes.{Sends};
 ghost use Rattle.script_runner.specs.Checks.{IsCheckLine};
 ghost use Rattle.script_runner.specs.Endings.{LineEnds, TakeEnds};
 ghost use Rattle.script_runner.specs.Script.{why_unread};
 ghost use Rattle.script_runner.specs.Session.{LeavesStock};
-ghost use Rattle.script_runner.specs.SessionViews.{session_of, script_of, IsReady};
 
+use crate::on_stock::{OnStock, ScriptOnStock};
 use crate::session::Session;
 use crate::shown::{show_done, show_reply};
-use def_iface::{Defined, Stock, StockedAll, TakenControl, TakenList, TakenMenu, TakenWindow};
-use desk_toolbox::{Call, WindowCall};
+use def_iface::{Stock, StockedAll};
+use desk_toolbox::{Call, Desk, Toolbox, WindowCall};
 use script_text::Command;
 use std::alloc::Global;
 use strike_font::Font;
@@ -57,13 +56,13 @@ impl Script {
         sink: &mut S,
         raw: bool,
     ) -> Result<(), Refusal>
-        requires ready { IsReady ⟦<TakenWindow as Defined>⟧.loan ⟦<TakenMenu as Defined>⟧.loan ⟦<TakenControl as Defined>⟧.loan ⟦<TakenList as Defined>⟧.loan self.old.session (⟦<Stock as StockedAll>⟧.all_slots stock.old) }
+        requires ready { ⟦<Self as ScriptOnStock>⟧.IsScriptReady self.old stock.old }
         requires unfailed { (S.output sink.old).has_failed ≡ false }
-        ensures ready { IsReady ⟦<TakenWindow as Defined>⟧.loan ⟦<TakenMenu as Defined>⟧.loan ⟦<TakenControl as Defined>⟧.loan ⟦<TakenList as Defined>⟧.loan self.new.session (⟦<Stock as StockedAll>⟧.all_slots stock.new) }
+        ensures ready { ⟦<Self as ScriptOnStock>⟧.IsScriptReady self.new stock.new }
         ensures quiet { OnOk result ((S.output sink.new).has_failed ≡ false) }
         ensures ends { LineEnds raw
-            (script_of ⟦<TakenWindow as Defined>⟧.loan ⟦<TakenMenu as Defined>⟧.loan ⟦<TakenControl as Defined>⟧.loan ⟦<TakenList as Defined>⟧.loan self.old (⟦<Stock as StockedAll>⟧.all_slots stock.old)) said.entry
-            (script_of ⟦<TakenWindow as Defined>⟧.loan ⟦<TakenMenu as Defined>⟧.loan ⟦<TakenControl as Defined>⟧.loan ⟦<TakenList as Defined>⟧.loan self.new (⟦<Stock as StockedAll>⟧.all_slots stock.new))
+            (⟦<Self as ScriptOnStock>⟧.script self.old stock.old) said.entry
+            (⟦<Self as ScriptOnStock>⟧.script self.new stock.new)
             (S.output sink.old) (S.output sink.new) result }
     {
         match said {
@@ -84,13 +83,13 @@ impl Script {
         sink: &mut S,
         raw: bool,
     ) -> Result<(), Refusal>
-        requires ready { IsReady ⟦<TakenWindow as Defined>⟧.loan ⟦<TakenMenu as Defined>⟧.loan ⟦<TakenControl as Defined>⟧.loan ⟦<TakenList as Defined>⟧.loan self.old.session (⟦<Stock as StockedAll>⟧.all_slots stock.old) }
+        requires ready { ⟦<Self as ScriptOnStock>⟧.IsScriptReady self.old stock.old }
         requires unfailed { (S.output sink.old).has_failed ≡ false }
-        ensures ready { IsReady ⟦<TakenWindow as Defined>⟧.loan ⟦<TakenMenu as Defined>⟧.loan ⟦<TakenControl as Defined>⟧.loan ⟦<TakenList as Defined>⟧.loan self.new.session (⟦<Stock as StockedAll>⟧.all_slots stock.new) }
+        ensures ready { ⟦<Self as ScriptOnStock>⟧.IsScriptReady self.new stock.new }
         ensures quiet { OnOk result ((S.output sink.new).has_failed ≡ false) }
         ensures ends { TakeEnds raw
-            (script_of ⟦<TakenWindow as Defined>⟧.loan ⟦<TakenMenu as Defined>⟧.loan ⟦<TakenControl as Defined>⟧.loan ⟦<TakenList as Defined>⟧.loan self.old (⟦<Stock as StockedAll>⟧.all_slots stock.old)) command.now
-            (script_of ⟦<TakenWindow as Defined>⟧.loan ⟦<TakenMenu as Defined>⟧.loan ⟦<TakenControl as Defined>⟧.loan ⟦<TakenList as Defined>⟧.loan self.new (⟦<Stock as StockedAll>⟧.all_slots stock.new))
+            (⟦<Self as ScriptOnStock>⟧.script self.old stock.old) command.now
+            (⟦<Self as ScriptOnStock>⟧.script self.new stock.new)
             (S.output sink.old) (S.output sink.new) result }
     {
         let refusal = why_unread(self.is_begun, self.version, command);
@@ -107,10 +106,10 @@ impl Script {
 
     /// Writes the line of the check of the script's desk, as `Session::check` says.
     pub fn check<S: Sink>(&self, sink: &mut S) -> Result<(), Refusal>
-        requires kept { (desk : _) → self.now.session.desk ≡ Some desk → IsKeptToolbox ⟦<TakenWindow as Defined>⟧.loan ⟦<TakenMenu as Defined>⟧.loan ⟦<TakenControl as Defined>⟧.loan ⟦<TakenList as Defined>⟧.loan desk }
+        requires kept { (desk : _) → self.now.session.desk ≡ Some desk → ⟦<Toolbox as Desk>⟧.IsKept desk }
         requires unfailed { (S.output sink.old).has_failed ≡ false }
         ensures { (stocks : AllSlots) → (text : List ℕ)
-            × IsCheckLine (session_of ⟦<TakenWindow as Defined>⟧.loan ⟦<TakenMenu as Defined>⟧.loan ⟦<TakenControl as Defined>⟧.loan ⟦<TakenList as Defined>⟧.loan self.now.session stocks) text
+            × IsCheckLine (⟦<Session as OnStock>⟧.session_over self.now.session stocks) text
             × Sends (S.output sink.old) (S.output sink.new) result text }
     {
         self.session.check(sink)
@@ -119,9 +118,10 @@ impl Script {
     /// Ends the script: the definition of every window, control, list and menu of its desk is disposed of, and put back
     /// Closed into its slot, while every other slot stays as it was.
     pub fn close(self, stock: &mut Stock)
-        requires { IsReady ⟦<TakenWindow as Defined>⟧.loan ⟦<TakenMenu as Defined>⟧.loan ⟦<TakenControl as Defined>⟧.loan ⟦<TakenList as Defined>⟧.loan self.session (⟦<Stock as StockedAll>⟧.all_slots stock.old) }
+        requires { ⟦<Self as ScriptOnStock>⟧.IsScriptReady self stock.old }
         ensures full { AreAllFull (⟦<Stock as StockedAll>⟧.all_slots stock.new) }
-        ensures left { LeavesStock (session_of ⟦<TakenWindow as Defined>⟧.loan ⟦<TakenMenu as Defined>⟧.loan ⟦<TakenControl as Defined>⟧.loan ⟦<TakenList as Defined>⟧.loan self.session (⟦<Stock as StockedAll>⟧.all_slots stock.old)) (⟦<Stock as StockedAll>⟧.all_slots stock.new) }
+        ensures left { LeavesStock (⟦<Session as OnStock>⟧.session self.session stock.old)
+            (⟦<Stock as StockedAll>⟧.all_slots stock.new) }
     {
         let Script { session, .. } = self;
         session.close(stock);

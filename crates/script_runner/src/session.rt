@@ -1,18 +1,17 @@
 //! The desk of a script: none, until the first command makes it, with the font that waits for it.
 ghost use Rattle.std.specs.Prelude.{◌≡◌, ℕ, true, List, None, Some, OnOk, false};
 ghost use Rattle.def_iface.specs.Stocks.{AllSlots, AreAllFull};
-ghost use Rattle.desk_toolbox.specs.WholeToolbox.{IsKeptToolbox, IsWholeToolbox, toolbox_state};
 ghost use Rattle.watched_io.specs.Writes.{Sends};
 ghost use Rattle.script_runner.specs.Checks.{IsCheckLine};
 ghost use Rattle.script_runner.specs.Session.{LeavesStock, first_size, is_known};
-ghost use Rattle.script_runner.specs.SessionViews.{session_of, IsReady};
 ghost use Rattle.script_runner.specs.Endings.{IsAnswered, IsFirstAnswered, CommandEnds};
 
 use crate::check_line::write_check;
 use crate::known::is_known;
+use crate::on_stock::OnStock;
 use crate::shown::{show_done, show_image, show_reply};
-use def_iface::{Defined, Stock, StockedAll, TakenControl, TakenList, TakenMenu, TakenWindow};
-use desk_toolbox::{NotBegun, Toolbox};
+use def_iface::{Stock, StockedAll};
+use desk_toolbox::{Desk, NotBegun, Toolbox};
 use scratch_paint::differences;
 use script_text::{Command, DeskSize};
 use std::alloc::Global;
@@ -59,13 +58,13 @@ impl Session {
         sink: &mut S,
         raw: bool,
     ) -> Result<(), Refusal>
-        requires ready { IsReady ⟦<TakenWindow as Defined>⟧.loan ⟦<TakenMenu as Defined>⟧.loan ⟦<TakenControl as Defined>⟧.loan ⟦<TakenList as Defined>⟧.loan self.old (⟦<Stock as StockedAll>⟧.all_slots stock.old) }
+        requires ready { ⟦<Self as OnStock>⟧.IsReady self.old stock.old }
         requires unfailed { (S.output sink.old).has_failed ≡ false }
-        ensures ready { IsReady ⟦<TakenWindow as Defined>⟧.loan ⟦<TakenMenu as Defined>⟧.loan ⟦<TakenControl as Defined>⟧.loan ⟦<TakenList as Defined>⟧.loan self.new (⟦<Stock as StockedAll>⟧.all_slots stock.new) }
+        ensures ready { ⟦<Self as OnStock>⟧.IsReady self.new stock.new }
         ensures quiet { OnOk result ((S.output sink.new).has_failed ≡ false) }
         ensures ends { CommandEnds raw
-            (session_of ⟦<TakenWindow as Defined>⟧.loan ⟦<TakenMenu as Defined>⟧.loan ⟦<TakenControl as Defined>⟧.loan ⟦<TakenList as Defined>⟧.loan self.old (⟦<Stock as StockedAll>⟧.all_slots stock.old)) command.now
-            (session_of ⟦<TakenWindow as Defined>⟧.loan ⟦<TakenMenu as Defined>⟧.loan ⟦<TakenControl as Defined>⟧.loan ⟦<TakenList as Defined>⟧.loan self.new (⟦<Stock as StockedAll>⟧.all_slots stock.new))
+            (⟦<Self as OnStock>⟧.session self.old stock.old) command.now
+            (⟦<Self as OnStock>⟧.session self.new stock.new)
             (S.output sink.old) (S.output sink.new) result }
     {
         match &mut self.desk {
@@ -85,14 +84,14 @@ impl Session {
         raw: bool,
     ) -> Result<(), Refusal>
         requires unmade { self.old.desk ≡ None }
-        requires ready { IsReady ⟦<TakenWindow as Defined>⟧.loan ⟦<TakenMenu as Defined>⟧.loan ⟦<TakenControl as Defined>⟧.loan ⟦<TakenList as Defined>⟧.loan self.old (⟦<Stock as StockedAll>⟧.all_slots stock.old) }
+        requires ready { ⟦<Self as OnStock>⟧.IsReady self.old stock.old }
         requires known { is_known command.now (⟦<Stock as StockedAll>⟧.all_slots stock.old) ≡ true }
         requires unfailed { (S.output sink.old).has_failed ≡ false }
-        ensures ready { IsReady ⟦<TakenWindow as Defined>⟧.loan ⟦<TakenMenu as Defined>⟧.loan ⟦<TakenControl as Defined>⟧.loan ⟦<TakenList as Defined>⟧.loan self.new (⟦<Stock as StockedAll>⟧.all_slots stock.new) }
+        ensures ready { ⟦<Self as OnStock>⟧.IsReady self.new stock.new }
         ensures quiet { OnOk result ((S.output sink.new).has_failed ≡ false) }
         ensures ends { CommandEnds raw
-            (session_of ⟦<TakenWindow as Defined>⟧.loan ⟦<TakenMenu as Defined>⟧.loan ⟦<TakenControl as Defined>⟧.loan ⟦<TakenList as Defined>⟧.loan self.old (⟦<Stock as StockedAll>⟧.all_slots stock.old)) command.now
-            (session_of ⟦<TakenWindow as Defined>⟧.loan ⟦<TakenMenu as Defined>⟧.loan ⟦<TakenControl as Defined>⟧.loan ⟦<TakenList as Defined>⟧.loan self.new (⟦<Stock as StockedAll>⟧.all_slots stock.new))
+            (⟦<Self as OnStock>⟧.session self.old stock.old) command.now
+            (⟦<Self as OnStock>⟧.session self.new stock.new)
             (S.output sink.old) (S.output sink.new) result }
     {
         let size = first_size(command);
@@ -119,11 +118,10 @@ impl Session {
     /// Writes the line of the check: how many pixels of the screen in no update region differ from the desk
     /// painted from nothing, or NoMemory where there is none for painting. Without a desk none differs.
     pub fn check<S: Sink>(&self, sink: &mut S) -> Result<(), Refusal>
-        requires kept { (desk : _) → self.now.desk ≡ Some desk
-            → IsKeptToolbox ⟦<TakenWindow as Defined>⟧.loan ⟦<TakenMenu as Defined>⟧.loan ⟦<TakenControl as Defined>⟧.loan ⟦<TakenList as Defined>⟧.loan desk }
+        requires kept { (desk : _) → self.now.desk ≡ Some desk → ⟦<Toolbox as Desk>⟧.IsKept desk }
         requires unfailed { (S.output sink.old).has_failed ≡ false }
         ensures { (stocks : AllSlots) → (text : List ℕ)
-            × IsCheckLine (session_of ⟦<TakenWindow as Defined>⟧.loan ⟦<TakenMenu as Defined>⟧.loan ⟦<TakenControl as Defined>⟧.loan ⟦<TakenList as Defined>⟧.loan self.now stocks) text
+            × IsCheckLine (⟦<Self as OnStock>⟧.session_over self.now stocks) text
             × Sends (S.output sink.old) (S.output sink.new) result text }
     {
         let count = match &self.desk {
@@ -136,10 +134,10 @@ impl Session {
     /// Ends the session: the definition of every window, control, list and menu is disposed of, and put back
     /// Closed into its slot, while every other slot stays as it was.
     pub fn close(self, stock: &mut Stock)
-        requires { IsReady ⟦<TakenWindow as Defined>⟧.loan ⟦<TakenMenu as Defined>⟧.loan ⟦<TakenControl as Defined>⟧.loan ⟦<TakenList as Defined>⟧.loan self (⟦<Stock as StockedAll>⟧.all_slots stock.old) }
+        requires { ⟦<Self as OnStock>⟧.IsReady self stock.old }
         ensures full { AreAllFull (⟦<Stock as StockedAll>⟧.all_slots stock.new) }
         ensures left { LeavesStock
-            (session_of ⟦<TakenWindow as Defined>⟧.loan ⟦<TakenMenu as Defined>⟧.loan ⟦<TakenControl as Defined>⟧.loan ⟦<TakenList as Defined>⟧.loan self (⟦<Stock as StockedAll>⟧.all_slots stock.old))
+            (⟦<Self as OnStock>⟧.session self stock.old)
             (⟦<Stock as StockedAll>⟧.all_slots stock.new) }
     {
         let Session { desk, .. } = self;
@@ -169,13 +167,13 @@ fn first_answer<S: Sink>(
     sink: &mut S,
     raw: bool,
 ) -> Result<(), Refusal>
-    requires whole { IsWholeToolbox ⟦<TakenWindow as Defined>⟧.loan ⟦<TakenMenu as Defined>⟧.loan ⟦<TakenControl as Defined>⟧.loan ⟦<TakenList as Defined>⟧.loan desk.old (⟦<Stock as StockedAll>⟧.all_slots stock.old) }
+    requires whole { ⟦<Toolbox as Desk>⟧.IsWhole desk.old stock.old }
     requires unfailed { (S.output sink.old).has_failed ≡ false }
-    ensures whole { IsWholeToolbox ⟦<TakenWindow as Defined>⟧.loan ⟦<TakenMenu as Defined>⟧.loan ⟦<TakenControl as Defined>⟧.loan ⟦<TakenList as Defined>⟧.loan desk.new (⟦<Stock as StockedAll>⟧.all_slots stock.new) }
+    ensures whole { ⟦<Toolbox as Desk>⟧.IsWhole desk.new stock.new }
     ensures quiet { OnOk result ((S.output sink.new).has_failed ≡ false) }
     ensures answered { IsFirstAnswered raw
-        (toolbox_state ⟦<TakenWindow as Defined>⟧.loan ⟦<TakenMenu as Defined>⟧.loan ⟦<TakenControl as Defined>⟧.loan ⟦<TakenList as Defined>⟧.loan desk.old (⟦<Stock as StockedAll>⟧.all_slots stock.old)) command.now
-        (toolbox_state ⟦<TakenWindow as Defined>⟧.loan ⟦<TakenMenu as Defined>⟧.loan ⟦<TakenControl as Defined>⟧.loan ⟦<TakenList as Defined>⟧.loan desk.new (⟦<Stock as StockedAll>⟧.all_slots stock.new))
+        (⟦<Toolbox as Desk>⟧.state desk.old stock.old) command.now
+        (⟦<Toolbox as Desk>⟧.state desk.new stock.new)
         (S.output sink.old) (S.output sink.new) result }
 {
     match command {
@@ -194,13 +192,13 @@ fn answer_on<S: Sink>(
     sink: &mut S,
     raw: bool,
 ) -> Result<(), Refusal>
-    requires whole { IsWholeToolbox ⟦<TakenWindow as Defined>⟧.loan ⟦<TakenMenu as Defined>⟧.loan ⟦<TakenControl as Defined>⟧.loan ⟦<TakenList as Defined>⟧.loan desk.old (⟦<Stock as StockedAll>⟧.all_slots stock.old) }
+    requires whole { ⟦<Toolbox as Desk>⟧.IsWhole desk.old stock.old }
     requires unfailed { (S.output sink.old).has_failed ≡ false }
-    ensures whole { IsWholeToolbox ⟦<TakenWindow as Defined>⟧.loan ⟦<TakenMenu as Defined>⟧.loan ⟦<TakenControl as Defined>⟧.loan ⟦<TakenList as Defined>⟧.loan desk.new (⟦<Stock as StockedAll>⟧.all_slots stock.new) }
+    ensures whole { ⟦<Toolbox as Desk>⟧.IsWhole desk.new stock.new }
     ensures quiet { OnOk result ((S.output sink.new).has_failed ≡ false) }
     ensures answered { IsAnswered raw
-        (toolbox_state ⟦<TakenWindow as Defined>⟧.loan ⟦<TakenMenu as Defined>⟧.loan ⟦<TakenControl as Defined>⟧.loan ⟦<TakenList as Defined>⟧.loan desk.old (⟦<Stock as StockedAll>⟧.all_slots stock.old)) command.now
-        (toolbox_state ⟦<TakenWindow as Defined>⟧.loan ⟦<TakenMenu as Defined>⟧.loan ⟦<TakenControl as Defined>⟧.loan ⟦<TakenList as Defined>⟧.loan desk.new (⟦<Stock as StockedAll>⟧.all_slots stock.new))
+        (⟦<Toolbox as Desk>⟧.state desk.old stock.old) command.now
+        (⟦<Toolbox as Desk>⟧.state desk.new stock.new)
         (S.output sink.old) (S.output sink.new) result }
 {
     match command {

@@ -3,7 +3,7 @@ use Rattle.def_iface.specs.contracts.taken_control.TakenControlDefined.TheImpl a
 use Rattle.def_iface.specs.contracts.taken_list.TakenListDefined.TheImpl as taken_list
 use Rattle.def_iface.specs.contracts.taken_menu.TakenMenuDefined.TheImpl as taken_menu
 use Rattle.desk_toolbox.specs.WholeToolbox.{toolbox_state}
-use Rattle.scratch_paint.specs.Screens.{no_slots}
+use Rattle.desk_toolbox.specs.Boxed.{no_slots}
 use Rattle.scratch_paint.proofs.DifferenceLemmas.{as_many_differ}
 use Rattle.scratch_paint.proofs.difference.differences.Goals as goal
 

@@ -6,7 +6,7 @@ use Rattle.def_iface.specs.contracts.taken_list.TakenListDefined.TheImpl as take
 use Rattle.def_iface.specs.contracts.taken_menu.TakenMenuDefined.TheImpl as taken_menu
 use Rattle.desk_toolbox.specs.WholeToolbox.{toolbox_state}
 use Rattle.scratch_paint.specs.Differences.{row_differences}
-use Rattle.scratch_paint.specs.Screens.{no_slots}
+use Rattle.desk_toolbox.specs.Boxed.{no_slots}
 use Rattle.scratch_paint.proofs.difference.differences_in_row.Given as goal
 
 abbrev pub invariant-loop-column : goal.invariant-loop-column

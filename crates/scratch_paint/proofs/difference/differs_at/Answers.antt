@@ -6,7 +6,7 @@ use Rattle.def_iface.specs.contracts.taken_list.TakenListDefined.TheImpl as take
 use Rattle.def_iface.specs.contracts.taken_menu.TakenMenuDefined.TheImpl as taken_menu
 use Rattle.vis_update.specs.Areas.{stale_in}
 use Rattle.desk_toolbox.specs.WholeToolbox.{toolbox_state}
-use Rattle.scratch_paint.specs.Screens.{no_slots}
+use Rattle.desk_toolbox.specs.Boxed.{no_slots}
 use Rattle.scratch_paint.proofs.DifferenceLemmas.{alike_if, differs_if, on_both}
 use Rattle.scratch_paint.proofs.difference.differs_at.Goals as goal
 

@@ -17,7 +17,7 @@ use Rattle.window_mgr.specs.Finding.{record_with}
 use Rattle.window_mgr.specs.Records.{desk_of}
 use Rattle.window_mgr.specs.Refused.{is_missing}
 use Rattle.control_mgr.specs.declared.controls.Controls.{Controls}
-use Rattle.control_mgr.specs.declared.spots.Spot.{Spot}
+use Rattle.control_mgr.specs.declared.spots.ControlAt.{ControlAt}
 use Rattle.control_mgr.specs.ControlDesks.{index_of}
 use Rattle.control_mgr.specs.ControlRefusals.{missing_refusals}
 use Rattle.control_mgr.specs.Spots.{IsSpotOf}
@@ -43,7 +43,7 @@ module _ {V : Type 0} {H : V → Type 0} (loan : TakenBox V H → Loan) where
     seen_there o found = item_index-seen (kept_seen control_loan) c.window c.control m.list.items.items ∙ sym found
 
     -- both were found
-    spot_of : (s : Spot) → StandsAt t.windows.records.items c.window s.window → Some s.control ≡ item_index c.window c.control m.list.items.items → s.control < length m.list.items.items
+    spot_of : (s : ControlAt) → StandsAt t.windows.records.items c.window s.window → Some s.control ≡ item_index c.window c.control m.list.items.items → s.control < length m.list.items.items
         → IsSpotOf loan control_loan c t m s
     spot_of s window found low = record {
       window = window;

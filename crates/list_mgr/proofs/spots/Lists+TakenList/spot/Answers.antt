@@ -17,7 +17,7 @@ use Rattle.window_mgr.specs.Finding.{record_with}
 use Rattle.window_mgr.specs.Records.{desk_of}
 use Rattle.window_mgr.specs.Refused.{is_missing}
 use Rattle.list_mgr.specs.declared.lists.Lists.{Lists}
-use Rattle.list_mgr.specs.declared.spots.Spot.{Spot}
+use Rattle.list_mgr.specs.declared.spots.ListAt.{ListAt}
 use Rattle.list_mgr.specs.ListDesks.{index_of}
 use Rattle.list_mgr.specs.ListRefusals.{missing_refusals}
 use Rattle.list_mgr.specs.Spots.{IsSpotOf}
@@ -43,7 +43,7 @@ module _ {V : Type 0} {H : V → Type 0} (loan : TakenBox V H → Loan) where
     seen_there o found = item_index-seen (kept_seen list_loan) c.window c.list m.list.items.items ∙ sym found
 
     -- both were found
-    spot_of : (s : Spot) → StandsAt t.windows.records.items c.window s.window → Some s.list ≡ item_index c.window c.list m.list.items.items → s.list < length m.list.items.items
+    spot_of : (s : ListAt) → StandsAt t.windows.records.items c.window s.window → Some s.list ≡ item_index c.window c.list m.list.items.items → s.list < length m.list.items.items
         → IsSpotOf loan list_loan c t m s
     spot_of s window found low = record {
       window = window;

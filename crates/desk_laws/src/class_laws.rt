@@ -1,0 +1,55 @@
+//! What holds of windows that float, and of which window is active, in each state that a desk reaches.
+ghost use Rattle.std.specs.Prelude.{◌≡◌, ◌≢◌, ℕ, Bool, true, List, map, Some, All, Result};
+ghost use Rattle.std.specs.List.{find};
+ghost use Rattle.std.specs.Option.{option_map};
+ghost use Rattle.tb_geom.specs.declared.refusal.Refusal.{Refusal};
+ghost use Rattle.desk_call.specs.declared.call.Call.{Call};
+ghost use Rattle.desk_call.specs.declared.call.Reply.{Reply};
+ghost use Rattle.vis_update.specs.Records.{WindowRecord};
+ghost use Rattle.window_mgr.specs.Finding.{front_of, is_leading};
+ghost use Rattle.desk_toolbox.specs.Activations.{IsNeverDisposed, activate_event_told};
+ghost use Rattle.desk_toolbox.specs.Classes.{AreClassed, IsOfClass};
+ghost use Rattle.desk_toolbox.specs.Reached.{IsConsistent};
+ghost use Rattle.desk_toolbox.specs.Run.{IsRunOfCalls, IsStep};
+ghost use Rattle.desk_toolbox.specs.ToolboxStates.{ToolboxState};
+
+/// The window that FrontWindow answers is the first ordinary one of the list that is visible.
+#[tactic(auto, using(crate::proofs::Sayings::front_is_first))]
+pub fn front_is_the_first_visible_ordinary_window()
+    ensures { (windows : List WindowRecord)
+        → front_of windows ≡ option_map (λ w. w.serial) (find is_leading windows) }
+{}
+
+/// Windows that float stand in front of all that do not.
+#[tactic(auto, using(crate::proofs::ClassLaws::floating_in_front))]
+pub fn floating_windows_stand_in_front()
+    ensures { (s : ToolboxState) → IsConsistent s → AreClassed s.desk.windows.desk.windows }
+{}
+
+/// A window that floats is not active, nor was it told last that it is.
+#[tactic(auto, using(crate::proofs::ClassLaws::never_active, crate::proofs::ClassLaws::never_told))]
+pub fn a_floating_window_is_never_active()
+    ensures active { (window : ℕ) (s : ToolboxState) → IsConsistent s
+        → IsOfClass true window s.desk.windows.desk.windows
+        → s.desk.windows.desk.active ≢ Some window }
+    ensures told { (window : ℕ) (s : ToolboxState) → IsConsistent s → IsOfClass true window s.desk.windows.desk.windows
+        → s.events.told ≢ Some window }
+{}
+
+/// No activate event is told of it.
+#[tactic(auto, using(crate::proofs::ClassLaws::none_told_of_floating))]
+pub fn no_activate_event_is_told_of_a_floating_window()
+    ensures { (window : ℕ) (call : Call) (answer : Result Reply Refusal) (before after : ToolboxState)
+        → IsConsistent before → IsStep call answer before after → IsOfClass true window before.desk.windows.desk.windows
+        → All (λ e. e.message ≢ window) (activate_event_told call answer) }
+{}
+
+/// Over any run a window that is not disposed of stays of its class.
+#[tactic(auto, using(crate::proofs::ClassLaws::class_is_for_good))]
+pub fn a_class_is_for_good()
+    ensures { (floating : Bool) (window : ℕ) (first last : ToolboxState) (calls : List Call)
+        (answers : List (Result Reply Refusal))
+        → IsConsistent first → IsRunOfCalls first calls answers last → IsNeverDisposed window calls answers
+        → IsOfClass floating window first.desk.windows.desk.windows
+        → IsOfClass floating window last.desk.windows.desk.windows }
+{}

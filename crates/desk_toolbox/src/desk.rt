@@ -1,0 +1,59 @@
+//! A Toolbox over its stock, as contracts see the two.
+ghost use Rattle.def_iface.specs.Stocks.{AllSlots};
+ghost use Rattle.desk_toolbox.specs.Boxed as boxed;
+ghost use Rattle.desk_toolbox.specs.ToolboxStates.{ToolboxState};
+
+use crate::Toolbox;
+use def_iface::{ControlDef, ListDef, MenuDef, Stock, WindowDef};
+
+/// A desk over the stock that its definitions come from, as contracts see the two; over slots, where a
+/// clause speaks of any stock.
+pub trait Desk {
+    /// What its definitions come from.
+    type Stock;
+    /// The boxes that its definitions lie in: what these mean, the members say.
+    type Boxes;
+
+    /// Its state.
+    ghost state: { Self → Self.Stock → ToolboxState };
+
+    ghost state_over: { Self → AllSlots → ToolboxState };
+
+    /// It and the stock are whole, as they are between calls.
+    ghost IsWhole: { Self → Self.Stock → Type 0 };
+
+    ghost IsWholeOver: { Self → AllSlots → Type 0 };
+
+    /// It is whole over some slots.
+    ghost IsKept: { Self → Type 0 };
+
+    /// Each of its managers is whole.
+    ghost HasWholeManagers: { Self → Self.Stock → Type 0 };
+
+    ghost HasWholeManagersOver: { Self → AllSlots → Type 0 };
+}
+
+impl Desk for Toolbox {
+    type Stock = Stock;
+
+    type Boxes = (
+        Box<dyn WindowDef>,
+        Box<dyn MenuDef>,
+        Box<dyn ControlDef>,
+        Box<dyn ListDef>,
+    );
+
+    ghost state = { boxed.state WindowDef-box MenuDef-box ControlDef-box ListDef-box };
+
+    ghost state_over = { boxed.state_over WindowDef-box MenuDef-box ControlDef-box ListDef-box };
+
+    ghost IsWhole = { boxed.IsWhole WindowDef-box MenuDef-box ControlDef-box ListDef-box };
+
+    ghost IsWholeOver = { boxed.IsWholeOver WindowDef-box MenuDef-box ControlDef-box ListDef-box };
+
+    ghost IsKept = { boxed.IsKept WindowDef-box MenuDef-box ControlDef-box ListDef-box };
+
+    ghost HasWholeManagers = { boxed.HasWholeManagers WindowDef-box MenuDef-box ControlDef-box ListDef-box };
+
+    ghost HasWholeManagersOver = { boxed.HasWholeManagersOver WindowDef-box MenuDef-box ControlDef-box ListDef-box };
+}
