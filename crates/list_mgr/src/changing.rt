@@ -14,7 +14,7 @@ use crate::Lists;
 use crate::spots::ListAt;
 use def_iface::{Defined, TakenList, TakenWindow};
 use desk_call::{CellOf, CellText, ListDrawing, ListReply};
-use desk_layers::{Part, Part};
+use desk_layers::Part;
 use scan_region::Region;
 use std::alloc::AllocError;
 use tb_geom::{Rect, Refusal};
