@@ -45,10 +45,10 @@ scroll_meaning = std_meaning (λ _. scroll_seen) (λ _. scroll_part) (λ _. scro
 
 -- those that were told nothing yet
 abbrev pub fresh_button : StdControl ButtonLook
-fresh_button = fresh_std (record {})
+fresh_button = record { look = record {}; stage = Fresh; kept = nothing_kept }
 
 abbrev pub fresh_check : Variation → StdControl Variation
 fresh_check variation = fresh_std variation
 
 abbrev pub fresh_scroll : StdControl ScrollLook
-fresh_scroll = fresh_std (record {})
+fresh_scroll = record { look = record {}; stage = Fresh; kept = nothing_kept }
