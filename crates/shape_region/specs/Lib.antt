@@ -1,0 +1,1 @@
+-- The words of the contracts stand in shape_strips.
