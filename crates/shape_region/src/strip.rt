@@ -1,7 +1,7 @@
 //! The region of a strip.
-ghost use Rattle.std.specs.Prelude.{◌≡◌, ◌&&◌, true, ◌≤ℤ◌, IfOk};
+ghost use Rattle.std.specs.Prelude.{◌≡◌, ◌&&◌, pos, negsuc, ◌+ℤ◌, ◌≤ℤ◌, IfOk};
 ghost use Rattle.tb_geom.specs.declared.point.Point.{Point};
-ghost use Rattle.tb_geom.specs.Rects.{between, is_coordinate};
+ghost use Rattle.tb_geom.specs.Rects.{between};
 ghost use Rattle.tb_geom.specs.Pixels.{holds};
 
 use scan_region::Region;
@@ -14,30 +14,33 @@ pub fn strip_region<S: Strip>(alloc: Global, strip: &S) -> Result<Region, AllocE
     ensures { IfOk result (λ region. (p : Point) → holds region p ≡ S.pixels strip.now p) }
 {
     let bounds = strip.bounds();
-    rows_region(alloc, strip, bounds.top, bounds.bottom)
+    if bounds.is_empty() {
+        return Ok(Region::empty(alloc));
+    }
+    rows_region(alloc, strip, bounds.top, (bounds.bottom - bounds.top) as u32)
 }
 
-/// The pixels of the rows from `top` up to `bottom`: the upper half of them joined with the lower one.
+/// The pixels of `height` rows from `top` on: those of the upper half of the rows joined with those of the lower one.
 fn rows_region<S: Strip>(
     alloc: Global,
     strip: &S,
     top: i32,
-    bottom: i32,
+    height: u32,
 ) -> Result<Region, AllocError>
-    requires top { is_coordinate top ≡ true }
-    requires bottom { is_coordinate bottom ≡ true }
+    requires top { negsuc 16383 ≤ℤ top }
+    requires bottom { (top +ℤ pos height) ≤ℤ pos 16383 }
     ensures { IfOk result (λ region. (p : Point)
-        → holds region p ≡ (between top p.v bottom && S.pixels strip.now p)) }
+        → holds region p ≡ (between top p.v (top +ℤ pos height) && S.pixels strip.now p)) }
 {
-    if bottom <= top {
+    if height == 0 {
         return Ok(Region::empty(alloc));
     }
-    if bottom - top == 1 {
+    if height == 1 {
         return row_region(alloc, strip, top);
     }
-    let middle = top + (bottom - top) / 2;
-    let upper = rows_region(alloc, strip, top, middle)?;
-    let lower = rows_region(alloc, strip, middle, bottom)?;
+    let half = height / 2;
+    let upper = rows_region(alloc, strip, top, half)?;
+    let lower = rows_region(alloc, strip, top + half as i32, height - half)?;
     upper.joined(alloc, lower)
 }
 

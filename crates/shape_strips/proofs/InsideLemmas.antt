@@ -1,14 +1,14 @@
 -- Insides of frames.
-use Rattle.std.proofs.Common.{◌≡◌, ◌&&◌, Bool, true, false, ◌∙◌, ap}
+use Rattle.std.proofs.Common.{◌≡◌, true, false}
 use Rattle.std.proofs.lemmas.Bool.{and_left, and_right}
 use Rattle.tb_geom.specs.declared.point.Point.{Point}
 use Rattle.tb_geom.specs.declared.rect.Rect.{Rect}
-use Rattle.tb_geom.specs.Rects.{rect_holds, is_empty_rect}
+use Rattle.tb_geom.specs.Rects.{is_empty_rect}
 use Rattle.tb_geom.proofs.RectLemmas.{holds_none}
 use Rattle.shape_strips.specs.declared.corner.Corner.{Corner}
 use Rattle.shape_strips.specs.declared.pen.Pen.{Pen}
 use Rattle.shape_strips.specs.Rounds.{round_holds}
-use Rattle.shape_strips.specs.Frames.{inset_rect, inset_corner, surrounds, inside_holds}
+use Rattle.shape_strips.specs.Frames.{inset_rect, inset_corner, inside_holds}
 use Rattle.shape_strips.proofs.RoundLemmas.{outside_rect}
 
 -- an inside has no pixel that the shape lacks

@@ -1,22 +1,22 @@
 -- What the definitions of round shapes, insides and frames say.
-use Rattle.std.proofs.Common.{◌≡◌, ◌⊎◌, inl, inr, ◌&&◌, ◌||◌, Bool, true, false, ◌+◌, ◌-◌, ◌*◌, ◌≤◌, ℕ, ℤ, pos, ◌-ℤ◌, ◌+ℤ◌, ◌≤ℤ◌, ◌<ℤ◌, refl, sym, ap, ◌∙◌, arith}
+use Rattle.std.proofs.Common.{◌≡◌, ◌⊎◌, inl, inr, ◌&&◌, ◌||◌, Bool, true, false, ◌+◌, ◌-◌, ◌*◌, ℕ, ℤ, pos, ◌-ℤ◌, ◌+ℤ◌, ◌≤ℤ◌, ◌<ℤ◌, refl, sym, ap, ◌∙◌, arith}
 use Rattle.std.specs.Prelude.{nat_le, min, not}
 use Rattle.std.specs.Int.{abs_diff}
 use Rattle.std.proofs.lemmas.Bool.{and_parts, cases_Bool}
 use Rattle.std.proofs.lemmas.Int.{ints}
-use Rattle.std.proofs.Math.Nat.{min_comm, add_comm, zero-min, mul-zero}
+use Rattle.std.proofs.Math.Nat.{min_comm, add_comm, zero-min}
 use Rattle.tb_geom.specs.declared.point.Point.{Point}
 use Rattle.tb_geom.specs.declared.rect.Rect.{Rect}
 use Rattle.tb_geom.specs.Rects.{between, rect_holds}
+use Rattle.tb_geom.proofs.RectLemmas.{between-in}
 use Rattle.region_rows.specs.Counts.{natural, count_to}
 use Rattle.region_rows.proofs.Counts.{count-is}
 use Rattle.shape_strips.specs.declared.corner.Corner.{Corner}
 use Rattle.shape_strips.specs.declared.pen.Pen.{Pen}
 use Rattle.shape_strips.specs.Ovals.{square, in_oval, away}
-use Rattle.shape_strips.specs.Rounds.{fitted, across, down, round_holds, whole, oval_holds}
+use Rattle.shape_strips.specs.Rounds.{fitted, across, down, round_holds, oval_holds}
 use Rattle.shape_strips.specs.Frames.{has_size, surrounds, inside_holds, frame_holds, inset_rect, inset_corner}
 use Rattle.shape_strips.specs.Mirrors.{mirrored_across, mirrored_down, mirrored_diagonally}
-use Rattle.shape_strips.proofs.OvalLemmas.{middle_in}
 use Rattle.shape_strips.proofs.RangeLemmas.{row_of}
 
 -- ---- rectangles and ovals
@@ -102,7 +102,21 @@ down_same r c p = λ i. (between r.left p.h r.right && between-mirrored r.top p.
 
 -- from one side to another, which are as long
 between-turned : (l r t b v : ℤ) → r -ℤ l ≡ b -ℤ t → between l (l +ℤ (v -ℤ t)) r ≡ between t v b
-between-turned l r t b v e = grind (arith, ints)
+between-turned l r t b v e = elim (cases_Bool (between t v b)) [
+  | inl f ↦
+      let rows = row_of t v b f in
+      let low : t ≤ℤ v = rows.0 in
+      let high : v <ℤ b = rows.1 in
+      between-in l (l +ℤ (v -ℤ t)) r (omega (arith, ints)) (omega (arith, ints)) ∙ sym f
+  | inr f ↦ elim (cases_Bool (between l (l +ℤ (v -ℤ t)) r)) [
+    | inl g ↦
+        let columns = row_of l (l +ℤ (v -ℤ t)) r g in
+        let low : l ≤ℤ (l +ℤ (v -ℤ t)) = columns.0 in
+        let high : (l +ℤ (v -ℤ t)) <ℤ r = columns.1 in
+        g ∙ sym (between-in t v b (omega (arith, ints)) (omega (arith, ints)))
+    | inr g ↦ g ∙ sym f
+  ]
+]
 
 before-turned : (l t v : ℤ) → (l +ℤ (v -ℤ t)) -ℤ l ≡ v -ℤ t
 before-turned l t v = omega (arith, ints)

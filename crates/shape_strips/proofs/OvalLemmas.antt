@@ -1,9 +1,9 @@
 -- Sums and orders of squares.
-use Rattle.std.proofs.Common.{ℕ, ◌+◌, ◌*◌, ◌-◌, ◌<◌, ◌≤◌, ◌≡◌, Bool, true, false, arith, ap, sym, ◌∙◌, inl, inr}
-use Rattle.std.specs.Prelude.{nat_le, min}
+use Rattle.std.proofs.Common.{ℕ, ◌+◌, ◌*◌, ◌-◌, ◌<◌, ◌≤◌, ◌≡◌, true, false, arith, sym, ◌∙◌, inl, inr}
+use Rattle.std.specs.Prelude.{nat_le}
 use Rattle.std.proofs.lemmas.Nat.{mul-le}
 use Rattle.std.proofs.lemmas.Bool.{cases_lt, le-leb, lt-leb}
-use Rattle.shape_strips.specs.Ovals.{square, in_oval}
+use Rattle.shape_strips.specs.Ovals.{in_oval}
 
 -- the square of a product of two numbers below 2 ^ 15
 pub square_small : (a b : ℕ) → a < 32768 → b < 32768 → (a * b) * (a * b) ≤ 1152921504606846976

@@ -1,5 +1,5 @@
 -- Round shapes row by row.
-use Rattle.std.proofs.Common.{◌≡◌, ◌⊎◌, inl, inr, ◌&&◌, Bool, true, false, ◌+◌, ◌-◌, ◌*◌, ℕ, ℤ, pos, ◌-ℤ◌, ◌+ℤ◌, ◌≤ℤ◌, ◌<ℤ◌, refl, sym, ap, ◌∙◌}
+use Rattle.std.proofs.Common.{◌≡◌, ◌⊎◌, inl, inr, ◌&&◌, Bool, true, false, ◌-◌, ◌*◌, ℕ, ℤ, pos, ◌-ℤ◌, ◌+ℤ◌, ◌≤ℤ◌, ◌<ℤ◌, sym, ◌∙◌}
 use Rattle.std.specs.Prelude.{nat_le, min}
 use Rattle.std.proofs.lemmas.Bool.{and_left, and_right, cases_Bool}
 use Rattle.tb_geom.specs.declared.point.Point.{Point}
@@ -9,7 +9,7 @@ use Rattle.tb_geom.proofs.RectLemmas.{between-in}
 use Rattle.region_rows.specs.Counts.{count_to}
 use Rattle.shape_strips.specs.declared.corner.Corner.{Corner}
 use Rattle.shape_strips.specs.Ovals.{in_oval}
-use Rattle.shape_strips.specs.Rounds.{fitted, across, down, round_holds}
+use Rattle.shape_strips.specs.Rounds.{fitted, down, round_holds}
 use Rattle.shape_strips.proofs.RangeLemmas.{row_of}
 use Rattle.shape_strips.proofs.RunLemmas.{between_before, between_past, columns_in, columns_out}
 

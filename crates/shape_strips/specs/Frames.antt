@@ -1,6 +1,5 @@
 -- Frames of round shapes, drawn by a pen within the shape, and the insides that they leave.
 use Rattle.std.specs.Prelude.{◌&&◌, not, Bool, nat_lt, ◌-◌, ◌*◌, pos, ◌+ℤ◌, ◌-ℤ◌}
-use Rattle.tb_geom.specs.declared.point.Point.{Point}
 use Rattle.tb_geom.specs.declared.rect.Rect.{Rect}
 use Rattle.tb_geom.specs.Points.{PixelSet}
 use Rattle.shape_strips.specs.declared.corner.Corner.{Corner}

@@ -1,5 +1,5 @@
-use Rattle.std.proofs.Common.{◌≡◌, ◌<◌, ℤ, pos, ◌+ℤ◌, ◌-ℤ◌, arith, SFits, w32, rules}
-use Rattle.std.proofs.lemmas.Int.{ints, to_z-of_z}
+use Rattle.std.proofs.Common.{◌≡◌, ◌<◌, pos, arith, SFits, w32, rules}
+use Rattle.std.proofs.lemmas.Int.{ints}
 use Rattle.tb_geom.proofs.RectLemmas.{same_rect}
 use Rattle.shape_strips.specs.Frames.{inset_rect}
 use Rattle.shape_strips.proofs.RangeLemmas.{sides_in, sum_fits, rest_fits}

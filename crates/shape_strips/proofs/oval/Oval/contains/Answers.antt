@@ -1,4 +1,4 @@
-use Rattle.std.proofs.Common.{◌≡◌, ◌+◌, ◌*◌, ◌<◌, ◌≤◌, arith, refl}
+use Rattle.std.proofs.Common.{arith, refl}
 use Rattle.shape_strips.specs.Ovals.{in_oval}
 use Rattle.shape_strips.proofs.OvalLemmas.{square_small}
 use Rattle.shape_strips.proofs.oval.Oval.contains.Goals as goal

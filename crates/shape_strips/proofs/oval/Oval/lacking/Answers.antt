@@ -1,5 +1,4 @@
-use Rattle.std.proofs.Common.{◌≡◌, ℕ, ◌+◌, ◌*◌, ◌-◌, ◌/◌, ◌<◌, ◌≤◌, true, false, arith, sym, ◌∙◌}
-use Rattle.shape_strips.specs.Ovals.{in_oval}
+use Rattle.std.proofs.Common.{ℕ, ◌+◌, ◌*◌, ◌-◌, ◌/◌, arith, sym, ◌∙◌}
 use Rattle.shape_strips.proofs.OvalLemmas.{further, nearer, half_in, edge_at}
 use Rattle.shape_strips.proofs.oval.Oval.lacking.Goals as goal
 

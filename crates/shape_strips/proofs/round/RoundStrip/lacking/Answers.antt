@@ -1,7 +1,6 @@
-use Rattle.std.proofs.Common.{◌≡◌, ◌-◌, ◌*◌, ℕ, ℤ, pos, negsuc, ◌+ℤ◌, ◌≤ℤ◌, ◌<ℤ◌, ap, sym, ◌∙◌, arith, SFits, w32, rules}
+use Rattle.std.proofs.Common.{◌≡◌, pos, ◌+ℤ◌, ◌∙◌, arith, SFits, w32, rules}
 use Rattle.std.proofs.lemmas.Int.{ints, to_z-of_z}
 use Rattle.tb_geom.proofs.Steps.{fits_next}
-use Rattle.region_rows.specs.Counts.{count_to}
 use Rattle.shape_strips.specs.Ovals.{away}
 use Rattle.shape_strips.specs.Rounds.{fitted, down}
 use Rattle.shape_strips.proofs.RangeLemmas.{coordinate_from, sides_in}

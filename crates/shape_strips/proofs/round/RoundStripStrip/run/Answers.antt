@@ -1,4 +1,4 @@
-use Rattle.std.proofs.Common.{◌≡◌, inl, inr, ◌<◌, ℤ, pos, ◌+ℤ◌, ◌-ℤ◌, ◌≤ℤ◌, ◌<ℤ◌, sym, ◌∙◌, arith, SFits, w32, rules}
+use Rattle.std.proofs.Common.{inl, inr, pos, ◌+ℤ◌, ◌-ℤ◌, ◌≤ℤ◌, ◌<ℤ◌, sym, ◌∙◌, arith, SFits, w32, rules}
 use Rattle.std.proofs.lemmas.Int.{ints, to_z-of_z, to_z_pos}
 use Rattle.shape_strips.proofs.RangeLemmas.{sides_in, sum_fits, rest_fits}
 use Rattle.shape_strips.proofs.RoundLemmas.{outside_rows, round_run}

@@ -1,4 +1,4 @@
-use Rattle.std.proofs.Common.{◌≡◌, ◌∙◌, sym, arith, SFits, w32, rules}
+use Rattle.std.proofs.Common.{◌∙◌, arith, SFits, w32, rules}
 use Rattle.std.proofs.lemmas.Int.{ints, to_z-of_z}
 use Rattle.tb_geom.specs.Rects.{between}
 use Rattle.shape_strips.proofs.RunLemmas.{between-beside, between-saturated}

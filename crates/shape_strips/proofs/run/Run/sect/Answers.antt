@@ -1,4 +1,4 @@
-use Rattle.std.proofs.Common.{◌≡◌, ◌∙◌, sym, SFits, w32, rules}
+use Rattle.std.proofs.Common.{◌∙◌, SFits, w32, rules}
 use Rattle.std.proofs.lemmas.Int.{to_z-of_z}
 use Rattle.tb_geom.specs.Rects.{between}
 use Rattle.shape_strips.proofs.RunLemmas.{between-both}

@@ -1,1 +1,0 @@
--- The words of the contracts stand in shape_strips.
