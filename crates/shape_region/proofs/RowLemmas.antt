@@ -2,7 +2,7 @@
 use Rattle.std.proofs.Common.{◌≡◌, ◌&&◌, ◌||◌, Bool, true, false, inl, inr, ℤ, pos, negsuc, ◌-ℤ◌, ◌+ℤ◌, ◌≤ℤ◌, ◌<ℤ◌, refl, sym, ap, ◌∙◌, arith}
 use Rattle.std.proofs.lemmas.Bool.{and_parts, cases_Bool}
 use Rattle.std.proofs.lemmas.Int.{ints, by_lt_z}
-use Rattle.std.specs.Prelude.{int_le, int_lt}
+use Rattle.std.specs.Prelude.{int_le, int_lt, unsigned_abs}
 use Rattle.tb_geom.specs.declared.point.Point.{Point}
 use Rattle.tb_geom.specs.declared.rect.Rect.{Rect}
 use Rattle.tb_geom.specs.Points.{PixelSet}
@@ -118,3 +118,11 @@ within_rows a false x f = sym (f (and-false a))
 pub all_rows : (s : PixelSet) (bounds : Rect) → ((p : Point) → rect_holds bounds p ≡ false → s p ≡ false) → (p : Point)
     → (between bounds.top p.v bounds.bottom && s p) ≡ s p
 all_rows s bounds around p = within_rows (between bounds.left p.h bounds.right) (between bounds.top p.v bounds.bottom) (s p) (around p)
+
+-- how many rows there are
+pub abs_is : (z : ℤ) → pos 0 ≤ℤ z → pos (unsigned_abs z) ≡ z
+abs_is (pos n) low = refl
+abs_is (negsuc n) low = absurd (omega (arith, ints))
+
+pub rows_are : (t b : ℤ) → t <ℤ b → t +ℤ pos (unsigned_abs (b -ℤ t)) ≡ b
+rows_are t b l = let height = abs_is (b -ℤ t) (omega (arith, ints)) in omega (arith, ints)

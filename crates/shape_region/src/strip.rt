@@ -17,7 +17,8 @@ pub fn strip_region<S: Strip>(alloc: Global, strip: &S) -> Result<Region, AllocE
     if bounds.is_empty() {
         return Ok(Region::empty(alloc));
     }
-    rows_region(alloc, strip, bounds.top, (bounds.bottom - bounds.top) as u32)
+    let height = bounds.bottom.abs_diff(bounds.top);
+    rows_region(alloc, strip, bounds.top, height)
 }
 
 /// The pixels of `height` rows from `top` on: those of the upper half of the rows joined with those of the lower one.
