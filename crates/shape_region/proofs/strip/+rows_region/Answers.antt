@@ -17,7 +17,7 @@ rows_region-requires-2 g t c =
     let half : c.args.height / 2 < 65536 = omega arith in
     let cast : to_z w32 (c.args.height / 2) ≡ pos (c.args.height / 2) = to_z_pos w32 (c.args.height / 2) (omega arith) in
     let fits_middle : SFits w32 (c.args.top +ℤ pos (c.args.height / 2)) = sum_fits c.args.top (c.args.height / 2) top (omega (arith, ints)) half in
-    rw cast (simp to_z-of_z (omega (arith, c.decreases), (search rules, (omega (arith, ints), omega (arith, ints)))))
+    rw cast (simp to_z-of_z (λ κs live. (omega (arith, c.decreases), (live, (omega (arith, ints), omega (arith, ints))))))
 
 pub returns : goal.returns
 returns g t c =
