@@ -64,7 +64,7 @@ row_pixels s bounds l r v run around p = elim (cases_Bool (between v p.v (v +ℤ
       let high : p.v <ℤ (v +ℤ pos 1) = row.1 in
       let same : v ≡ p.v = omega (arith, ints) in
       on_row (between l p.h r) (between v p.v (v +ℤ pos 1)) (rect_holds bounds p) (s p)
-        (run p.h ∙ ap (λ z. s (record { h = p.h; v = z })) same) e (around p)
+      (run p.h ∙ ap (λ z. s (record { h = p.h; v = z })) same) e (around p)
   | inr e ↦ off_row (between l p.h r) (between v p.v (v +ℤ pos 1)) (rect_holds bounds p) (s p) e
 ]
 
@@ -91,12 +91,12 @@ or-false false = refl
 -- rows that follow each other
 pub between-joined : (low middle high x : ℤ) → low ≤ℤ middle → middle ≤ℤ high → (between low x middle || between middle x high) ≡ between low x high
 between-joined low middle high x l m = by_lt_z x middle
-  (λ less.
+    (λ less.
     let none = between_before middle x high less in
     let first = lt_true x middle less in
     let last = lt_true x high (omega (arith, ints)) in
     (λ i. between low x middle || none i) ∙ or-false (between low x middle) ∙ (λ i. int_le low x && (first ∙ sym last) i))
-  (λ from.
+    (λ from.
     let none = between_past low x middle from in
     let first = le_true middle x from in
     let last = le_true low x (omega (arith, ints)) in

@@ -58,12 +58,7 @@ pub fn frame_rect_region(alloc: Global, rect: Rect, pen: Pen) -> Result<Region, 
 }
 
 /// What a frame leaves of a rectangle with rounded corners. It refuses as `frame_round_rect_region` does.
-pub fn inside_region(
-    alloc: Global,
-    rect: Rect,
-    corner: Corner,
-    pen: Pen,
-) -> Result<Region, Refusal>
+pub fn inside_region(alloc: Global, rect: Rect, corner: Corner, pen: Pen) -> Result<Region, Refusal>
     ensures pixels { IfOk result (λ region. (p : Point) → holds region p ≡ inside_holds rect corner pen p) }
     ensures out_of_range { is_in_range rect ≡ false → result ≡ Err Refusal.OutOfRange }
     ensures refused { is_in_range rect ≡ true → IfErr result (λ e. e ≡ Refusal.NoMemory) }

@@ -64,15 +64,15 @@ when_true false b c e = refl
 
 pub oval_centres : (r : Rect) (p : Point) → oval_holds r p ≡ (rect_holds r p
     && in_oval (count_to r.left r.right) (count_to r.top r.bottom)
-        (abs_diff (count_to r.left p.h) (count_to (p.h +ℤ pos 1) r.right))
-        (abs_diff (count_to r.top p.v) (count_to (p.v +ℤ pos 1) r.bottom)))
+    (abs_diff (count_to r.left p.h) (count_to (p.h +ℤ pos 1) r.right))
+    (abs_diff (count_to r.top p.v) (count_to (p.v +ℤ pos 1) r.bottom)))
 unfolding round_holds
 oval_centres r p = when_true (rect_holds r p) _ _ (λ e.
     let both = and_parts (between r.left p.h r.right) (between r.top p.v r.bottom) e in
     let columns = row_of r.left p.h r.right both.0 in
     let rows = row_of r.top p.v r.bottom both.1 in
     λ i. in_oval (min-same (count_to r.left r.right) i) (min-same (count_to r.top r.bottom) i)
-        (away_whole r.left p.h r.right columns.0 columns.1 i) (away_whole r.top p.v r.bottom rows.0 rows.1 i))
+    (away_whole r.left p.h r.right columns.0 columns.1 i) (away_whole r.top p.v r.bottom rows.0 rows.1 i))
 
 -- ---- mirrors
 
@@ -145,11 +145,11 @@ diagonal_same r c p sides corners =
     let k = (fitted r c).height in
     let as_high : (fitted r c).width ≡ (fitted r c).height = λ i. min (corners i) (natural (sides i)) in
     (λ i. (between-turned r.left r.right r.top r.bottom p.v sides i && between-turned r.top r.bottom r.left r.right p.h (sym sides) i)
-      && in_oval (fitted r c).width (fitted r c).height
-        (away (as_high i) (natural (before-turned r.left r.top p.v i)) (natural (after-turned r.left r.right r.top r.bottom p.v sides i)))
-        (away (sym as_high i) (natural (before-turned r.top r.left p.h i)) (natural (after-turned r.top r.bottom r.left r.right p.h (sym sides) i))))
+    && in_oval (fitted r c).width (fitted r c).height
+    (away (as_high i) (natural (before-turned r.left r.top p.v i)) (natural (after-turned r.left r.right r.top r.bottom p.v sides i)))
+    (away (sym as_high i) (natural (before-turned r.top r.left p.h i)) (natural (after-turned r.top r.bottom r.left r.right p.h (sym sides) i))))
     ∙ (λ i. and_turned (between r.top p.v r.bottom) (between r.left p.h r.right) i
-      && turned (fitted r c).width (fitted r c).height (down r (fitted r c) p.v) (across r (fitted r c) p.h) as_high i)
+    && turned (fitted r c).width (fitted r c).height (down r (fitted r c) p.v) (across r (fitted r c) p.h) as_high i)
 
 pub other_diagonal_same : (r : Rect) (c : Corner) (p : Point) → r.right -ℤ r.left ≡ r.bottom -ℤ r.top → c.width ≡ c.height
     → round_holds r c (mirrored_across r (mirrored_down r (mirrored_diagonally r p))) ≡ round_holds r c p

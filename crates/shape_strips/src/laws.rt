@@ -25,8 +25,8 @@ pub fn shapes_without_corners_are_rectangles()
 pub fn ovals_are_the_centres_in_them()
     ensures { (r : Rect) (p : Point) → oval_holds r p ≡ (rect_holds r p
         && in_oval (count_to r.left r.right) (count_to r.top r.bottom)
-            (abs_diff (count_to r.left p.h) (count_to (p.h +ℤ pos 1) r.right))
-            (abs_diff (count_to r.top p.v) (count_to (p.v +ℤ pos 1) r.bottom))) }
+        (abs_diff (count_to r.left p.h) (count_to (p.h +ℤ pos 1) r.right))
+        (abs_diff (count_to r.top p.v) (count_to (p.v +ℤ pos 1) r.bottom))) }
 {}
 
 /// A round shape is its own mirror image, left to right and top to bottom.

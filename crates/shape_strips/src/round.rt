@@ -41,11 +41,7 @@ impl RoundStrip {
     {
         let rect = self.rect;
         let oval = self.oval();
-        let y = away(
-            oval.height,
-            count(rect.top, v),
-            count(v + 1, rect.bottom),
-        );
+        let y = away(oval.height, count(rect.top, v), count(v + 1, rect.bottom));
         oval.lacking(y)
     }
 }

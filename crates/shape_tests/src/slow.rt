@@ -90,9 +90,7 @@ impl Round {
 impl Framed {
     /// Whether the inside that the frame leaves has a pixel.
     pub fn inside_has(&self, h: i32, v: i32) -> bool {
-        self.shape.less(self.pen).has(h, v)
-            && self.shape.has(h, v)
-            && self.shape.surrounds(h, v)
+        self.shape.less(self.pen).has(h, v) && self.shape.has(h, v) && self.shape.surrounds(h, v)
     }
 }
 

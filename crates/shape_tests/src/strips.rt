@@ -33,12 +33,48 @@ fn runs_share_columns(rt: HostRuntime) -> Result<(), Fail> {
 
 #[test]
 fn corners_and_pens_have_sizes(rt: HostRuntime) -> Result<(), Fail> {
-    assert!(rt; Corner::none() == Corner { width: 0, height: 0 });
-    assert!(rt; Corner::whole(rect!(-3, 2, 4, 7)) == Corner { width: 7, height: 5 });
-    assert!(rt; Corner::whole(rect!(4, 7, -3, 7)) == Corner { width: 0, height: 0 });
-    assert!(rt; Pen { width: 1, height: 2 }.has_size());
-    assert!(rt; !Pen { width: 0, height: 2 }.has_size());
-    assert!(rt; !Pen { width: 1, height: 0 }.has_size());
+    assert!(rt;
+        Corner::none()
+            == Corner {
+                width: 0,
+                height: 0
+            }
+    );
+    assert!(rt;
+        Corner::whole(rect!(-3, 2, 4, 7))
+            == Corner {
+                width: 7,
+                height: 5
+            }
+    );
+    assert!(rt;
+        Corner::whole(rect!(4, 7, -3, 7))
+            == Corner {
+                width: 0,
+                height: 0
+            }
+    );
+    assert!(rt;
+        Pen {
+            width: 1,
+            height: 2
+        }
+        .has_size()
+    );
+    assert!(rt;
+        !Pen {
+            width: 0,
+            height: 2
+        }
+        .has_size()
+    );
+    assert!(rt;
+        !Pen {
+            width: 1,
+            height: 0
+        }
+        .has_size()
+    );
     Ok(())
 }
 

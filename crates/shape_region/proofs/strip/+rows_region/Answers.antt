@@ -32,7 +32,7 @@ returns g t c =
     let upper = simp to_z-of_z at c.in_ok-upper.ensures in
     let lower = simp (cast, to_z-of_z) at c.in_ok-lower.ensures in
     IfOk-weaker c.joined.result _ _
-      (λ region told p. told p ∙ (λ i. upper p i || lower p i)
-        ∙ rows_joined c.args.top (c.args.top +ℤ pos (c.args.height / 2)) ((c.args.top +ℤ pos (c.args.height / 2)) +ℤ pos (c.args.height - c.args.height / 2)) p.v (g.S.Strip.pixels c.args.strip.now p) (omega (arith, ints)) (omega (arith, ints))
-        ∙ (λ i. between c.args.top p.v (ends i) && g.S.Strip.pixels c.args.strip.now p))
-      c.joined.ensures
+    (λ region told p. told p ∙ (λ i. upper p i || lower p i)
+    ∙ rows_joined c.args.top (c.args.top +ℤ pos (c.args.height / 2)) ((c.args.top +ℤ pos (c.args.height / 2)) +ℤ pos (c.args.height - c.args.height / 2)) p.v (g.S.Strip.pixels c.args.strip.now p) (omega (arith, ints)) (omega (arith, ints))
+    ∙ (λ i. between c.args.top p.v (ends i) && g.S.Strip.pixels c.args.strip.now p))
+    c.joined.ensures

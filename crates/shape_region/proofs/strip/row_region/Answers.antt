@@ -26,6 +26,6 @@ returns g c =
     let pixels = simp to_z-of_z at c.sect.ensures.pixels in
     let run = simp to_z-of_z at c.run-run.ensures in
     IfOk-weaker c.from_rect_in_range.result _ _
-      (λ region told p. told p ∙ pixels p
-        ∙ row_pixels (g.S.Strip.pixels c.args.strip.now) c.bounds.result c.run-run.result.left c.run-run.result.right c.args.v run c.bounds.ensures.around p)
-      c.from_rect_in_range.ensures
+    (λ region told p. told p ∙ pixels p
+    ∙ row_pixels (g.S.Strip.pixels c.args.strip.now) c.bounds.result c.run-run.result.left c.run-run.result.right c.args.v run c.bounds.ensures.around p)
+    c.from_rect_in_range.ensures

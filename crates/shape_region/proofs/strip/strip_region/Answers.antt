@@ -32,7 +32,7 @@ returns g c =
     let height = simp to_z-of_z at c.abs_diff-height.ensures in
     let all = ap (λ n. c.bounds-bounds.result.top +ℤ pos n) height ∙ rows_are c.bounds-bounds.result.top c.bounds-bounds.result.bottom rise.down in
     IfOk-weaker c.rows_region.result _ _
-      (λ region told p. told p
-        ∙ (λ i. between c.bounds-bounds.result.top p.v (all i) && g.S.Strip.pixels c.args.strip.now p)
-        ∙ all_rows (g.S.Strip.pixels c.args.strip.now) c.bounds-bounds.result c.bounds-bounds.ensures.around p)
-      (simp to_z-of_z at c.rows_region.ensures)
+    (λ region told p. told p
+    ∙ (λ i. between c.bounds-bounds.result.top p.v (all i) && g.S.Strip.pixels c.args.strip.now p)
+    ∙ all_rows (g.S.Strip.pixels c.args.strip.now) c.bounds-bounds.result c.bounds-bounds.ensures.around p)
+    (simp to_z-of_z at c.rows_region.ensures)

@@ -10,13 +10,13 @@ use Rattle.shape_strips.proofs.inside.InsideStrip.inset_run.Goals as goal
 pub returns-then-is_empty : goal.returns-then-is_empty
 returns-then-is_empty c =
     let none : is_empty_rect (inset_rect c.args.self.now.rect c.args.self.now.pen) ≡ true =
-        ap is_empty_rect (sym c.inset_rect-rect.ensures) ∙ sym c.is_empty.ensures.sides ∙ c.if-is_empty.true in
+    ap is_empty_rect (sym c.inset_rect-rect.ensures) ∙ sym c.is_empty.ensures.sides ∙ c.if-is_empty.true in
     λ h. c.empty.ensures h ∙ sym (round_of_none (inset_rect c.args.self.now.rect c.args.self.now.pen) (inset_corner c.args.self.now.corner c.args.self.now.pen) none (record { h = h; v = c.args.v }))
 
 pub invariant_of-run : goal.invariant_of-run
 invariant_of-run c =
     let some : is_empty_rect (inset_rect c.args.self.now.rect c.args.self.now.pen) ≡ false =
-        ap is_empty_rect (sym c.inset_rect-rect.ensures) ∙ sym c.is_empty.ensures.sides ∙ c.if-is_empty.false in
+    ap is_empty_rect (sym c.inset_rect-rect.ensures) ∙ sym c.is_empty.ensures.sides ∙ c.if-is_empty.false in
     record { in_range = ap is_in_range c.inset_rect-rect.ensures ∙ inset_in_range c.args.self.now.rect c.args.self.now.pen c.args.self.now.in_range some }
 
 pub returns : goal.returns

@@ -13,10 +13,10 @@ returns-then-v-self c =
     let fits_top : SFits w32 c.args.self.now.rect.top = search rules in
     let fits_bottom : SFits w32 c.args.self.now.rect.bottom = search rules in
     λ h. c.empty.ensures h ∙ sym (inside_lacks c.args.self.now.rect c.args.self.now.corner c.args.self.now.pen (record { h = h; v = c.args.v })
-      (outside_rows c.args.self.now.rect c.args.self.now.corner (record { h = h; v = c.args.v }) (elim c.then-v-self.branch [
-        | then-v-self-via-then-v-self w ↦ inl (let test = simp to_z-of_z at w.if-v-self.true in grind (arith, ints))
-        | then-v-self-via-else-v-self+then-self-v w ↦ inr (let test = simp to_z-of_z at w.if-self-v.true in grind (arith, ints))
-      ])))
+    (outside_rows c.args.self.now.rect c.args.self.now.corner (record { h = h; v = c.args.v }) (elim c.then-v-self.branch [
+      | then-v-self-via-then-v-self w ↦ inl (let test = simp to_z-of_z at w.if-v-self.true in grind (arith, ints))
+      | then-v-self-via-else-v-self+then-self-v w ↦ inr (let test = simp to_z-of_z at w.if-self-v.true in grind (arith, ints))
+    ])))
 
 pub returns : goal.returns
 returns c =
@@ -35,7 +35,7 @@ returns c =
     let last = simp to_z-of_z at c.run-above.ensures in
     let next = simp to_z-of_z at c.run-below.ensures in
     λ h. c.sect-3.ensures h
-      ∙ (λ i. smaller h i && (c.sect-2.ensures h
-        ∙ (λ j. own h j && (c.sect-beside.ensures h
-          ∙ (λ k. (c.inner.ensures h ∙ (λ m. own (h -ℤ pos 1) m && own (h +ℤ pos 1) m)) k
-            && (c.sect.ensures h ∙ (λ m. last h m && next h m)) k)) j)) i)
+    ∙ (λ i. smaller h i && (c.sect-2.ensures h
+    ∙ (λ j. own h j && (c.sect-beside.ensures h
+    ∙ (λ k. (c.inner.ensures h ∙ (λ m. own (h -ℤ pos 1) m && own (h +ℤ pos 1) m)) k
+    && (c.sect.ensures h ∙ (λ m. last h m && next h m)) k)) j)) i)

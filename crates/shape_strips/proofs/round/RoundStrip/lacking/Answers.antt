@@ -50,5 +50,5 @@ returns-clause-edge c =
     let width = c.oval-oval.ensures.width in
     let height = c.oval-oval.ensures.height in
     let y_is : c.away-y.result ≡ down c.args.self.now.rect (fitted c.args.self.now.rect c.args.self.now.corner) c.args.v =
-        c.away-y.ensures ∙ (λ j. away (height j) (before j) (after j)) in
+    c.away-y.ensures ∙ (λ j. away (height j) (before j) (after j)) in
     edge_of _ _ _ _ _ _ c.lacking.result width height y_is c.lacking.ensures.edge

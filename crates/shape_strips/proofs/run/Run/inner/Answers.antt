@@ -13,5 +13,5 @@ returns c = λ h.
     let left = simp to_z-of_z at c.saturating_add.ensures in
     let right = simp to_z-of_z at c.saturating_sub.ensures in
     simp to_z-of_z ((λ i. between (left i) h (right i))
-      ∙ between-saturated c.args.self.left c.args.self.right h (omega (arith, ints)) (omega (arith, ints)) (omega (arith, ints)) (omega (arith, ints))
-      ∙ between-beside c.args.self.left c.args.self.right h)
+    ∙ between-saturated c.args.self.left c.args.self.right h (omega (arith, ints)) (omega (arith, ints)) (omega (arith, ints)) (omega (arith, ints))
+    ∙ between-beside c.args.self.left c.args.self.right h)
