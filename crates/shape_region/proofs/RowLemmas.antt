@@ -7,7 +7,7 @@ use Rattle.tb_geom.specs.declared.point.Point.{Point}
 use Rattle.tb_geom.specs.declared.rect.Rect.{Rect}
 use Rattle.tb_geom.specs.Points.{PixelSet}
 use Rattle.tb_geom.specs.Rects.{between, rect_holds, is_in_range, is_empty_rect, empty_rect}
-use Rattle.tb_geom.proofs.RectLemmas.{between-in, is_around, sides_rise}
+use Rattle.tb_geom.proofs.RectLemmas.{is_around, sides_rise}
 use Rattle.shape_strips.proofs.RangeLemmas.{in_range_from, row_of, sides_in}
 use Rattle.shape_strips.proofs.RunLemmas.{between_before, between_past}
 

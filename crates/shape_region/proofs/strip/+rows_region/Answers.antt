@@ -1,4 +1,4 @@
-use Rattle.std.proofs.Common.{◌≡◌, ◌&&◌, ◌||◌, ◌<◌, ◌/◌, ◌-◌, ℤ, pos, ◌+ℤ◌, ◌≤ℤ◌, ◌∙◌, arith, SFits, w32, to_z, rules}
+use Rattle.std.proofs.Common.{◌≡◌, ◌&&◌, ◌||◌, ◌<◌, ◌/◌, ◌-◌, pos, ◌+ℤ◌, ◌∙◌, arith, SFits, w32, to_z}
 use Rattle.std.proofs.lemmas.Int.{ints, to_z-of_z, to_z_pos}
 use Rattle.std.proofs.lemmas.Result.{IfOk-weaker}
 use Rattle.tb_geom.specs.Rects.{between}

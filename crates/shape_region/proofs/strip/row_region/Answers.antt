@@ -1,4 +1,4 @@
-use Rattle.std.proofs.Common.{◌≡◌, ◌&&◌, ℤ, pos, ◌+ℤ◌, ◌∙◌, arith, SFits, w32, rules}
+use Rattle.std.proofs.Common.{pos, ◌+ℤ◌, ◌∙◌, arith, SFits, w32, rules}
 use Rattle.std.proofs.lemmas.Int.{ints, to_z-of_z}
 use Rattle.std.proofs.lemmas.Result.{IfOk-weaker}
 use Rattle.tb_geom.specs.declared.rect.Rect.{Rect}
