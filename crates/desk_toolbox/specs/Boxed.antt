@@ -42,8 +42,8 @@ module _ {X : Type 0} {L : X → Type 0} (list : (b : DynBox X Global L) → lis
   abbrev pub list_loan_by : TakenList X L → ListLoan
   list_loan_by t = record { definition = (list t.definition).list_meaning t.definition.value; slot = t.slot }
 
--- `window` says what a box of a window's definition means, `menu` what one of a menu's, `control` what one of a control's, and
--- `list` what one of a list's
+-- `window` says what a box of a window's definition means, `menu` what one of a menu's, `control` what one of a
+-- control's, and `list` what one of a list's
 module _ {V : Type 0} {H : V → Type 0} (window : (b : DynBox V Global H) → window_def.Ghosts (H b.vtable))
     {W : Type 0} {K : W → Type 0} (menu : (b : DynBox W Global K) → menu_def.Ghosts (K b.vtable))
     {U : Type 0} {J : U → Type 0} (control : (b : DynBox U Global J) → control_def.Ghosts (J b.vtable))
@@ -59,13 +59,16 @@ module _ {V : Type 0} {H : V → Type 0} (window : (b : DynBox V Global H) → w
 
   -- a Toolbox over slots: its state, that it is whole, and that its managers are
   abbrev pub state_over : Toolbox V U W X H J K L → AllSlots → ToolboxState
-  state_over t stocks = toolbox_state (loan_by window) (menu_loan_by menu) (control_loan_by control) (list_loan_by list) t stocks
+  state_over t stocks =
+      toolbox_state (loan_by window) (menu_loan_by menu) (control_loan_by control) (list_loan_by list) t stocks
 
   abbrev pub IsWholeOver : Toolbox V U W X H J K L → AllSlots → Type 0
-  IsWholeOver t stocks = IsWholeToolbox (loan_by window) (menu_loan_by menu) (control_loan_by control) (list_loan_by list) t stocks
+  IsWholeOver t stocks =
+      IsWholeToolbox (loan_by window) (menu_loan_by menu) (control_loan_by control) (list_loan_by list) t stocks
 
   abbrev pub HasWholeManagersOver : Toolbox V U W X H J K L → AllSlots → Type 0
-  HasWholeManagersOver t stocks = AreWholeManagers (loan_by window) (menu_loan_by menu) (control_loan_by control) (list_loan_by list) t stocks
+  HasWholeManagersOver t stocks =
+      AreWholeManagers (loan_by window) (menu_loan_by menu) (control_loan_by control) (list_loan_by list) t stocks
 
   -- it is whole over some slots
   abbrev pub IsKept : Toolbox V U W X H J K L → Type 0
