@@ -1,6 +1,4 @@
 -- Lemmas on runs.
-pub mod Sayings
-pub mod Ordering
 pub mod UpdatedDesks
 pub mod KeptDesks
 pub mod Bonds
@@ -15,10 +13,6 @@ pub mod StepCounts
 pub mod Told
 pub mod Telling
 pub mod Tracked
-pub mod LiveDefinitions
-pub mod Classed
-pub mod KeptClasses
-pub mod HeldWindows
 pub mod Stands
 pub mod StandsOpen
 pub mod Outlined
@@ -28,9 +22,7 @@ pub mod MenuKinds
 pub mod Narrowed
 pub mod Ended
 pub mod ControlKinds
-pub mod ControlNumbers
 pub mod ListKinds
-pub mod ListNumbers
 pub mod MenuNumbers
 pub mod LitMenus
 pub mod HeldMenus
@@ -40,26 +32,11 @@ pub mod PulledSteps
 pub mod MenuStands
 pub mod TrackedControls
 pub mod ListStands
-pub mod GivenBars
 pub mod ControlsAside
 pub mod ListsAside
-pub mod Consistent
-pub mod Histories
-pub mod ClassLaws
-pub mod Shown
-pub mod FrontLaws
-pub mod FindLaws
-pub mod FindWindowLaws
-pub mod LeftByMenus
-pub mod OutlineLaws
 pub mod MenusBeside
 pub mod UpdatesBeside
-pub mod OpenUpdates
-pub mod ServedRuns
-pub mod RegionLaws
-pub mod Lent
 pub mod Asked
 pub mod WaitingShown
 pub mod UnderMenus
 pub mod Begun
-pub mod Untouched

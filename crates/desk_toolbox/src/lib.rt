@@ -2,10 +2,8 @@
 //!
 //! A `Call` says which manager it is for. What each does, its manager says (`window_mgr` for windows, `window_update` for
 //! update regions, `window_frame` for titles, highlighting and go-away boxes, `window_outline` for outlines, `control_mgr` for
-//! controls, `list_mgr` for lists, `menu_mgr` for menus, `event_queue` for events); here steps are strung together (`Run`), and
-//! the law that steps keep a right state right (`laws`) becomes one of runs: outside the update regions each pixel has the
-//! value that painting the desk from nothing gives. `update_laws` says what serving an update does, and what the regions of
-//! windows are; `class_laws`, what holds of windows that float.
+//! controls, `list_mgr` for lists, `menu_mgr` for menus, `event_queue` for events); here steps are strung together (`Run`). What
+//! follows of every step and run, `desk_laws` says.
 //!
 //! At most one thing is open at a time. Whether a call may come then, one table says for every call (`desk_call`'s `gate`):
 //! Busy where it has to wait, NotBusy where what it goes on with is not open. A call that may not come is still refused first
@@ -16,13 +14,10 @@
 #![tactic(auto)]
 
 mod answering;
-pub mod class_laws;
 mod desk;
 mod events;
-pub mod laws;
 mod outlining;
 mod toolbox;
-pub mod update_laws;
 
 pub use desk::Desk;
 pub use desk_call::{

@@ -1,0 +1,22 @@
+-- Lemmas of the laws.
+pub mod Sayings
+pub mod Ordering
+pub mod LiveDefinitions
+pub mod Classed
+pub mod KeptClasses
+pub mod HeldWindows
+pub mod ControlNumbers
+pub mod ListNumbers
+pub mod GivenBars
+pub mod Consistent
+pub mod Histories
+pub mod ClassLaws
+pub mod Shown
+pub mod FrontLaws
+pub mod FindLaws
+pub mod FindWindowLaws
+pub mod LeftByMenus
+pub mod OutlineLaws
+pub mod OpenUpdates
+pub mod ServedRuns
+pub mod RegionLaws

@@ -1,5 +1,0 @@
-use Rattle.desk_toolbox.proofs.FindLaws.{control_is_found_by_owner}
-use Rattle.desk_toolbox.proofs.laws.a_control_is_found_by_the_owner_of_the_pixel.Goals as goal
-
-pub returns : goal.returns
-returns c = control_is_found_by_owner
