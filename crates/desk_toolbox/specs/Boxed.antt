@@ -25,7 +25,8 @@ use Rattle.desk_toolbox.specs.WholeToolbox.{AreWholeManagers, IsKeptToolbox, IsW
 abbrev pub no_slots : AllSlots
 no_slots = record { windows = []; menus = []; controls = []; lists = [] }
 
--- what was taken, by what the boxes of its kind mean: the definition as a value, and the number of its slot
+-- what was taken, by what the boxes of its kind mean: the definition as a value, and the number of its slot, as
+-- `Defined` of def_iface and its like see it
 module _ {V : Type 0} {H : V → Type 0} (window : (b : DynBox V Global H) → window_def.Ghosts (H b.vtable)) where
   abbrev pub loan_by : Taken V H → Loan
   loan_by t = record { definition = (window t.definition).meaning t.definition.value; slot = t.slot }
@@ -48,7 +49,7 @@ module _ {V : Type 0} {H : V → Type 0} (window : (b : DynBox V Global H) → w
     {W : Type 0} {K : W → Type 0} (menu : (b : DynBox W Global K) → menu_def.Ghosts (K b.vtable))
     {U : Type 0} {J : U → Type 0} (control : (b : DynBox U Global J) → control_def.Ghosts (J b.vtable))
     {X : Type 0} {L : X → Type 0} (list : (b : DynBox X Global L) → list_def.Ghosts (L b.vtable)) where
-  -- the slots of a stock
+  -- the slots of a stock, as `StockedAll` of def_iface sees them
   abbrev pub slots_by : Stock V U X W H J L K → AllSlots
   slots_by s = record {
     windows = seen_slots (λ b. (window b).meaning b.value) (slot_views s.windows.slots.slots.items);
