@@ -1,5 +1,5 @@
--- The line of a check.
-use Rattle.std.proofs.Common.{◌≡◌, inl, inr, ℕ, List, Option, None, Some, Result, Ok, Err, refl, ap}
+-- The line of a check, and a script that it follows.
+use Rattle.std.proofs.Common.{◌≡◌, inl, inr, ℕ, Bool, true, List, Option, None, Some, Result, Ok, Err, refl, sym, ap, subst}
 use Rattle.std.specs.Result.{IfOk, result_ok}
 use Rattle.std.specs.declared.alloc.AllocError.{AllocError}
 use Rattle.def_iface.specs.declared.taken.Taken.{Taken}
@@ -12,11 +12,16 @@ use Rattle.def_iface.specs.Meaning.{Loan}
 use Rattle.def_iface.specs.MenuMeaning.{MenuLoan}
 use Rattle.def_iface.specs.Stocks.{AllSlots}
 use Rattle.desk_toolbox.specs.declared.toolbox.Toolbox.{Toolbox}
-use Rattle.desk_toolbox.specs.WholeToolbox.{toolbox_state}
+use Rattle.tb_geom.specs.declared.refusal.Refusal.{Refusal}
+use Rattle.desk_toolbox.specs.WholeToolbox.{IsKeptToolbox, IsWholeToolbox, toolbox_state}
 use Rattle.scratch_paint.specs.Differences.{difference_count, differences_of, row_differences}
 use Rattle.desk_toolbox.specs.Boxed.{no_slots}
-use Rattle.script_runner.specs.Checks.{IsCheckLine, check_text}
-use Rattle.script_runner.specs.SessionViews.{state_with}
+use Rattle.watched_io.specs.Reads.{Input}
+use Rattle.watched_io.specs.Writes.{Output, Sends}
+use Rattle.script_runner.specs.Checks.{IsCheckLine, IsFollowed, check_text}
+use Rattle.script_runner.specs.Runs.{CheckedEnds, ScriptEnds}
+use Rattle.script_runner.specs.Script.{ScriptState}
+use Rattle.script_runner.specs.SessionViews.{IsReadyWith, state_with}
 
 module _ {V : Type 0} {H : V → Type 0} (loan : Taken V H → Loan) {W : Type 0} {K : W → Type 0} (menu_loan : TakenMenu W K → MenuLoan) {U : Type 0} {J : U → Type 0} (control_loan : TakenControl U J → ControlLoan) {X : Type 0} {L : X → Type 0} (list_loan : TakenList X L → ListLoan) (font : Option (List ℕ)) (stocks : AllSlots) where
   made_line : (t : Toolbox V U W X H J K L) (count : Result ℕ AllocError) → IfOk count (λ n. n ≡ difference_count (toolbox_state loan menu_loan control_loan list_loan t no_slots))
@@ -37,3 +42,23 @@ module _ {V : Type 0} {H : V → Type 0} (loan : Taken V H → Loan) {W : Type 0
   -- without one
   pub line_of_none : (desk : Option (Toolbox V U W X H J K L)) → desk ≡ None → IsCheckLine (state_with loan menu_loan control_loan list_loan desk font stocks) (check_text (Some 0))
   line_of_none desk none = rw none (unmade_line font)
+
+-- between two lines a desk is whole over some slots
+module _ {V : Type 0} {H : V → Type 0} (loan : Taken V H → Loan) {W : Type 0} {K : W → Type 0} (menu_loan : TakenMenu W K → MenuLoan) {U : Type 0} {J : U → Type 0} (control_loan : TakenControl U J → ControlLoan) {X : Type 0} {L : X → Type 0} (list_loan : TakenList X L → ListLoan) (stocks : AllSlots) where
+  pub kept_desk : (desk : Option (Toolbox V U W X H J K L)) (font : Option (List ℕ)) (t : Toolbox V U W X H J K L) → IsReadyWith loan menu_loan control_loan list_loan desk font stocks → desk ≡ Some t
+      → IsKeptToolbox loan menu_loan control_loan list_loan t
+  kept_desk None font t ready some = absurd (cc)
+  kept_desk (Some d) font t ready some =
+      let same : d ≡ t = cc in
+      record { stocks = stocks; whole = subst (λ (x : Toolbox V U W X H J K L). IsWholeToolbox loan menu_loan control_loan list_loan x stocks) same ready }
+
+-- a check that is asked for follows a script that ended well
+pub followed_by_check : {X : Type 0} (raw check : Bool) (first : ScriptState) (input rest : Input) (old between new : Output) (state : ScriptState) (script r : Result X Refusal) (x : X)
+    → check ≡ true → script ≡ Ok x → ScriptEnds raw first input rest old between state script → (text : List ℕ) × IsCheckLine state.session text × Sends between new r text
+    → CheckedEnds raw check first input rest old new state r
+followed_by_check raw check first input rest old between new state script r x asked well ends line = record {
+  between = between;
+  script = script;
+  ends = ends;
+  followed = subst (λ b. IsFollowed b script state.session between new r) (sym asked) (subst (λ s. IsFollowed true s state.session between new r) (sym well) line);
+}

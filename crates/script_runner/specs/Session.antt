@@ -1,5 +1,5 @@
 -- What the commands of a script do to its desk, and what they answer.
-use Rattle.std.specs.Prelude.{◌≡◌, ℕ, pos, nat_abs, Bool, true, false, not, List, [], ◌∷◌, ◌++◌, Option, None, Some, is_none, Result, if◌then◌else◌}
+use Rattle.std.specs.Prelude.{◌≡◌, ℕ, pos, nat_abs, Bool, true, false, not, List, [], Option, None, Some, is_none, Result, if◌then◌else◌}
 use Rattle.tb_geom.specs.declared.point.Point.{Point}
 use Rattle.tb_geom.specs.declared.refusal.Refusal.{Refusal}
 use Rattle.tb_geom.specs.declared.refusal.Refusal.TheVariants.{NoSuchName, OutOfRange, Busy}
