@@ -15,7 +15,7 @@ use Rattle.desk_layers.specs.declared.part.Part.TheVariants as part
 use Rattle.def_iface.specs.Slots.{TakenBox}
 use Rattle.def_iface.specs.ControlMeaning.{ControlDefinition, ControlLoan}
 use Rattle.desk_layers.specs.Desk.{same_part}
-use Rattle.def_iface.specs.Meaning.{Loan}
+use Rattle.def_iface.specs.WindowMeaning.{WindowLoan}
 use Rattle.window_list.specs.declared.layer.Layer.{Layer}
 use Rattle.window_list.specs.declared.layer.LayerShape.{LayerShape}
 use Rattle.window_list.specs.declared.layers.Relaid.{Relaid}
@@ -112,7 +112,7 @@ module _ (n : NewControl) (d : ControlDefinition) (k : Ticket) (ls : PlacedLayer
       grown r = record { ticket = refl; layer = own; is = own_is; layers = layers_are; apart = new_apart }
 
       -- the windows and controls to which it is added
-      module _ {V : Type 0} {H : V → Type 0} (loan : TakenBox V H → Loan) {W : Type 0} {K : W → Type 0} (control_loan : TakenBox W K → ControlLoan) (update : Pixels) (t u : WindowManager V H)
+      module _ {V : Type 0} {H : V → Type 0} (loan : TakenBox V H → WindowLoan) {W : Type 0} {K : W → Type 0} (control_loan : TakenBox W K → ControlLoan) (update : Pixels) (t u : WindowManager V H)
           (m : Controls (TakenBox W K)) (ready : IsReadyToAdd loan control_loan n d k ls update t u m) where
         -- the plan of it
         pub added_is : ((p : Point) → holds relaid.gained p ≡ is_gained (Some (part.Control k.serial)) ls.layers relaid.layers.layers (minus p ls.place)) → (r : Relaying)
@@ -132,7 +132,7 @@ module _ (n : NewControl) (d : ControlDefinition) (k : Ticket) (ls : PlacedLayer
 
 -- ---- a control that may be planned
 
-module _ {V : Type 0} {H : V → Type 0} (loan : TakenBox V H → Loan) {W : Type 0} {K : W → Type 0} (control_loan : TakenBox W K → ControlLoan)
+module _ {V : Type 0} {H : V → Type 0} (loan : TakenBox V H → WindowLoan) {W : Type 0} {K : W → Type 0} (control_loan : TakenBox W K → ControlLoan)
     (n : NewControl) (d : ControlDefinition) (t : WindowManager V H) (m : Controls (TakenBox W K)) (k : Ticket)
     (kept : IsKept loan t) (beside : AreBeside control_loan loan t m) (ticket : IsTicket control_loan n (Some d) t m k) where
   abbrev cs : List ControlRecord

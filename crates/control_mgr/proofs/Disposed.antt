@@ -13,7 +13,7 @@ use Rattle.window_items.proofs.WindowLemmas.{items_of-remove, items_of-remove_ot
 use Rattle.desk_layers.specs.declared.part.Part.{Part}
 use Rattle.def_iface.specs.declared.window_def.Stage.TheVariants.{Live}
 use Rattle.def_iface.specs.ControlMeaning.{ControlDefinition, ControlLoan}
-use Rattle.def_iface.specs.Meaning.{Loan}
+use Rattle.def_iface.specs.WindowMeaning.{WindowLoan}
 use Rattle.def_iface.specs.Slots.{is_left, TakenBox}
 use Rattle.def_iface.specs.Stocked.{SlotView}
 use Rattle.window_list.specs.declared.layer.Layer.{Layer}
@@ -125,7 +125,7 @@ module _ {W : Type 0} {K : W → Type 0} (control_loan : TakenBox W K → Contro
   pub settled_left : (at : ℕ) (xs : List (Item (Control (TakenBox W K)))) → xs ≡ remove m.list.items.items at → AreSettled (records_of control_loan m) → AreSettled (all_seen control_loan xs)
   settled_left at xs is settled = subst AreSettled (sym (ap (all_seen control_loan) is ∙ remove-seen (kept_seen control_loan) m.list.items.items at)) (All-remove IsSettledControl at (records_of control_loan m) settled)
 
-module _ {V : Type 0} {H : V → Type 0} (loan : TakenBox V H → Loan) {W : Type 0} {K : W → Type 0} (control_loan : TakenBox W K → ControlLoan)
+module _ {V : Type 0} {H : V → Type 0} (loan : TakenBox V H → WindowLoan) {W : Type 0} {K : W → Type 0} (control_loan : TakenBox W K → ControlLoan)
     (c : ControlOf) (t : WindowManager V H) (m : Controls (TakenBox W K)) (s : ControlAt) (is : IsSpotOf loan control_loan c t m s) where
   abbrev cs : List ControlRecord
   cs = records_of control_loan m
@@ -223,7 +223,7 @@ module _ {V : Type 0} {H : V → Type 0} (loan : TakenBox V H → Loan) {W : Typ
         ),
       )
 
-module _ {V : Type 0} {H : V → Type 0} (loan : TakenBox V H → Loan) {W : Type 0} {K : W → Type 0} (control_loan : TakenBox W K → ControlLoan)
+module _ {V : Type 0} {H : V → Type 0} (loan : TakenBox V H → WindowLoan) {W : Type 0} {K : W → Type 0} (control_loan : TakenBox W K → ControlLoan)
     (c : ControlOf) (t : WindowManager V H) (m : Controls (TakenBox W K)) (planned : Option Ending) (its : IsPlannedEnd loan control_loan c t m planned) where
   -- the end of a control that is there
   pub planned_there : (e : Ending) → planned ≡ Some e → IsEnding loan control_loan c t m e

@@ -21,7 +21,7 @@ use Rattle.desk_layers.specs.declared.part.Part.TheVariants as part
 use Rattle.def_iface.specs.Slots.{TakenBox}
 use Rattle.def_iface.specs.ControlMeaning.{ControlLoan}
 use Rattle.desk_layers.specs.Desk.{LayeredDesk, on_screen}
-use Rattle.def_iface.specs.Meaning.{Loan}
+use Rattle.def_iface.specs.WindowMeaning.{WindowLoan}
 use Rattle.desk_layers.specs.Owner.{Owner, owner}
 use Rattle.desk_layers.specs.Owner.Owner.{Desktop, Bar, Frame, Content}
 use Rattle.def_iface.specs.Stocked.{SlotView}
@@ -104,7 +104,7 @@ module _ {W : Type 0} {K : W → Type 0} (control_loan : TakenBox W K → Contro
       → AreSettled (all_seen control_loan xs) → IsSettledControl (seen control_loan x)
   settled_at xs at x low read settled = All-there IsSettledControl at (all_seen control_loan xs) (seen control_loan x) (record_read control_loan xs at x low read) settled
 
-  module _ {V : Type 0} {H : V → Type 0} (loan : TakenBox V H → Loan) (t : WindowManager V H) (kept : IsKept loan t) (m : Controls (TakenBox W K))
+  module _ {V : Type 0} {H : V → Type 0} (loan : TakenBox V H → WindowLoan) (t : WindowManager V H) (kept : IsKept loan t) (m : Controls (TakenBox W K))
       (at : ℕ) (low : at < length t.windows.records.items) (p : Point) (w : Window V H) (there : IsWindowAt t.windows.records.items at w) where
     abbrev cs : List ControlRecord
     cs = records_of control_loan m
@@ -175,7 +175,7 @@ module _ {W : Type 0} {K : W → Type 0} (control_loan : TakenBox W K → Contro
 
 -- ---- steps
 
-module _ {V : Type 0} {H : V → Type 0} (loan : TakenBox V H → Loan) {W : Type 0} {K : W → Type 0} (control_loan : TakenBox W K → ControlLoan)
+module _ {V : Type 0} {H : V → Type 0} (loan : TakenBox V H → WindowLoan) {W : Type 0} {K : W → Type 0} (control_loan : TakenBox W K → ControlLoan)
     (t : WindowManager V H) (m : Controls (TakenBox W K)) where
   -- a point that is none of the range, where nothing is missing
   pub test_refused : (asked : PointAtControl) (s : ControlAt) (o : Opened) → IsSpotOf loan control_loan asked.control t m s → in_plane asked.point ≡ false

@@ -9,7 +9,7 @@ use Rattle.window_items.specs.Items.{count_of}
 use Rattle.window_items.proofs.SeenLemmas.{count_of-seen}
 use Rattle.def_iface.specs.Slots.{TakenBox}
 use Rattle.def_iface.specs.ControlMeaning.{ControlDefinition, ControlLoan}
-use Rattle.def_iface.specs.Meaning.{Loan}
+use Rattle.def_iface.specs.WindowMeaning.{WindowLoan}
 use Rattle.desk_call.specs.declared.control.NewControl.{NewControl}
 use Rattle.vis_update.specs.Records.{WindowRecord, record_of}
 use Rattle.window_list.specs.declared.window.Window.{Window}
@@ -36,7 +36,7 @@ module _ {V : Type 0} {H : V → Type 0} {W : Type 0} {K : W → Type 0} (contro
       → (v : Window V H) → IsWindowAt t.windows.records.items at v → may_be_placed d n.place n.size v.place ≡ true
   placed_where at stands w lies may v is = subst (λ (x : Window V H). may_be_placed d n.place n.size x.place ≡ true) (one_item t.windows.records.items at w v stands.0 lies is) may
 
-module _ {V : Type 0} {H : V → Type 0} (loan : TakenBox V H → Loan) {W : Type 0} {K : W → Type 0} (control_loan : TakenBox W K → ControlLoan)
+module _ {V : Type 0} {H : V → Type 0} (loan : TakenBox V H → WindowLoan) {W : Type 0} {K : W → Type 0} (control_loan : TakenBox W K → ControlLoan)
     (n : NewControl) (d : Option ControlDefinition) (t : WindowManager V H) (m : Controls (TakenBox W K)) where
   -- an answer that is a refusal
   pub refused_so : (r : Result Ticket Refusal) (e : Refusal) → r ≡ Err e → judged_by loan control_loan n d t m ≡ Some e

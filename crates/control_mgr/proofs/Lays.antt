@@ -17,7 +17,7 @@ use Rattle.desk_layers.specs.declared.part.Part.{Part}
 use Rattle.desk_layers.specs.declared.part.Part.TheVariants as part
 use Rattle.def_iface.specs.Slots.{TakenBox}
 use Rattle.def_iface.specs.ControlMeaning.{ControlDefinition, ControlLoan, SameControlRegions, is_control_size}
-use Rattle.def_iface.specs.Meaning.{Loan}
+use Rattle.def_iface.specs.WindowMeaning.{WindowLoan}
 use Rattle.def_iface.specs.Stocked.{SlotView}
 use Rattle.window_list.specs.declared.layer.Layer.{Layer}
 use Rattle.window_list.specs.declared.layer.LayerShape.{LayerShape}
@@ -132,7 +132,7 @@ module _ {W : Type 0} {K : W → Type 0} (control_loan : TakenBox W K → Contro
       changed_then_told (with_lie k) (λ c. refl) at (records_of control_loan m) (all_seen control_loan ds) (records_of control_loan n)
       (there_is (records_of control_loan m) at (subst (λ k. at < k) (sym (length-seen (kept_seen control_loan) m.list.items.items)) low)) set told
 
-module _ {V : Type 0} {H : V → Type 0} (loan : TakenBox V H → Loan) {W : Type 0} {K : W → Type 0} (control_loan : TakenBox W K → ControlLoan) where
+module _ {V : Type 0} {H : V → Type 0} (loan : TakenBox V H → WindowLoan) {W : Type 0} {K : W → Type 0} (control_loan : TakenBox W K → ControlLoan) where
   module _ (c : ControlOf) (t : WindowManager V H) (m : Controls (TakenBox W K)) (s : ControlAt) (is : IsSpotOf loan control_loan c t m s)
       (l : Lie) (may : MayLie control_loan t m s l) (w : Window V H) (lies : IsWindowAt t.windows.records.items s.window w) (index : ℕ) (index_is : index ≡ place_among s.control m.list.items.items) where
     abbrev low : s.window < length t.windows.records.items

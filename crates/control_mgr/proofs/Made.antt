@@ -22,7 +22,7 @@ use Rattle.desk_layers.specs.declared.part.Part.TheVariants as part
 use Rattle.def_iface.specs.ControlMeaning.{ControlDefinition, ControlLoan, IsControlBegun, is_fitting_control}
 use Rattle.def_iface.specs.ControlNews.{new_control_news}
 use Rattle.def_iface.specs.declared.size.Size.{Size}
-use Rattle.def_iface.specs.Meaning.{Loan}
+use Rattle.def_iface.specs.WindowMeaning.{WindowLoan}
 use Rattle.def_iface.specs.Slots.{IsTaken, TakenBox}
 use Rattle.window_list.specs.declared.layer.Layer.{Layer}
 use Rattle.desk_call.specs.declared.control.NewControl.{NewControl}
@@ -145,7 +145,7 @@ begun_with : (n : NewControl) (values : Setting) (old new : ControlDefinition) �
     → IsControlBegun (new_control_news n.size n.title (settled n.minimum n.maximum n.value)) old new
 begun_with n values old new is begun = subst (λ v. IsControlBegun (new_control_news n.size n.title v) old new) is begun
 
-module _ {V : Type 0} {H : V → Type 0} (loan : TakenBox V H → Loan) {W : Type 0} {K : W → Type 0} (control_loan : TakenBox W K → ControlLoan)
+module _ {V : Type 0} {H : V → Type 0} (loan : TakenBox V H → WindowLoan) {W : Type 0} {K : W → Type 0} (control_loan : TakenBox W K → ControlLoan)
     (n : NewControl) (d : ControlDefinition) (t : WindowManager V H) (m : Controls (TakenBox W K)) (a : Addition)
     (kept : IsKept loan t) (beside : AreBeside control_loan loan t m) (addition : IsAddition loan control_loan n d t m a) where
   -- the part that is drawn afresh

@@ -13,7 +13,7 @@ use Rattle.desk_layers.specs.declared.part.Part.{Part}
 use Rattle.def_iface.specs.declared.size.Size.{Size}
 use Rattle.def_iface.specs.Slots.{TakenBox}
 use Rattle.def_iface.specs.ControlMeaning.{ControlLoan, is_control_size}
-use Rattle.def_iface.specs.Meaning.{Loan}
+use Rattle.def_iface.specs.WindowMeaning.{WindowLoan}
 use Rattle.def_iface.specs.Stocked.{SlotView}
 use Rattle.window_list.specs.declared.layer.Layer.{Layer}
 use Rattle.window_list.specs.Holders.{fits_at}
@@ -59,7 +59,7 @@ all_at f [] i l e h = absurd (cc)
 all_at f (k ∷ ks) zero l e h = let same : k ≡ l = cc in ap f (sym same) ∙ (and_parts (f k) (list_all f ks) h).0
 all_at f (k ∷ ks) (suc i) l e h = all_at f ks i l e (and_parts (f k) (list_all f ks) h).1
 
-module _ {V : Type 0} {H : V → Type 0} (loan : TakenBox V H → Loan) {W : Type 0} {K : W → Type 0} (control_loan : TakenBox W K → ControlLoan) where
+module _ {V : Type 0} {H : V → Type 0} (loan : TakenBox V H → WindowLoan) {W : Type 0} {K : W → Type 0} (control_loan : TakenBox W K → ControlLoan) where
   module _ (c : ControlOf) (t : WindowManager V H) (m : Controls (TakenBox W K)) (s : ControlAt) (is : IsSpotOf loan control_loan c t m s) where
     abbrev item : ControlRecord
     item = (record_there loan control_loan c t m s is).item

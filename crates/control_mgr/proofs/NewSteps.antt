@@ -10,7 +10,7 @@ use Rattle.tb_geom.specs.Refusals.{first_refusal}
 use Rattle.desk_layers.specs.declared.part.Part.{Part}
 use Rattle.def_iface.specs.declared.window_def.Stage.{Stage}
 use Rattle.def_iface.specs.ControlMeaning.{ControlDefinition, ControlLoan}
-use Rattle.def_iface.specs.Meaning.{Loan}
+use Rattle.def_iface.specs.WindowMeaning.{WindowLoan}
 use Rattle.def_iface.specs.Slots.{IsNotTaken, IsPutBack, IsTaken, LoanOf, SlotOf, has_kind, holding, is_kind, offered, TakenBox}
 use Rattle.def_iface.specs.Stocked.{SlotView}
 use Rattle.desk_call.specs.declared.control.ControlCall.TheVariants.{New}
@@ -96,7 +96,7 @@ module _ (n : NewControl) (desk : FullDesk) (s : ControlsState) (has : has_kind 
 
 -- ---- steps
 
-module _ {V : Type 0} {H : V → Type 0} (loan : TakenBox V H → Loan) {W : Type 0} {K : W → Type 0} (control_loan : TakenBox W K → ControlLoan) where
+module _ {V : Type 0} {H : V → Type 0} (loan : TakenBox V H → WindowLoan) {W : Type 0} {K : W → Type 0} (control_loan : TakenBox W K → ControlLoan) where
   -- where nothing but the room for controls changed, the controls are the same, and the desk
   pub state_same : (m planned : Controls (TakenBox W K)) → IsRoomier m planned → (kept left : List ControlSlot) → left ≡ kept → controls_state control_loan planned left ≡ controls_state control_loan m kept
   state_same m planned same kept left e = λ i. record { controls = all_seen control_loan (same.controls i); next = same.next i; stock = e i }

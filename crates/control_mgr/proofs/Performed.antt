@@ -4,7 +4,7 @@ use Rattle.tb_geom.specs.declared.refusal.Refusal.{Refusal}
 use Rattle.tb_geom.specs.Points.{PixelSet}
 use Rattle.def_iface.specs.Slots.{TakenBox}
 use Rattle.def_iface.specs.ControlMeaning.{ControlLoan}
-use Rattle.def_iface.specs.Meaning.{Loan}
+use Rattle.def_iface.specs.WindowMeaning.{WindowLoan}
 use Rattle.desk_call.specs.declared.activity.Activity.{Activity}
 use Rattle.desk_call.specs.declared.control.ControlCall.{ControlCall}
 use Rattle.desk_call.specs.declared.control.ControlReply.{ControlReply}
@@ -18,7 +18,7 @@ use Rattle.control_mgr.specs.Spots.{opened}
 use Rattle.control_mgr.specs.WholeControls.{LeavesOver}
 use Rattle.control_mgr.proofs.Steps.{where_right}
 
-module _ {V : Type 0} {H : V → Type 0} (loan : TakenBox V H → Loan) {W : Type 0} {K : W → Type 0} (control_loan : TakenBox W K → ControlLoan) where
+module _ {V : Type 0} {H : V → Type 0} (loan : TakenBox V H → WindowLoan) {W : Type 0} {K : W → Type 0} (control_loan : TakenBox W K → ControlLoan) where
   -- a step that is made, also where the screen is not right
   pub asked_by : (call asked : ControlCall) (result : Result ControlReply Refusal) (kept left : List ControlSlot) (t u : WindowManager V H) (m n : Controls (TakenBox W K)) (o r : Opened) → call ≡ asked
       → LeavesOver control_loan loan kept left (IsControlStep asked result) t o m u r n → LeavesOver control_loan loan kept left (IsWhereRight (IsControlStep call result)) t o m u r n

@@ -5,7 +5,7 @@ use Rattle.control_mgr.specs.Seen.{all_seen}
 use Rattle.window_items.specs.Items.{count_of}
 use Rattle.def_iface.specs.Slots.{TakenBox}
 use Rattle.def_iface.specs.ControlMeaning.{ControlDefinition, ControlLoan}
-use Rattle.def_iface.specs.Meaning.{Loan}
+use Rattle.def_iface.specs.WindowMeaning.{WindowLoan}
 use Rattle.desk_call.specs.declared.control.ControlOf.{ControlOf}
 use Rattle.desk_call.specs.declared.control.NewControl.{NewControl}
 use Rattle.vis_update.specs.declared.area.Area.{Area}
@@ -25,7 +25,7 @@ use Rattle.control_mgr.specs.WholeControls.{AreBeside, AreWholeControls, control
 use Rattle.control_mgr.proofs.LaidSo.{laid_now}
 use Rattle.control_mgr.proofs.NewSteps.{beside_planned}
 
-module _ {V : Type 0} {H : V → Type 0} (loan : TakenBox V H → Loan) {W : Type 0} {K : W → Type 0} (control_loan : TakenBox W K → ControlLoan) where
+module _ {V : Type 0} {H : V → Type 0} (loan : TakenBox V H → WindowLoan) {W : Type 0} {K : W → Type 0} (control_loan : TakenBox W K → ControlLoan) where
   -- a ticket is as good where nothing but the room for controls is another
   ticket_kept : (n : NewControl) (d : Option ControlDefinition) (t : WindowManager V H) (m m' : Controls (TakenBox W K)) (k : Ticket) → IsRoomier m m' → IsTicket control_loan n d t m k → IsTicket control_loan n d t m' k
   ticket_kept n d t m m' k same ticket = record {

@@ -15,7 +15,7 @@ use Rattle.desk_layers.specs.declared.part.Part.TheVariants as part
 use Rattle.def_iface.specs.Slots.{TakenBox}
 use Rattle.def_iface.specs.ControlMeaning.{ControlDefinition, ControlLoan}
 use Rattle.desk_layers.specs.Desk.{same_part}
-use Rattle.def_iface.specs.Meaning.{Loan}
+use Rattle.def_iface.specs.WindowMeaning.{WindowLoan}
 use Rattle.window_list.specs.declared.layer.Layer.{Layer}
 use Rattle.window_list.specs.Holders.{ArePartsApart, PlacedLayers}
 use Rattle.desk_call.specs.declared.control.ControlOf.{ControlOf}
@@ -66,7 +66,7 @@ none_later n s (c ∷ cs) e le =
 
 -- ---- what a step leaves
 
-module _ {V : Type 0} {H : V → Type 0} (loan : TakenBox V H → Loan) {W : Type 0} {K : W → Type 0} (control_loan : TakenBox W K → ControlLoan) where
+module _ {V : Type 0} {H : V → Type 0} (loan : TakenBox V H → WindowLoan) {W : Type 0} {K : W → Type 0} (control_loan : TakenBox W K → ControlLoan) where
   module _ (step : ControlDesk → ControlDesk → Type 0) (stock left : List ControlSlot) (t u : WindowManager V H) (o r : Opened) (m n : Controls (TakenBox W K))
       (leaves : LeavesOver control_loan loan stock left step t o m u r n) (kept : IsKept loan t) (whole : AreWholeControls (desk_of loan t []).windows (controls_state control_loan m stock)) where
     -- the windows are whole still, and the controls beside them

@@ -16,7 +16,7 @@ use Rattle.control_mgr.specs.Fields.{with_highlight}
 use Rattle.window_items.proofs.WindowLemmas.{item_index-edit_at, position_there}
 use Rattle.def_iface.specs.Slots.{TakenBox}
 use Rattle.def_iface.specs.ControlMeaning.{ControlLoan}
-use Rattle.def_iface.specs.Meaning.{Loan}
+use Rattle.def_iface.specs.WindowMeaning.{WindowLoan}
 use Rattle.desk_call.specs.declared.activity.Activity.{Activity}
 use Rattle.desk_call.specs.declared.activity.Activity.TheVariants.{Idle, TrackingControl}
 use Rattle.desk_call.specs.declared.activity.TrackedControl.{TrackedControl}
@@ -58,7 +58,7 @@ near p e = one_fails (not (in_plane p)) OutOfRange (ap not e)
 pub released_agrees : (k : TrackedControl) (p : Point) (part : Option ControlPart) (was is : State) (x : ControlRecord) → was ≡ state_of_control x → is.values ≡ released_setting k p part x → is.highlight ≡ highlight_after k.part was.highlight → is.title ≡ was.title → with_state is x ≡ released k p part x
 released_agrees tracked p part was is x e v h t = λ i. with_kept (λ k. record k { values = v i; highlight = (h ∙ ap (λ (y : State). highlight_after tracked.part y.highlight) e) i; title = (t ∙ ap (λ (y : State). y.title) e) i }) x
 
-module _ {V : Type 0} {H : V → Type 0} (loan : TakenBox V H → Loan) {W : Type 0} {K : W → Type 0} (control_loan : TakenBox W K → ControlLoan) where
+module _ {V : Type 0} {H : V → Type 0} (loan : TakenBox V H → WindowLoan) {W : Type 0} {K : W → Type 0} (control_loan : TakenBox W K → ControlLoan) where
   -- ---- controls shown anew
 
   module _ (c : ControlOf) (t : WindowManager V H) (m : Controls (TakenBox W K)) (s : ControlAt) (is : IsSpotOf loan control_loan c t m s) where

@@ -12,7 +12,7 @@ use Rattle.desk_layers.specs.declared.part.Part.{Part}
 use Rattle.desk_layers.specs.declared.part.Part.TheVariants as part
 use Rattle.def_iface.specs.Slots.{TakenBox}
 use Rattle.def_iface.specs.ControlMeaning.{ControlLoan, IsControlBegun}
-use Rattle.def_iface.specs.Meaning.{Loan}
+use Rattle.def_iface.specs.WindowMeaning.{WindowLoan}
 use Rattle.def_iface.specs.Stocked.{SlotView}
 use Rattle.desk_layers.proofs.Owning.{same_number}
 use Rattle.window_list.specs.declared.layer.Layer.{Layer}
@@ -112,7 +112,7 @@ module _ {W : Type 0} {K : W → Type 0} (control_loan : TakenBox W K → Contro
       changed_settled (with_state s) at (records_of control_loan m) (records_of control_loan n) settled
       (λ c e. let its : IsSettledControl c = All-there IsSettledControl at (records_of control_loan m) c e settled in record { placed = its.placed; fits = its.fits; inside = its.inside; setting = may.setting; highlight = may.highlight }) changed
 
-  module _ {V : Type 0} {H : V → Type 0} (loan : TakenBox V H → Loan) where
+  module _ {V : Type 0} {H : V → Type 0} (loan : TakenBox V H → WindowLoan) where
     -- its layer is there
     pub layer_low : (t : WindowManager V H) (m : Controls (TakenBox W K)) (spot : ControlAt) → IsSpot loan control_loan t m spot → AreBeside control_loan loan t m
         → (w : Window V H) → IsWindowAt t.windows.records.items spot.window w → place_among spot.control m.list.items.items < length w.layers.layers

@@ -10,7 +10,7 @@ use Rattle.control_mgr.specs.Fields.{with_highlight, with_title, with_values}
 use Rattle.desk_layers.specs.declared.part.Part.{Part}
 use Rattle.def_iface.specs.Slots.{TakenBox}
 use Rattle.def_iface.specs.ControlMeaning.{ControlLoan}
-use Rattle.def_iface.specs.Meaning.{Loan}
+use Rattle.def_iface.specs.WindowMeaning.{WindowLoan}
 use Rattle.def_iface.specs.Stocked.{SlotView}
 use Rattle.desk_call.specs.declared.control.ControlCall.{ControlCall}
 use Rattle.desk_call.specs.declared.control.ControlOf.{ControlOf}
@@ -63,7 +63,7 @@ title_agrees n was is c e v h t = λ i. with_kept (λ k. record k {
 pub chosen : {X : Type 0} (b : Bool) (x y z : X) → z ≡ cond b x y → b ≡ true → z ≡ x
 chosen b x y z e h = e ∙ ap (λ t. cond t x y) h
 
-module _ {V : Type 0} {H : V → Type 0} (loan : TakenBox V H → Loan) {W : Type 0} {K : W → Type 0} (control_loan : TakenBox W K → ControlLoan) (c : ControlOf) (t : WindowManager V H) (m : Controls (TakenBox W K)) (s : ControlAt) (is : IsSpotOf loan control_loan c t m s) where
+module _ {V : Type 0} {H : V → Type 0} (loan : TakenBox V H → WindowLoan) {W : Type 0} {K : W → Type 0} (control_loan : TakenBox W K → ControlLoan) (c : ControlOf) (t : WindowManager V H) (m : Controls (TakenBox W K)) (s : ControlAt) (is : IsSpotOf loan control_loan c t m s) where
   -- the control that is named is the one that stands here
   pub named_here : control_of c (records_of control_loan m) ≡ Some (record_there loan control_loan c t m s is).item
   named_here = ap (λ o. option_and_then (slice_get (records_of control_loan m)) o) is.control ∙ (record_there loan control_loan c t m s is).there

@@ -7,7 +7,7 @@ use Rattle.control_mgr.specs.Fields.{with_values}
 use Rattle.control_values.specs.Settings.{Setting}
 use Rattle.def_iface.specs.Slots.{TakenBox}
 use Rattle.def_iface.specs.ControlMeaning.{ControlLoan}
-use Rattle.def_iface.specs.Meaning.{Loan}
+use Rattle.def_iface.specs.WindowMeaning.{WindowLoan}
 use Rattle.desk_call.specs.declared.control.ControlOf.{ControlOf}
 use Rattle.window_mgr.specs.declared.manager.WindowManager.{WindowManager}
 use Rattle.window_mgr.specs.DeskStates.{Opened}
@@ -26,7 +26,7 @@ use Rattle.control_mgr.proofs.Presses.{leaves_alike, window_there}
 use Rattle.control_mgr.proofs.Sets.{state_of_control, state_read, values_agree}
 use Rattle.control_mgr.proofs.Steps.{none_missing}
 
-module _ {V : Type 0} {H : V → Type 0} (loan : TakenBox V H → Loan) {W : Type 0} {K : W → Type 0} (control_loan : TakenBox W K → ControlLoan) (c : ControlOf) (t : WindowManager V H) (m : Controls (TakenBox W K)) where
+module _ {V : Type 0} {H : V → Type 0} (loan : TakenBox V H → WindowLoan) {W : Type 0} {K : W → Type 0} (control_loan : TakenBox W K → ControlLoan) (c : ControlOf) (t : WindowManager V H) (m : Controls (TakenBox W K)) where
   -- where something is missing of it, it is not there
   pub none_there : (e : Refusal) → AreBeside control_loan loan t m → first_refusal (missing_refusals c (desk_of loan t []) (records_of control_loan m)) ≡ Some e → index_of c (records_of control_loan m) ≡ None
   none_there e beside why = by_index (index_of c (records_of control_loan m)) refl

@@ -8,7 +8,7 @@ use Rattle.tb_geom.specs.Refusals.{first_refusal}
 use Rattle.desk_layers.specs.declared.part.Part.{Part}
 use Rattle.def_iface.specs.Slots.{TakenBox}
 use Rattle.def_iface.specs.ControlMeaning.{ControlLoan}
-use Rattle.def_iface.specs.Meaning.{Loan}
+use Rattle.def_iface.specs.WindowMeaning.{WindowLoan}
 use Rattle.def_iface.specs.Stocked.{SlotView}
 use Rattle.desk_call.specs.declared.control.ControlCall.{ControlCall}
 use Rattle.desk_call.specs.declared.control.ControlOf.{ControlOf}
@@ -65,7 +65,7 @@ pub none_missing : (c : ControlOf) (desk : FullDesk) (cs : List ControlRecord) (
     → first_refusal ((gone, NoSuchWindow) ∷ (none, NoSuchControl) ∷ []) ≡ None
 none_missing c desk cs gone none e f = first_fails gone NoSuchWindow ((none, NoSuchControl) ∷ []) e ∙ one_fails none NoSuchControl f
 
-module _ {V : Type 0} {H : V → Type 0} (loan : TakenBox V H → Loan) {W : Type 0} {K : W → Type 0} (control_loan : TakenBox W K → ControlLoan) where
+module _ {V : Type 0} {H : V → Type 0} (loan : TakenBox V H → WindowLoan) {W : Type 0} {K : W → Type 0} (control_loan : TakenBox W K → ControlLoan) where
   -- the desk of windows and controls, as refusals and steps see it, where other layers show this
   abbrev pub desk_seen : (List ℕ → Part → PixelSet) → WindowManager V H → List SlotView → Controls (TakenBox W K) → FullDesk
   desk_seen others t slots m = desk_showing (controls_show others (records_of control_loan m)) (desk_of loan t slots)

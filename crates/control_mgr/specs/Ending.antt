@@ -6,7 +6,7 @@ use Rattle.window_items.specs.Items.{place_among}
 use Rattle.desk_layers.specs.declared.part.Part.TheVariants as part
 use Rattle.def_iface.specs.Slots.{TakenBox}
 use Rattle.def_iface.specs.ControlMeaning.{ControlLoan}
-use Rattle.def_iface.specs.Meaning.{Loan}
+use Rattle.def_iface.specs.WindowMeaning.{WindowLoan}
 use Rattle.window_list.specs.Holders.{ArePartsApart, PlacedLayers, layer_index}
 use Rattle.desk_call.specs.declared.control.ControlOf.{ControlOf}
 use Rattle.window_list.specs.declared.window.Window.{Window}
@@ -37,7 +37,7 @@ abbrev pub update_left : Option Ending → Pixels → Pixels
 update_left None update = update
 update_left (Some e) update = e.relaying.update
 
-module _ {V : Type 0} {H : V → Type 0} (loan : TakenBox V H → Loan) {W : Type 0} {K : W → Type 0} (control_loan : TakenBox W K → ControlLoan) where
+module _ {V : Type 0} {H : V → Type 0} (loan : TakenBox V H → WindowLoan) {W : Type 0} {K : W → Type 0} (control_loan : TakenBox W K → ControlLoan) where
   -- windows and controls of which this one can be ended as it was planned beside the windows `t`, if it is there: its window stands
   -- at this place and has these layers, and of it this is to be redrawn
   pub record IsReadyToEnd (c : ControlOf) (at : ℕ) (ls : PlacedLayers) (update : Pixels) (t u : WindowManager V H) (m : Controls (TakenBox W K)) : Type 0 where

@@ -12,7 +12,7 @@ use Rattle.desk_layers.specs.declared.part.Part.TheVariants as part
 use Rattle.def_iface.specs.Slots.{TakenBox}
 use Rattle.def_iface.specs.ControlMeaning.{ControlDefinition, ControlLoan}
 use Rattle.desk_layers.specs.Desk.{same_part}
-use Rattle.def_iface.specs.Meaning.{Loan}
+use Rattle.def_iface.specs.WindowMeaning.{WindowLoan}
 use Rattle.window_list.specs.declared.layer.Layer.{Layer}
 use Rattle.window_list.specs.Holders.{ArePartsApart, PlacedLayers}
 use Rattle.desk_call.specs.declared.control.NewControl.{NewControl}
@@ -30,7 +30,7 @@ use Rattle.control_mgr.specs.Judged.{may_be_placed}
 use Rattle.control_mgr.specs.Planned.{IsLaidSo}
 use Rattle.control_mgr.specs.WholeControls.{AreBeside, records_of}
 
-module _ {V : Type 0} {H : V → Type 0} (loan : TakenBox V H → Loan) {W : Type 0} {K : W → Type 0} (control_loan : TakenBox W K → ControlLoan) where
+module _ {V : Type 0} {H : V → Type 0} (loan : TakenBox V H → WindowLoan) {W : Type 0} {K : W → Type 0} (control_loan : TakenBox W K → ControlLoan) where
   -- why a control with this definition, or none, may not be made beside these windows
   abbrev pub judged_by : NewControl → Option ControlDefinition → WindowManager V H → Controls (TakenBox W K) → Option Refusal
   judged_by n d t m = first_refusal (judged_refusals n d (desk_of loan t []) (records_of control_loan m) m.list.next)
@@ -75,7 +75,7 @@ module _ {V : Type 0} {H : V → Type 0} {W : Type 0} {K : W → Type 0} (contro
     pub layer : k.layer ≡ count_of n.window (records_of control_loan m)
     pub few : k.layer < most_controls
 
-module _ {V : Type 0} {H : V → Type 0} (loan : TakenBox V H → Loan) {W : Type 0} {K : W → Type 0} (control_loan : TakenBox W K → ControlLoan) where
+module _ {V : Type 0} {H : V → Type 0} (loan : TakenBox V H → WindowLoan) {W : Type 0} {K : W → Type 0} (control_loan : TakenBox W K → ControlLoan) where
   -- windows and controls to which the control of this ticket can be added as it was planned beside the windows `t`: its window has
   -- these layers, of it this is to be redrawn, and there is room
   pub record IsReadyToAdd (n : NewControl) (d : ControlDefinition) (k : Ticket) (ls : PlacedLayers) (update : Pixels) (t u : WindowManager V H) (m : Controls (TakenBox W K)) : Type 0 where

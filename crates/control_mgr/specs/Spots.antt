@@ -3,7 +3,7 @@ use Rattle.std.specs.Prelude.{◌≡◌, ◌<◌, true, false, [], length, Some}
 use Rattle.tb_geom.specs.Points.{PixelSet}
 use Rattle.def_iface.specs.Slots.{TakenBox}
 use Rattle.def_iface.specs.ControlMeaning.{ControlLoan, is_fitting_control}
-use Rattle.def_iface.specs.Meaning.{Loan}
+use Rattle.def_iface.specs.WindowMeaning.{WindowLoan}
 use Rattle.def_iface.specs.declared.window_def.Stage.TheVariants.{Live}
 use Rattle.window_items.specs.Items.{with_kept}
 use Rattle.desk_call.specs.declared.activity.Activity.{Activity}
@@ -37,7 +37,7 @@ pub record IsTellable (c : ControlRecord) : Type 0 where
   pub live : c.kept.definition.definition.stage ≡ Live
   pub fits : is_fitting_control c.kept.definition.definition c.kept.size ≡ true
 
-module _ {V : Type 0} {H : V → Type 0} (loan : TakenBox V H → Loan) {W : Type 0} {K : W → Type 0} (control_loan : TakenBox W K → ControlLoan) where
+module _ {V : Type 0} {H : V → Type 0} (loan : TakenBox V H → WindowLoan) {W : Type 0} {K : W → Type 0} (control_loan : TakenBox W K → ControlLoan) where
   -- the control stands here, and its window
   pub record IsSpotOf (c : ControlOf) (t : WindowManager V H) (m : Controls (TakenBox W K)) (s : ControlAt) : Type 0 where
     pub window : StandsAt t.windows.records.items c.window s.window

@@ -9,7 +9,7 @@ use Rattle.desk_layers.specs.declared.part.Part.{Part}
 use Rattle.def_iface.specs.Slots.{TakenBox}
 use Rattle.def_iface.specs.declared.window_def.Stage.TheVariants.{Live}
 use Rattle.def_iface.specs.ControlMeaning.{ControlDefinition, ControlLoan}
-use Rattle.def_iface.specs.Meaning.{Loan}
+use Rattle.def_iface.specs.WindowMeaning.{WindowLoan}
 use Rattle.def_iface.specs.Stocked.{SlotView}
 use Rattle.desk_call.specs.declared.activity.Activity.{Activity}
 use Rattle.desk_call.specs.declared.activity.Activity.TheVariants.{TrackingControl}
@@ -65,7 +65,7 @@ module _ {W : Type 0} {K : W → Type 0} (control_loan : TakenBox W K → Contro
   controls_state m slots = record { controls = records_of m; next = m.list.next; stock = slots }
 
   -- `loan` says what a window's definition that was taken means
-  module _ {V : Type 0} {H : V → Type 0} (loan : TakenBox V H → Loan) where
+  module _ {V : Type 0} {H : V → Type 0} (loan : TakenBox V H → WindowLoan) where
     -- windows and controls with what is open, as a desk where other layers show this
     abbrev pub control_desk : (List ℕ → Part → PixelSet) → WindowManager V H → Opened → List SlotView → Controls (TakenBox W K)
         → List ControlSlot → ControlDesk

@@ -4,9 +4,9 @@ pub mod Sizes
 pub mod Lines
 pub mod Slots
 pub mod Closing
-pub mod News
-pub mod Meaning
-pub mod Keeping
+pub mod WindowNews
+pub mod WindowMeaning
+pub mod WindowKeeping
 pub mod ControlNews
 pub mod ControlMeaning
 pub mod ControlKeeping

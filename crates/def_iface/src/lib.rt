@@ -4,7 +4,7 @@
 //! "The Control Manager" and "The Menu Manager", "Defining Your Own ..."; IV, "The List Manager Package"): it answers which
 //! pixels belong to a thing of some size, which of its parts a point lies in, and it draws it. The program makes its
 //! definitions, and hands them in as boxes of the traits `WindowDef`, `ControlDef`, `MenuDef` and `ListDef`. The Toolbox knows
-//! no more of a box than the value that the trait's contract gives it (`Definition`, `ControlDefinition`, `MenuDefinition`,
+//! no more of a box than the value that the trait's contract gives it (`WindowDefinition`, `ControlDefinition`, `MenuDefinition`,
 //! `ListDefinition` in specs): its stage, what is a function of the size alone, as its regions, and its picture, which is
 //! asked with a font, the desk's: at each point it has a value in each font. Points are local to the window, control, menu or
 //! list cell, whose content or rectangle begins at 0 0.

@@ -1,6 +1,6 @@
 //! The stock: what the program made, to be taken for use and put back.
 ghost use Rattle.std.specs.Prelude.{◌≡◌, All, []};
-ghost use Rattle.def_iface.specs.Meaning.{Definition};
+ghost use Rattle.def_iface.specs.WindowMeaning.{WindowDefinition};
 ghost use Rattle.def_iface.specs.Slots.{slots_by};
 ghost use Rattle.def_iface.specs.Stocked.{IsFull};
 ghost use Rattle.def_iface.specs.Stocks.{AllSlots, AreAllFull};
@@ -20,7 +20,7 @@ pub struct Stock {
 
 /// Of a stock, its slots of window definitions.
 impl Stocked for Stock {
-    ghost Meaning = { Definition };
+    ghost Meaning = { WindowDefinition };
 
     ghost slots = { λ s. slots_by (λ b. (WindowDef-box b).meaning b.value) s.windows };
 }

@@ -8,7 +8,7 @@ ghost use Rattle.draw_port.specs.Canvases.{canvas_holds, canvas_point, SameFrame
 ghost use Rattle.def_iface.specs.ControlNews.{no_control_news, told_control, new_control_news};
 ghost use Rattle.def_iface.specs.ControlMeaning.{ControlDefinition, SameControlLook, SameControlRegions, ControlHears, IsControlBegun, IsControlDamage};
 ghost use Rattle.def_iface.specs.ControlMeaning.{is_control_size, is_fitting_control, control_size_after};
-ghost use Rattle.def_iface.specs.Meaning.{IsWithin};
+ghost use Rattle.def_iface.specs.WindowMeaning.{IsWithin};
 ghost use Rattle.def_iface.specs.Slots.{loan_by, slots_by};
 
 use crate::{ControlChange, ControlDef, Defined, Held, Size, Slots, Stage, Stocked, Taken};

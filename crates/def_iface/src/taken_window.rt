@@ -7,8 +7,8 @@ ghost use Rattle.bit_blit.specs.Draws.{Draws};
 ghost use Rattle.draw_port.specs.Canvases.{canvas_holds, canvas_point, SameFrame};
 ghost use Rattle.def_iface.specs.Sizes.{is_size};
 ghost use Rattle.def_iface.specs.Lines.{AreApart};
-ghost use Rattle.def_iface.specs.Meaning.{Definition, SameLook, SameRegions, IsWithin, IsBegun, Hears, IsDamage, is_fitting, size_after};
-ghost use Rattle.def_iface.specs.News.{no_news, told_change, new_window_news};
+ghost use Rattle.def_iface.specs.WindowMeaning.{WindowDefinition, SameLook, SameRegions, IsWithin, IsBegun, WindowHears, IsDamage, is_fitting, size_after};
+ghost use Rattle.def_iface.specs.WindowNews.{no_news, told_change, new_window_news};
 ghost use Rattle.def_iface.specs.Slots.{loan_by, slots_by};
 
 use crate::{
@@ -25,7 +25,7 @@ pub type TakenWindow = Taken<Box<dyn WindowDef>>;
 pub type WindowStock = Slots<Box<dyn WindowDef>>;
 
 impl Held for Box<dyn WindowDef> {
-    ghost Meaning = { Definition };
+    ghost Meaning = { WindowDefinition };
 
     ghost meaning = { λ b. (WindowDef-box b).meaning b.value };
 
@@ -43,13 +43,13 @@ impl Held for Box<dyn WindowDef> {
 }
 
 impl Defined for TakenWindow {
-    ghost Meaning = { Definition };
+    ghost Meaning = { WindowDefinition };
 
     ghost loan = { loan_by (λ b. (WindowDef-box b).meaning b.value) };
 }
 
 impl Stocked for WindowStock {
-    ghost Meaning = { Definition };
+    ghost Meaning = { WindowDefinition };
 
     ghost slots = { slots_by (λ b. (WindowDef-box b).meaning b.value) };
 }
@@ -117,7 +117,7 @@ impl TakenWindow {
         ensures live { (⟦<TakenWindow as Defined>⟧.loan self.new).definition.stage ≡ Stage.Live }
         ensures regions { SameRegions (⟦<TakenWindow as Defined>⟧.loan self.old).definition
             (⟦<TakenWindow as Defined>⟧.loan self.new).definition }
-        ensures look { Hears (λ n. n) (⟦<TakenWindow as Defined>⟧.loan self.old).definition
+        ensures look { WindowHears (λ n. n) (⟦<TakenWindow as Defined>⟧.loan self.old).definition
             (⟦<TakenWindow as Defined>⟧.loan self.new).definition }
         ensures slot { (⟦<TakenWindow as Defined>⟧.loan self.new).slot ≡ (⟦<TakenWindow as Defined>⟧.loan self.old).slot }
     {
@@ -135,7 +135,7 @@ impl TakenWindow {
             ≡ size_after change.entry (⟦<TakenWindow as Defined>⟧.loan self.old).definition.size }
         ensures regions { SameRegions (⟦<TakenWindow as Defined>⟧.loan self.old).definition
             (⟦<TakenWindow as Defined>⟧.loan self.new).definition }
-        ensures heard { Hears (told_change change.entry) (⟦<TakenWindow as Defined>⟧.loan self.old).definition
+        ensures heard { WindowHears (told_change change.entry) (⟦<TakenWindow as Defined>⟧.loan self.old).definition
             (⟦<TakenWindow as Defined>⟧.loan self.new).definition }
         ensures damage { IsDamage result (⟦<TakenWindow as Defined>⟧.loan self.old).definition
             (⟦<TakenWindow as Defined>⟧.loan self.new).definition }

@@ -7,7 +7,7 @@ ghost use Rattle.tb_geom.specs.declared.refusal.Refusal.{Refusal};
 ghost use Rattle.desk_layers.specs.Desk.{IsDesk};
 ghost use Rattle.def_iface.specs.ControlMeaning.{ControlGoesBy};
 ghost use Rattle.def_iface.specs.ListMeaning.{ListGoesBy};
-ghost use Rattle.def_iface.specs.Meaning.{GoesBy};
+ghost use Rattle.def_iface.specs.WindowMeaning.{WindowGoesBy};
 ghost use Rattle.desk_layers.specs.Owner.{is_content, owner, own_bit};
 ghost use Rattle.desk_layers.specs.Scratch.{scratch};
 ghost use Rattle.vis_update.specs.Records.{WindowRecord};
@@ -316,14 +316,14 @@ pub fn runs_keep_a_desk_consistent()
 #[tactic(auto, using(crate::proofs::Shown::desk_goes_by_records))]
 pub fn windows_are_shown_by_their_records()
     ensures { (desk : FullDesk) → IsSoundDesk desk → AreInformed desk.windows
-        → All (λ w. GoesBy (news_by_record w) w.definition) desk.windows }
+        → All (λ w. WindowGoesBy (news_by_record w) w.definition) desk.windows }
 {}
 
 /// So is each window of a state that a desk reaches.
 #[tactic(auto, using(crate::proofs::Shown::windows_go_by_records))]
 pub fn windows_of_a_reached_desk_are_shown_by_their_records()
     ensures { (s : ToolboxState) → IsConsistent s
-        → All (λ w. GoesBy (news_by_record w) w.definition) s.desk.windows.desk.windows }
+        → All (λ w. WindowGoesBy (news_by_record w) w.definition) s.desk.windows.desk.windows }
 {}
 
 /// So is each control of such a state, by what its record says.

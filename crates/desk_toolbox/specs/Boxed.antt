@@ -9,7 +9,7 @@ use Rattle.def_iface.specs.declared.stock.Stock.{Stock}
 use Rattle.def_iface.specs.declared.window_def.WindowDef as window_def
 use Rattle.def_iface.specs.ControlMeaning.{ControlLoan}
 use Rattle.def_iface.specs.ListMeaning.{ListLoan}
-use Rattle.def_iface.specs.Meaning.{Loan}
+use Rattle.def_iface.specs.WindowMeaning.{WindowLoan}
 use Rattle.def_iface.specs.MenuMeaning.{MenuLoan}
 use Rattle.def_iface.specs.Slots.{TakenBox}
 use Rattle.def_iface.specs.Slots as slots
@@ -24,7 +24,7 @@ no_slots = record { windows = []; menus = []; controls = []; lists = [] }
 
 -- what was taken, by what the boxes of its kind mean: the definition as a value, and the number of its slot
 module _ {V : Type 0} {H : V → Type 0} (window : (b : DynBox V Global H) → window_def.Ghosts (H b.vtable)) where
-  abbrev pub loan_by : TakenBox V H → Loan
+  abbrev pub loan_by : TakenBox V H → WindowLoan
   loan_by = slots.loan_by (λ (b : DynBox V Global H). (window b).meaning b.value)
 
 module _ {W : Type 0} {K : W → Type 0} (menu : (b : DynBox W Global K) → menu_def.Ghosts (K b.vtable)) where

@@ -6,7 +6,7 @@ use Rattle.std.specs.Str.{bytes_eq}
 use Rattle.tb_geom.specs.Refusals.{first_refusal}
 use Rattle.def_iface.specs.Slots.{TakenBox}
 use Rattle.def_iface.specs.ListMeaning.{ListLoan}
-use Rattle.def_iface.specs.Meaning.{Loan}
+use Rattle.def_iface.specs.WindowMeaning.{WindowLoan}
 use Rattle.list_cells.specs.declared.cell.Cell.{Cell}
 use Rattle.list_cells.specs.Grids.{content_of, first_from, is_cell, search_refusals}
 use Rattle.window_items.specs.declared.item.Item.{Item}
@@ -27,7 +27,7 @@ use Rattle.list_mgr.specs.Spots.{IsSpotOf}
 use Rattle.list_mgr.specs.WholeLists.{IsToldOver, records_of}
 use Rattle.list_mgr.proofs.Steps.{cell_there, its_reasons, list_named, list_read, told, unchanged}
 
-module _ {V : Type 0} {H : V → Type 0} (loan : TakenBox V H → Loan) {X : Type 0} {L : X → Type 0} (list_loan : TakenBox X L → ListLoan)
+module _ {V : Type 0} {H : V → Type 0} (loan : TakenBox V H → WindowLoan) {X : Type 0} {L : X → Type 0} (list_loan : TakenBox X L → ListLoan)
     (t : WindowManager V H) (m : Lists (TakenBox X L)) where
   -- what is told of the list that stands here
   told_is : (l : ListOf) (s : ListAt) (x : Item (ListRecord (TakenBox X L))) → IsSpotOf loan list_loan l t m s → x ≡ get_or m.list.items.items s.list x

@@ -9,7 +9,7 @@ use Rattle.desk_layers.specs.declared.part.Part.TheVariants as part
 use Rattle.def_iface.specs.ControlMeaning.{ControlDefinition, ControlLoan}
 use Rattle.desk_layers.specs.Desk.{same_part}
 use Rattle.def_iface.specs.ListMeaning.{ListLoan}
-use Rattle.def_iface.specs.Meaning.{Loan}
+use Rattle.def_iface.specs.WindowMeaning.{WindowLoan}
 use Rattle.def_iface.specs.Slots.{IsTaken, TakenBox}
 use Rattle.window_list.specs.declared.layer.Layer.{Layer}
 use Rattle.window_list.specs.Holders.{PlacedLayers}
@@ -62,7 +62,7 @@ may_lay_after k n d j ls a grown may = record {
 }
 
 -- a bar is planned, whatever the code calls it and what it is given
-pub bar_planned : {V : Type 0} {H : V → Type 0} (loan : TakenBox V H → Loan) {W : Type 0} {K : W → Type 0} (control_loan : TakenBox W K → ControlLoan)
+pub bar_planned : {V : Type 0} {H : V → Type 0} (loan : TakenBox V H → WindowLoan) {W : Type 0} {K : W → Type 0} (control_loan : TakenBox W K → ControlLoan)
     (window : ℕ) (b : Bar) (d : ControlDefinition) (k given : Ticket) (control : NewControl) (ls was : PlacedLayers) (update stale : Pixels) (t : WindowManager V H) (a : Addition)
     → control ≡ bar_control window b → given ≡ k → was ≡ ls → stale ≡ update → IsGrown control d given was a
     → ((u : WindowManager V H) (c : Controls (TakenBox W K)) → IsReadyToAdd loan control_loan control d given was stale t u c → IsAddition loan control_loan control d u c a)
@@ -92,7 +92,7 @@ place_after {V} {H} n k u v m layers update put place = record {
 
 -- ---- a bar that was added
 
-module _ {V : Type 0} {H : V → Type 0} (loan : TakenBox V H → Loan) {W : Type 0} {K : W → Type 0} (control_loan : TakenBox W K → ControlLoan)
+module _ {V : Type 0} {H : V → Type 0} (loan : TakenBox V H → WindowLoan) {W : Type 0} {K : W → Type 0} (control_loan : TakenBox W K → ControlLoan)
     (window : ℕ) (b : Bar) (good : IsGoodBar b) (d : ControlLoan) (k : Ticket) (few : k.layer < 64) (ls : PlacedLayers) (update : Pixels) (t u : WindowManager V H) (c c' : Controls (TakenBox W K)) (same : IsRoomier c c')
     (ready : IsReadyToAdd loan control_loan (bar_control window b) d.definition k ls update t u c') (a : Addition) (grown : IsGrown (bar_control window b) d.definition k ls a)
     (v : WindowManager V H) (e : Controls (TakenBox W K))

@@ -8,7 +8,7 @@ use Rattle.tb_geom.specs.Refusals.{first_refusal}
 use Rattle.def_iface.specs.Slots.{TakenBox}
 use Rattle.def_iface.specs.ControlMeaning.{ControlLoan}
 use Rattle.desk_layers.specs.Desk.{IsDesk}
-use Rattle.def_iface.specs.Meaning.{Loan}
+use Rattle.def_iface.specs.WindowMeaning.{WindowLoan}
 use Rattle.window_list.specs.Holders.{PlacedLayers}
 use Rattle.desk_call.specs.declared.activity.Activity.TheVariants.{Idle}
 use Rattle.desk_call.specs.declared.control.ControlCall.TheVariants.{Dispose}
@@ -94,7 +94,7 @@ pub bar_out : (n : ℕ) (bar : Option ℕ) → bar ≡ Some n → (at : ℕ) (ls
     → IfOk result (λ planned. IfSome planned (IsTakenOut at (bar_serial bar) ls))
 bar_out n bar is at ls result out = subst (λ b. IfOk result (λ planned. IfSome planned (IsTakenOut at (bar_serial b) ls))) (sym is) out
 
-module _ {W : Type 0} {K : W → Type 0} (control_loan : TakenBox W K → ControlLoan) {V : Type 0} {H : V → Type 0} (loan : TakenBox V H → Loan) where
+module _ {W : Type 0} {K : W → Type 0} (control_loan : TakenBox W K → ControlLoan) {V : Type 0} {H : V → Type 0} (loan : TakenBox V H → WindowLoan) where
   module _ (window n : ℕ) (bar : Option ℕ) (is : bar ≡ Some n) where
     abbrev c : ControlOf
     c = record { window = window; control = n }

@@ -7,7 +7,7 @@ use Rattle.window_items.specs.Items.{count_of, serial_after}
 use Rattle.def_iface.specs.Slots.{TakenBox}
 use Rattle.def_iface.specs.ControlMeaning.{ControlLoan}
 use Rattle.def_iface.specs.ListMeaning.{ListLoan}
-use Rattle.def_iface.specs.Meaning.{Loan}
+use Rattle.def_iface.specs.WindowMeaning.{WindowLoan}
 use Rattle.list_cells.specs.Grids.{Grid, empty_grid}
 use Rattle.list_view.specs.Views.{View}
 use Rattle.list_view.specs.Bars.{horizontal_bar, vertical_bar}
@@ -44,7 +44,7 @@ use Rattle.list_mgr.proofs.GoodBars.{IsRoomFor, bar_placed, first_ticket, good_h
 use Rattle.list_mgr.proofs.ListLayers.{may_lay}
 use Rattle.list_mgr.proofs.NewLists.{horizontal_may, room_for, vertical_may}
 
-module _ {V : Type 0} {H : V → Type 0} (loan : TakenBox V H → Loan) {W : Type 0} {K : W → Type 0} (control_loan : TakenBox W K → ControlLoan) {X : Type 0} {L : X → Type 0} (list_loan : TakenBox X L → ListLoan)
+module _ {V : Type 0} {H : V → Type 0} (loan : TakenBox V H → WindowLoan) {W : Type 0} {K : W → Type 0} (control_loan : TakenBox W K → ControlLoan) {X : Type 0} {L : X → Type 0} (list_loan : TakenBox X L → ListLoan)
     (n : NewList) (k : ListTicket) (d e : ControlLoan) (t : WindowManager V H) (c : Controls (TakenBox W K)) (m : Lists (TakenBox X L)) (kept : IsKept loan t) (took : AreBarsTaken loan control_loan d e t c)
     (lists : AreBeside list_loan loan t m) (may : IsTwoBarTicket loan control_loan list_loan n d.definition e.definition t c m k) where
   pub place : IsPlace n t m k

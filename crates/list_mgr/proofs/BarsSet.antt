@@ -6,7 +6,7 @@ use Rattle.control_values.specs.Settings.{Setting}
 use Rattle.def_iface.specs.Slots.{TakenBox}
 use Rattle.def_iface.specs.ControlMeaning.{ControlLoan}
 use Rattle.def_iface.specs.ListMeaning.{ListLoan}
-use Rattle.def_iface.specs.Meaning.{Loan}
+use Rattle.def_iface.specs.WindowMeaning.{WindowLoan}
 use Rattle.desk_call.specs.declared.activity.Activity.TheVariants.{Idle}
 use Rattle.desk_call.specs.declared.list.ListOf.{ListOf}
 use Rattle.window_items.specs.declared.item.Item.{Item}
@@ -35,7 +35,7 @@ use Rattle.list_mgr.proofs.Edited.{named_settled}
 use Rattle.list_mgr.proofs.ListsBars.{bar_set_keeps}
 use Rattle.list_mgr.proofs.ListsKept.{IsRightLists}
 
-module _ {W : Type 0} {K : W → Type 0} (control_loan : TakenBox W K → ControlLoan) {V : Type 0} {H : V → Type 0} (loan : TakenBox V H → Loan) where
+module _ {W : Type 0} {K : W → Type 0} (control_loan : TakenBox W K → ControlLoan) {V : Type 0} {H : V → Type 0} (loan : TakenBox V H → WindowLoan) where
   pub bar_set : (window : ℕ) (bar : Option ℕ) (n : ℕ) (setting : Setting) (t u : WindowManager V H) (c d : Controls (TakenBox W K)) → bar ≡ Some n
       → ((o r : Opened) → LeavesControls control_loan loan (IsSettingGiven (record { window = window; control = n }) setting) t o c u r d)
       → IsBarSetOver control_loan loan window bar setting t c u d

@@ -14,7 +14,7 @@ use Rattle.tb_geom.specs.Refusals.{first_refusal}
 use Rattle.desk_layers.specs.declared.part.Part.TheVariants as part
 use Rattle.def_iface.specs.Slots.{TakenBox}
 use Rattle.def_iface.specs.ListMeaning.{ListLoan}
-use Rattle.def_iface.specs.Meaning.{Loan}
+use Rattle.def_iface.specs.WindowMeaning.{WindowLoan}
 use Rattle.def_iface.specs.Stocked.{SlotView}
 use Rattle.desk_layers.proofs.Owning.{same_number}
 use Rattle.list_cells.specs.Grids.{Grid}
@@ -86,7 +86,7 @@ module _ {X : Type 0} {L : X → Type 0} (list_loan : TakenBox X L → ListLoan)
 
 -- ---- steps that change nothing
 
-module _ {V : Type 0} {H : V → Type 0} (loan : TakenBox V H → Loan) {X : Type 0} {L : X → Type 0} (list_loan : TakenBox X L → ListLoan)
+module _ {V : Type 0} {H : V → Type 0} (loan : TakenBox V H → WindowLoan) {X : Type 0} {L : X → Type 0} (list_loan : TakenBox X L → ListLoan)
     (t : WindowManager V H) (m n : Lists (TakenBox X L)) (same : records_of list_loan n ≡ records_of list_loan m) (next : n.list.next ≡ m.list.next) where
   lists_same : (kept : List ListSlot) → lists_state list_loan n kept ≡ lists_state list_loan m kept
   lists_same kept = λ i. record { lists = same i; next = next i; stock = kept }
@@ -139,7 +139,7 @@ module _ {V : Type 0} {H : V → Type 0} (loan : TakenBox V H → Loan) {X : Typ
 
 -- ---- a list that was changed
 
-module _ {V : Type 0} {H : V → Type 0} (loan : TakenBox V H → Loan) {X : Type 0} {L : X → Type 0} (list_loan : TakenBox X L → ListLoan)
+module _ {V : Type 0} {H : V → Type 0} (loan : TakenBox V H → WindowLoan) {X : Type 0} {L : X → Type 0} (list_loan : TakenBox X L → ListLoan)
     (l : ListOf) (t : WindowManager V H) (m n : Lists (TakenBox X L)) (s : ListAt) (is : IsSpotOf loan list_loan l t m s)
     (f : KeptList → KeptList) (keeps : Keeps f) (edited : records_of list_loan n ≡ edit_at f s.list (records_of list_loan m)) (next : n.list.next ≡ m.list.next)
     (stays : (x : KeptList) → slice_get (records_of list_loan m) s.list ≡ Some x → IsSettledList x → IsSettledList (f x)) where
@@ -256,14 +256,14 @@ module _ {V : Type 0} {H : V → Type 0} (loan : TakenBox V H → Loan) {X : Typ
       )
 
 -- a call that asks for memory only where the drawing of the list that stands here is off may ask for it
-pub grows_off : {V : Type 0} {H : V → Type 0} (loan : TakenBox V H → Loan) {X : Type 0} {L : X → Type 0} (list_loan : TakenBox X L → ListLoan)
+pub grows_off : {V : Type 0} {H : V → Type 0} (loan : TakenBox V H → WindowLoan) {X : Type 0} {L : X → Type 0} (list_loan : TakenBox X L → ListLoan)
     (l : ListOf) (t : WindowManager V H) (m : Lists (TakenBox X L)) (s : ListAt) → IsSpotOf loan list_loan l t m s → IsDrawing list_loan false m s
     → (kept : List ListSlot) → is_drawing_off l (lists_state list_loan m kept) ≡ true
 grows_off loan list_loan l t m s is (x, there, off) kept =
     ap (λ o. option_map_or (λ (y : KeptList). not y.kept.drawing) o false) (list_named loan list_loan l t m s is x there) ∙ ap not off
 
 -- what a call leaves is a step of another kind as well
-pub changed_as : {V : Type 0} {H : V → Type 0} (loan : TakenBox V H → Loan) {X : Type 0} {L : X → Type 0} (list_loan : TakenBox X L → ListLoan)
+pub changed_as : {V : Type 0} {H : V → Type 0} (loan : TakenBox V H → WindowLoan) {X : Type 0} {L : X → Type 0} (list_loan : TakenBox X L → ListLoan)
     (t u : WindowManager V H) (m n : Lists (TakenBox X L)) (P Q : ListDesk → ListDesk → Type 0)
     → ((o : Opened) (slots : List SlotView) (cs : ControlsState) (kept : List ListSlot) → P (list_desk list_loan loan t o slots cs m kept) (list_desk list_loan loan u o slots cs n kept)
     → Q (list_desk list_loan loan t o slots cs m kept) (list_desk list_loan loan u o slots cs n kept))
@@ -277,7 +277,7 @@ changed_as loan list_loan t u m n P Q same over o slots cs kept whole lists = ag
     again (a, b, c, p) = (a, b, c, same o slots cs kept p)
 
 -- so where the screen was right
-pub right_as : {V : Type 0} {H : V → Type 0} (loan : TakenBox V H → Loan) {X : Type 0} {L : X → Type 0} (list_loan : TakenBox X L → ListLoan)
+pub right_as : {V : Type 0} {H : V → Type 0} (loan : TakenBox V H → WindowLoan) {X : Type 0} {L : X → Type 0} (list_loan : TakenBox X L → ListLoan)
     (t u : WindowManager V H) (m n : Lists (TakenBox X L)) (P Q : ListDesk → ListDesk → Type 0)
     → ((o : Opened) (slots : List SlotView) (cs : ControlsState) (kept : List ListSlot) → P (list_desk list_loan loan t o slots cs m kept) (list_desk list_loan loan u o slots cs n kept)
     → Q (list_desk list_loan loan t o slots cs m kept) (list_desk list_loan loan u o slots cs n kept))
@@ -285,6 +285,6 @@ pub right_as : {V : Type 0} {H : V → Type 0} (loan : TakenBox V H → Loan) {X
 right_as loan list_loan t u m n P Q same = changed_as loan list_loan t u m n (IsWhereRight P) (IsWhereRight Q) (λ o slots cs kept made right. same o slots cs kept (made right))
 
 -- what is made, also where the screen was right
-pub over_right : {V : Type 0} {H : V → Type 0} (loan : TakenBox V H → Loan) {X : Type 0} {L : X → Type 0} (list_loan : TakenBox X L → ListLoan)
+pub over_right : {V : Type 0} {H : V → Type 0} (loan : TakenBox V H → WindowLoan) {X : Type 0} {L : X → Type 0} (list_loan : TakenBox X L → ListLoan)
     (t u : WindowManager V H) (m n : Lists (TakenBox X L)) (P : ListDesk → ListDesk → Type 0) → IsChangedOver list_loan loan P t m u n → IsChangedOver list_loan loan (IsWhereRight P) t m u n
 over_right loan list_loan t u m n P = changed_as loan list_loan t u m n P (IsWhereRight P) (λ o slots cs kept made right. made)

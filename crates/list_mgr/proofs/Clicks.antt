@@ -9,7 +9,7 @@ use Rattle.tb_geom.specs.Rects.{in_plane}
 use Rattle.tb_geom.specs.Refusals.{first_refusal}
 use Rattle.def_iface.specs.Slots.{TakenBox}
 use Rattle.def_iface.specs.ListMeaning.{ListLoan}
-use Rattle.def_iface.specs.Meaning.{Loan}
+use Rattle.def_iface.specs.WindowMeaning.{WindowLoan}
 use Rattle.list_cells.specs.declared.cell.Cell.{Cell}
 use Rattle.list_cells.specs.declared.click.SelectionFlags.{SelectionFlags}
 use Rattle.list_cells.specs.Blocks.{clicked_cell}
@@ -58,7 +58,7 @@ a_word (pos n) h = by_tests (int_le (pos 0) (pos n)) (int_le (pos n) (pos 65535)
     by_tests false b e f = absurd (grind (arith, ints, e))
 a_word (negsuc n) h = absurd h
 
-module _ {V : Type 0} {H : V → Type 0} (loan : TakenBox V H → Loan) {X : Type 0} {L : X → Type 0} (list_loan : TakenBox X L → ListLoan)
+module _ {V : Type 0} {H : V → Type 0} (loan : TakenBox V H → WindowLoan) {X : Type 0} {L : X → Type 0} (list_loan : TakenBox X L → ListLoan)
     (k : ListClick) (t : WindowManager V H) (m : Lists (TakenBox X L)) where
   -- what is looked at where nothing is missing
   abbrev others : List (Bool × Refusal)

@@ -10,7 +10,7 @@ use Rattle.control_values.specs.Settings.{is_in_range, nearest, settled}
 use Rattle.def_iface.specs.Slots.{TakenBox}
 use Rattle.def_iface.specs.ControlMeaning.{ControlDefinition, ControlLoan}
 use Rattle.def_iface.specs.ListMeaning.{ListLoan}
-use Rattle.def_iface.specs.Meaning.{Loan}
+use Rattle.def_iface.specs.WindowMeaning.{WindowLoan}
 use Rattle.window_items.proofs.SeenLemmas as lists_seen
 use Rattle.list_view.specs.declared.axis.Axis.{Axis}
 use Rattle.list_view.specs.Axes.{bound}
@@ -105,7 +105,7 @@ room_of more count (Some s) e =
 
 -- ---- tickets
 
-module _ {V : Type 0} {H : V → Type 0} (loan : TakenBox V H → Loan) {W : Type 0} {K : W → Type 0} (control_loan : TakenBox W K → ControlLoan) where
+module _ {V : Type 0} {H : V → Type 0} (loan : TakenBox V H → WindowLoan) {W : Type 0} {K : W → Type 0} (control_loan : TakenBox W K → ControlLoan) where
   -- nothing but its kind and memory refuses a bar that has its ticket, where its window has fewer controls than it may have
   pub bar_judged : (window : ℕ) (b : Bar) (d : ControlDefinition) (t : WindowManager V H) (c : Controls (TakenBox W K)) (k : Ticket) → IsKept loan t → IsGoodBar b
       → IsTicket control_loan (bar_control window b) (Some d) t c k → k.layer < 64 → control_making.judged_by loan control_loan (bar_control window b) (Some d) t c ≡ None

@@ -4,7 +4,7 @@ use Rattle.std.specs.Prelude.{IfSome, nat_abs, slice_get}
 use Rattle.tb_geom.specs.Refusals.{first_refusal}
 use Rattle.def_iface.specs.Slots.{TakenBox}
 use Rattle.def_iface.specs.ListMeaning.{ListLoan}
-use Rattle.def_iface.specs.Meaning.{Loan}
+use Rattle.def_iface.specs.WindowMeaning.{WindowLoan}
 use Rattle.list_cells.specs.Grids.{Grid, IsGrid, columns_added, columns_deleted, rows_added, rows_deleted}
 use Rattle.list_cells.specs.Runs.{add_refusals, count_to_delete, delete_refusals, place_to_add}
 use Rattle.window_items.specs.declared.item.Item.{Item}
@@ -39,7 +39,7 @@ pub scroll_agrees : {X : Type 0} {L : X → Type 0} (list_loan : TakenBox X L �
     → (x : KeptList) → slice_get (records_of list_loan m) s.list ≡ Some x → IsSameOrNot changes (with_scroll columns rows x) x
 scroll_agrees list_loan m s columns rows changes agree x there = subst (λ o. IfSome o (λ y. IsSameOrNot changes (with_scroll columns rows y) y)) there agree
 
-module _ {V : Type 0} {H : V → Type 0} (loan : TakenBox V H → Loan) {X : Type 0} {L : X → Type 0} (list_loan : TakenBox X L → ListLoan) where
+module _ {V : Type 0} {H : V → Type 0} (loan : TakenBox V H → WindowLoan) {X : Type 0} {L : X → Type 0} (list_loan : TakenBox X L → ListLoan) where
   -- ---- scrolled
 
   -- the list that stands here was changed so, which keeps its place and its drawing, and leaves it settled once it is scrolled back

@@ -5,7 +5,7 @@ use Rattle.tb_geom.specs.declared.rect.Rect.{Rect}
 use Rattle.tb_geom.specs.Refusals.{first_refusal}
 use Rattle.def_iface.specs.Slots.{TakenBox}
 use Rattle.def_iface.specs.ListMeaning.{ListLoan}
-use Rattle.def_iface.specs.Meaning.{Loan}
+use Rattle.def_iface.specs.WindowMeaning.{WindowLoan}
 use Rattle.list_cells.specs.Grids.{Grid, columns_deleted, rows_deleted}
 use Rattle.list_cells.specs.Runs.{count_to_delete, delete_refusals, place_to_add}
 use Rattle.window_items.specs.declared.item.Item.{Item}
@@ -29,7 +29,7 @@ use Rattle.list_mgr.proofs.LinesGiven.{scroll_agrees}
 use Rattle.list_mgr.proofs.Steps.{list_read}
 use Rattle.window_items.proofs.EditLemmas.{there_edited}
 
-module _ {V : Type 0} {H : V → Type 0} (loan : TakenBox V H → Loan) {X : Type 0} {L : X → Type 0} (list_loan : TakenBox X L → ListLoan)
+module _ {V : Type 0} {H : V → Type 0} (loan : TakenBox V H → WindowLoan) {X : Type 0} {L : X → Type 0} (list_loan : TakenBox X L → ListLoan)
     (l : ListOf) (t : WindowManager V H) (m : Lists (TakenBox X L)) (s : ListAt) (is : IsSpotOf loan list_loan l t m s)
     (x : Item (ListRecord (TakenBox X L))) (read : x ≡ get_or m.list.items.items s.list x) where
   -- a list that was read twice has one view

@@ -14,7 +14,7 @@ use Rattle.desk_layers.specs.declared.part.Part.TheVariants as part
 use Rattle.def_iface.specs.Slots.{TakenBox}
 use Rattle.desk_layers.specs.Desk.{same_part}
 use Rattle.def_iface.specs.ListMeaning.{ListLoan}
-use Rattle.def_iface.specs.Meaning.{Loan}
+use Rattle.def_iface.specs.WindowMeaning.{WindowLoan}
 use Rattle.window_list.specs.declared.layer.Layer.{Layer}
 use Rattle.window_list.specs.declared.layers.Relaid.{Relaid}
 use Rattle.window_list.specs.LayerChanges.{is_gained}
@@ -124,7 +124,7 @@ module _ (k : ListTicket) (ls : PlacedLayers) (may : MayLay k ls) (r : Pixels) (
       pub own_low : at < length relaid.layers.layers
       own_low = low_in ls at own index relaid layers_are
 
-      module _ {V : Type 0} {H : V → Type 0} (loan : TakenBox V H → Loan) (update : Pixels) (t u : WindowManager V H) (laid : IsLaidSo loan k.window ls update t u) where
+      module _ {V : Type 0} {H : V → Type 0} (loan : TakenBox V H → WindowLoan) (update : Pixels) (t u : WindowManager V H) (laid : IsLaidSo loan k.window ls update t u) where
         pub planned : ((p : Point) → holds relaid.gained p ≡ is_gained (Some (part.List k.serial)) ls.layers relaid.layers.layers (minus p ls.place)) → (relaying : Relaying)
             → ((v : WindowManager V H) → HasUpdate loan k.window update t v → MayHaveLayers k.window v relaid.layers
             → (afresh : Option Part) → IsPartAt relaid.layers.layers (Some at) afresh → IsGainedAt k.window afresh v relaid → IsPlanOfLayers loan k.window relaid.layers.layers afresh v relaying)
@@ -142,7 +142,7 @@ module _ (k : ListTicket) (ls : PlacedLayers) (may : MayLay k ls) (r : Pixels) (
 
 -- ---- a window as it is
 
-module _ {V : Type 0} {H : V → Type 0} (loan : TakenBox V H → Loan) {X : Type 0} {L : X → Type 0} (list_loan : TakenBox X L → ListLoan)
+module _ {V : Type 0} {H : V → Type 0} (loan : TakenBox V H → WindowLoan) {X : Type 0} {L : X → Type 0} (list_loan : TakenBox X L → ListLoan)
     (n : NewList) (t : WindowManager V H) (m : Lists (TakenBox X L)) (k : ListTicket) (kept : IsKept loan t) (beside : AreBeside list_loan loan t m) (place : IsPlace n t m k) where
   abbrev ls : List KeptList
   ls = records_of list_loan m

@@ -8,7 +8,7 @@ use Rattle.desk_layers.specs.declared.part.Part.{Part}
 use Rattle.desk_layers.specs.declared.part.Part.TheVariants as part
 use Rattle.def_iface.specs.ControlMeaning.{is_control_size}
 use Rattle.def_iface.specs.ListMeaning.{IsListBegun, ListDefinition, ListLoan}
-use Rattle.def_iface.specs.Meaning.{Loan}
+use Rattle.def_iface.specs.WindowMeaning.{WindowLoan}
 use Rattle.def_iface.specs.Slots.{IsTaken, TakenBox}
 use Rattle.def_iface.specs.Stocked.{SlotView}
 use Rattle.desk_layers.proofs.Owning.{same_number}
@@ -88,7 +88,7 @@ module _ {X : Type 0} {L : X → Type 0} (list_loan : TakenBox X L → ListLoan)
 
 -- ---- the list put
 
-module _ {V : Type 0} {H : V → Type 0} (loan : TakenBox V H → Loan) {X : Type 0} {L : X → Type 0} (list_loan : TakenBox X L → ListLoan)
+module _ {V : Type 0} {H : V → Type 0} (loan : TakenBox V H → WindowLoan) {X : Type 0} {L : X → Type 0} (list_loan : TakenBox X L → ListLoan)
     (n : NewList) (k : ListTicket) (t : WindowManager V H) (m : Lists (TakenBox X L)) (p : Planned) (ready : IsReadyToPut loan n k t m p) where
   abbrev layers : List Layer
   layers = p.laid.layers.layers

@@ -10,7 +10,7 @@ use Rattle.def_iface.specs.Slots.{TakenBox}
 use Rattle.def_iface.specs.ListMeaning.{ListLoan}
 use Rattle.desk_layers.specs.Change as plain
 use Rattle.desk_layers.specs.Desk as layers
-use Rattle.def_iface.specs.Meaning.{Loan}
+use Rattle.def_iface.specs.WindowMeaning.{WindowLoan}
 use Rattle.desk_layers.specs.Owner.{Owner, is_content, owner, same_owner}
 use Rattle.desk_layers.specs.Owner.Owner.{Content}
 use Rattle.desk_layers.specs.Scratch.{scratch}
@@ -57,7 +57,7 @@ module _ (was is : List ℕ → Part → PixelSet) (before : FullState) (these :
 
 -- ---- all that a part of a window owns
 
-module _ {V : Type 0} {H : V → Type 0} (loan : TakenBox V H → Loan) (t : WindowManager V H) (at : ℕ) (low : at < length t.windows.records.items) (w : Window V H) (lies : IsWindowAt t.windows.records.items at w)
+module _ {V : Type 0} {H : V → Type 0} (loan : TakenBox V H → WindowLoan) (t : WindowManager V H) (at : ℕ) (low : at < length t.windows.records.items) (w : Window V H) (lies : IsWindowAt t.windows.records.items at w)
     (a : Area) (read : a ≡ get_or t.areas.items at a) (q : Part) (update : Pixels)
     (region : (p : Point) → holds update p ≡ (holds a.update p || (holds a.visible p && belongs_to q w.layers.layers (minus p w.layers.place)))) where
   -- the region is of the window's content
@@ -103,7 +103,7 @@ module _ {V : Type 0} {H : V → Type 0} (loan : TakenBox V H → Loan) (t : Win
 
 -- ---- a part that was shown anew, where controls and lists show together what that showed by itself
 
-module _ {V : Type 0} {H : V → Type 0} (loan : TakenBox V H → Loan) where
+module _ {V : Type 0} {H : V → Type 0} (loan : TakenBox V H → WindowLoan) where
   pub leaves_redrawn : {X : Type 0} {L : X → Type 0} (list_loan : TakenBox X L → ListLoan) (t u : WindowManager V H) (s : ℕ) (q : Part) (within : Rect) (f was is : List ℕ → Part → PixelSet) → LeavesShown list_loan loan (IsPartDrawnWithin within s q) was f t u
       → ((p : Point) → is t.font q p ≡ f t.font q p) → LeavesShown list_loan loan (IsPartDrawnWithin within s q) was is t u
   leaves_redrawn list_loan t u s q within f was is leaves same slots whole =

@@ -3,7 +3,7 @@ use Rattle.std.proofs.Common.{List, sym, subst}
 use Rattle.def_iface.specs.Slots.{TakenBox}
 use Rattle.def_iface.specs.ControlMeaning.{ControlLoan}
 use Rattle.def_iface.specs.ListMeaning.{ListLoan}
-use Rattle.def_iface.specs.Meaning.{Loan}
+use Rattle.def_iface.specs.WindowMeaning.{WindowLoan}
 use Rattle.vis_update.specs.Records.{WindowRecord}
 use Rattle.window_mgr.specs.declared.manager.WindowManager.{WindowManager}
 use Rattle.control_mgr.specs.declared.controls.Controls.{Controls}
@@ -14,7 +14,7 @@ use Rattle.list_mgr.specs.ListDesks.{ListDesk, ListSlot}
 use Rattle.list_mgr.specs.WholeLists.{IsChangedOver, IsToldOver, LeavesOver}
 use Rattle.list_mgr.specs.Within.{IsWhereRight}
 
-module _ {V : Type 0} {H : V → Type 0} (loan : TakenBox V H → Loan) {W : Type 0} {K : W → Type 0} (control_loan : TakenBox W K → ControlLoan) {X : Type 0} {L : X → Type 0} (list_loan : TakenBox X L → ListLoan)
+module _ {V : Type 0} {H : V → Type 0} (loan : TakenBox V H → WindowLoan) {W : Type 0} {K : W → Type 0} (control_loan : TakenBox W K → ControlLoan) {X : Type 0} {L : X → Type 0} (list_loan : TakenBox X L → ListLoan)
     (step : ListDesk → ListDesk → Type 0) (held : List ControlSlot) (kept : List ListSlot) where
   -- a call that leaves the windows, the controls and the lists such a step, also where the screen was right
   pub made_right : (left : List ControlSlot) (rest : List ListSlot) (t u : WindowManager V H) (c d : Controls (TakenBox W K)) (m n : Lists (TakenBox X L)) → LeavesOver list_loan loan control_loan held left kept rest step t c m u d n

@@ -8,7 +8,7 @@ use Rattle.desk_layers.specs.declared.part.Part.{Part}
 use Rattle.desk_layers.specs.declared.part.Part.TheVariants as part
 use Rattle.def_iface.specs.Slots.{TakenBox}
 use Rattle.def_iface.specs.ListMeaning.{ListLoan}
-use Rattle.def_iface.specs.Meaning.{Loan}
+use Rattle.def_iface.specs.WindowMeaning.{WindowLoan}
 use Rattle.desk_layers.specs.Desk.{same_part}
 use Rattle.desk_layers.proofs.Owning.{same_number}
 use Rattle.window_list.specs.declared.layer.Layer.{Layer}
@@ -141,7 +141,7 @@ found_names window serial at ls x found there =
     (subst (λ o. IfSome o (λ i. option_map_or (is_item window serial) (slice_get ls i) false ≡ true)) found (position_there (is_item window serial) ls))
 
 -- what is known of a list that stands here
-module _ {V : Type 0} {H : V → Type 0} (loan : TakenBox V H → Loan) {X : Type 0} {L : X → Type 0} (list_loan : TakenBox X L → ListLoan)
+module _ {V : Type 0} {H : V → Type 0} (loan : TakenBox V H → WindowLoan) {X : Type 0} {L : X → Type 0} (list_loan : TakenBox X L → ListLoan)
     (l : ListOf) (t : WindowManager V H) (m : Lists (TakenBox X L)) (s : ListAt) (is : IsSpotOf loan list_loan l t m s) where
   abbrev ls : List KeptList
   ls = records_of list_loan m

@@ -4,7 +4,7 @@ use Rattle.std.specs.Prelude.{vec_capacity}
 use Rattle.def_iface.specs.Slots.{TakenBox}
 use Rattle.def_iface.specs.ControlMeaning.{ControlLoan}
 use Rattle.def_iface.specs.ListMeaning.{ListLoan}
-use Rattle.def_iface.specs.Meaning.{Loan}
+use Rattle.def_iface.specs.WindowMeaning.{WindowLoan}
 use Rattle.def_iface.specs.Stocked.{SlotView}
 use Rattle.list_cells.specs.Grids.{empty_grid}
 use Rattle.window_items.specs.Items.{count_of}
@@ -55,14 +55,14 @@ place_roomier n k t m m' same place = record {
 }
 
 -- a list that was planned over the layers that its window has can be put
-pub ready_now : {V : Type 0} {H : V → Type 0} {D : Type 0} (loan : TakenBox V H → Loan) (n : NewList) (k : ListTicket) (t : WindowManager V H) (m m' : Lists D) → IsKept loan t → AreRoomier m m' → IsPlace n t m k
+pub ready_now : {V : Type 0} {H : V → Type 0} {D : Type 0} (loan : TakenBox V H → WindowLoan) (n : NewList) (k : ListTicket) (t : WindowManager V H) (m m' : Lists D) → IsKept loan t → AreRoomier m m' → IsPlace n t m k
     → (w : Window V H) → IsWindowAt t.windows.records.items k.window w → (a : Area) → a ≡ get_or t.areas.items k.window a → (p : Planned) → p.cells ≡ empty_grid (nat_abs n.columns) (nat_abs n.rows)
     → ((u : WindowManager V H) → IsLaidSo loan k.window w.layers a.update t u → IsPlanOfList loan k w.layers u p.laid) → length m'.list.items.items < vec_capacity m'.list.items → IsReadyToPut loan n k t m' p
 ready_now loan n k t m m' kept same place w lies a read p cells planned room =
     let laid = laid_now loan t kept k.window place.window.0 a read w lies in
     record { place = place_roomier n k t m m' same place; cells = cells; layers = w.layers; lies = laid.layers; planned = planned t laid; room = room }
 
-module _ {V : Type 0} {H : V → Type 0} (loan : TakenBox V H → Loan) {X : Type 0} {L : X → Type 0} (list_loan : TakenBox X L → ListLoan) where
+module _ {V : Type 0} {H : V → Type 0} (loan : TakenBox V H → WindowLoan) {X : Type 0} {L : X → Type 0} (list_loan : TakenBox X L → ListLoan) where
   -- ---- where nothing but the room for lists changed
 
   module _ (m m' : Lists (TakenBox X L)) (same : AreRoomier m m') where

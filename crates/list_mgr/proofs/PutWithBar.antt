@@ -5,7 +5,7 @@ use Rattle.std.proofs.lemmas.Option.{same_Some}
 use Rattle.window_items.specs.Items.{count_of}
 use Rattle.def_iface.specs.ControlMeaning.{ControlDefinition, ControlLoan}
 use Rattle.def_iface.specs.ListMeaning.{ListLoan}
-use Rattle.def_iface.specs.Meaning.{Loan}
+use Rattle.def_iface.specs.WindowMeaning.{WindowLoan}
 use Rattle.def_iface.specs.Slots.{IsTaken, TakenBox}
 use Rattle.list_cells.specs.Grids.{Grid, empty_grid}
 use Rattle.list_view.specs.Views.{View}
@@ -56,7 +56,7 @@ one_wanted : (v h : Bool) (count : ℕ) (next : Option ℕ) → h ≡ not v → 
 one_wanted true h count next one room = subst (λ x. have_room (1 + (if x then 1 else 0)) count next ≡ true) one room
 one_wanted false h count next one room = subst (λ x. have_room (0 + (if x then 1 else 0)) count next ≡ true) one room
 
-module _ {V : Type 0} {H : V → Type 0} (loan : TakenBox V H → Loan) {W : Type 0} {K : W → Type 0} (control_loan : TakenBox W K → ControlLoan) {X : Type 0} {L : X → Type 0} (list_loan : TakenBox X L → ListLoan)
+module _ {V : Type 0} {H : V → Type 0} (loan : TakenBox V H → WindowLoan) {W : Type 0} {K : W → Type 0} (control_loan : TakenBox W K → ControlLoan) {X : Type 0} {L : X → Type 0} (list_loan : TakenBox X L → ListLoan)
     (n : NewList) (k : ListTicket) (d : ControlLoan) (t : WindowManager V H) (c : Controls (TakenBox W K)) (m : Lists (TakenBox X L)) (kept : IsKept loan t) (took : IsBarTaken loan control_loan d t c)
     (lists : AreBeside list_loan loan t m) (may : IsOneBarTicket loan control_loan list_loan n d.definition t c m k) where
   abbrev vertical : Option ControlDefinition

@@ -9,7 +9,7 @@ use Rattle.tb_geom.specs.Pixels.{Pixels}
 use Rattle.def_iface.specs.Slots.{TakenBox}
 use Rattle.def_iface.specs.ControlMeaning.{ControlLoan}
 use Rattle.def_iface.specs.ListMeaning.{ListLoan}
-use Rattle.def_iface.specs.Meaning.{Loan}
+use Rattle.def_iface.specs.WindowMeaning.{WindowLoan}
 use Rattle.def_iface.specs.Stocked.{SlotView}
 use Rattle.window_items.specs.Items.{edit_at}
 use Rattle.desk_call.specs.declared.list.ListOf.{ListOf}
@@ -44,7 +44,7 @@ use Rattle.list_mgr.proofs.Steps.{list_there}
 -- ---- windows whose records are the same
 
 -- a window stands where it stood
-stands_alike : {V : Type 0} {H : V → Type 0} (loan : TakenBox V H → Loan) (ws vs : List (Window V H)) → map (record_of loan) vs ≡ map (record_of loan) ws → (s i : ℕ) → StandsAt ws s i → StandsAt vs s i
+stands_alike : {V : Type 0} {H : V → Type 0} (loan : TakenBox V H → WindowLoan) (ws vs : List (Window V H)) → map (record_of loan) vs ≡ map (record_of loan) ws → (s i : ℕ) → StandsAt ws s i → StandsAt vs s i
 stands_alike loan ws vs same s i stands =
     let low : i < length vs = subst (λ n. i < n) (sym (length-map ws (record_of loan)) ∙ ap length (sym same) ∙ length-map vs (record_of loan)) stands.0 in
     let w = there_is ws i stands.0 in (
@@ -57,7 +57,7 @@ stands_alike loan ws vs same s i stands =
           ap (λ (r : WindowRecord). r.serial) one ∙ stands.1 w.item (read_is ws i w.item w.there),
     )
 
-module _ {V : Type 0} {H : V → Type 0} (loan : TakenBox V H → Loan) {X : Type 0} {L : X → Type 0} (list_loan : TakenBox X L → ListLoan) where
+module _ {V : Type 0} {H : V → Type 0} (loan : TakenBox V H → WindowLoan) {X : Type 0} {L : X → Type 0} (list_loan : TakenBox X L → ListLoan) where
   -- what shows a list or marks it keeps the windows' records
   shown_windows : (within : Rect) (mark : Option Pixels) (changes : Bool) (s : ListAt) (m : Lists (TakenBox X L)) (t u : WindowManager V H) → IsShownOrMarked list_loan loan within mark changes s m t u
       → (x : KeptList) → slice_get (records_of list_loan m) s.list ≡ Some x → (slots : List SlotView) → IsWholeManager loan t slots
@@ -164,7 +164,7 @@ module _ {V : Type 0} {H : V → Type 0} (loan : TakenBox V H → Loan) {X : Typ
 
 -- ---- steps that leave controls
 
-module _ {V : Type 0} {H : V → Type 0} (loan : TakenBox V H → Loan) {X : Type 0} {L : X → Type 0} (list_loan : TakenBox X L → ListLoan) {W : Type 0} {K : W → Type 0} (control_loan : TakenBox W K → ControlLoan) where
+module _ {V : Type 0} {H : V → Type 0} (loan : TakenBox V H → WindowLoan) {X : Type 0} {L : X → Type 0} (list_loan : TakenBox X L → ListLoan) {W : Type 0} {K : W → Type 0} (control_loan : TakenBox W K → ControlLoan) where
   pub leaves_controls : (step : ListDesk → ListDesk → Type 0) (t u : WindowManager V H) (m n : Lists (TakenBox X L)) (c : Controls (TakenBox W K))
       → IsChangedOver list_loan loan step t m u n → LeavesLists list_loan loan control_loan step t c m u c n
   leaves_controls step t u m n c over held kept o slots whole controls lists = again (over o slots (controls_state control_loan c held) kept whole lists)

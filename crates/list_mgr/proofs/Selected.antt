@@ -9,7 +9,7 @@ use Rattle.tb_geom.specs.Rects.{empty_rect}
 use Rattle.desk_layers.specs.declared.part.Part.TheVariants as part
 use Rattle.def_iface.specs.Slots.{TakenBox}
 use Rattle.def_iface.specs.ListMeaning.{ListLoan}
-use Rattle.def_iface.specs.Meaning.{Loan}
+use Rattle.def_iface.specs.WindowMeaning.{WindowLoan}
 use Rattle.def_iface.specs.Stocked.{SlotView}
 use Rattle.list_cells.specs.declared.click.SelectionFlags.{SelectionFlags}
 use Rattle.list_cells.specs.declared.selecting.Selecting.{Selecting}
@@ -73,7 +73,7 @@ unseen : (b : Bool) (l : ListOf) (g : Grid → Grid) (x : KeptList) (before afte
 unseen true l g x before after off h = absurd (true≢false off)
 unseen false l g x before after off h = h
 
-module _ {V : Type 0} {H : V → Type 0} (loan : TakenBox V H → Loan) {X : Type 0} {L : X → Type 0} (list_loan : TakenBox X L → ListLoan)
+module _ {V : Type 0} {H : V → Type 0} (loan : TakenBox V H → WindowLoan) {X : Type 0} {L : X → Type 0} (list_loan : TakenBox X L → ListLoan)
     (l : ListOf) (t : WindowManager V H) (m : Lists (TakenBox X L)) (s : ListAt) (is : IsSpotOf loan list_loan l t m s)
     (x : Item (ListRecord (TakenBox X L))) (read : x ≡ get_or m.list.items.items s.list x)
     (h : SelectionFlags → Grid → Grid) (cells : Grid) (now : cells ≡ h x.kept.flags x.kept.cells) (selecting : Selecting) (chosen : IsSelecting x.kept.cells (h x.kept.flags x.kept.cells) selecting)

@@ -9,7 +9,7 @@ use Rattle.desk_layers.specs.declared.part.Part.{Part}
 use Rattle.desk_layers.specs.declared.part.Part.TheVariants as part
 use Rattle.def_iface.specs.Slots.{TakenBox}
 use Rattle.def_iface.specs.ListMeaning.{ListLoan}
-use Rattle.def_iface.specs.Meaning.{Loan}
+use Rattle.def_iface.specs.WindowMeaning.{WindowLoan}
 use Rattle.def_iface.specs.Stocked.{SlotView}
 use Rattle.window_list.specs.declared.layer.Layer.{Layer}
 use Rattle.window_list.specs.Holders.{belongs_to}
@@ -39,7 +39,7 @@ use Rattle.list_mgr.proofs.Steps.{list_there}
 of_layer : (within : Rect) (s : ℕ) (l : Layer) (before after : FullState) → IsLayerDrawnWithin within s l before after → IsPartDrawnWithin within s l.part before after
 of_layer within s l before after drawn = record { desk = drawn.desk; redrawn = λ right same. drawn.redrawn right (λ p has out. same p out) }
 
-module _ {V : Type 0} {H : V → Type 0} (loan : TakenBox V H → Loan) {X : Type 0} {L : X → Type 0} (list_loan : TakenBox X L → ListLoan)
+module _ {V : Type 0} {H : V → Type 0} (loan : TakenBox V H → WindowLoan) {X : Type 0} {L : X → Type 0} (list_loan : TakenBox X L → ListLoan)
     (t : WindowManager V H) (m : Lists (TakenBox X L)) (s : ListAt) (spot : IsSpot loan list_loan t m s) where
   -- its window
   window : IsThere t.windows.records.items s.window

@@ -7,7 +7,7 @@ use Rattle.tb_geom.specs.declared.refusal.Refusal.TheVariants.{NoSuchCell, NoSuc
 use Rattle.tb_geom.specs.Refusals.{first_refusal}
 use Rattle.def_iface.specs.Slots.{TakenBox}
 use Rattle.def_iface.specs.ListMeaning.{ListLoan}
-use Rattle.def_iface.specs.Meaning.{Loan}
+use Rattle.def_iface.specs.WindowMeaning.{WindowLoan}
 use Rattle.def_iface.specs.Stocked.{SlotView}
 use Rattle.list_cells.specs.declared.cell.Cell.{Cell}
 use Rattle.list_cells.specs.Grids.{is_cell}
@@ -32,7 +32,7 @@ use Rattle.list_mgr.specs.ListSteps.{IsListEffect, IsListStep}
 use Rattle.list_mgr.specs.Spots.{IsSpotOf}
 use Rattle.list_mgr.specs.WholeLists.{IsToldOver, list_desk, lists_state, records_of}
 
-module _ {V : Type 0} {H : V → Type 0} (loan : TakenBox V H → Loan) {X : Type 0} {L : X → Type 0} (list_loan : TakenBox X L → ListLoan) where
+module _ {V : Type 0} {H : V → Type 0} (loan : TakenBox V H → WindowLoan) {X : Type 0} {L : X → Type 0} (list_loan : TakenBox X L → ListLoan) where
   pub unchanged : (t : WindowManager V H) (o : Opened) (slots : List SlotView) (cs : ControlsState) (m : Lists (TakenBox X L)) (kept : List ListSlot)
       → IsListDeskUnchanged (list_desk list_loan loan t o slots cs m kept) (list_desk list_loan loan t o slots cs m kept)
   unchanged t o slots cs m kept = record {

@@ -3,7 +3,7 @@ use Rattle.std.specs.Prelude.{◌≡◌, ℕ, List, [], Option, None, Some, unwr
 use Rattle.tb_geom.specs.Pixels.{Pixels}
 use Rattle.def_iface.specs.Slots.{TakenBox}
 use Rattle.def_iface.specs.ControlMeaning.{ControlLoan}
-use Rattle.def_iface.specs.Meaning.{Loan}
+use Rattle.def_iface.specs.WindowMeaning.{WindowLoan}
 use Rattle.def_iface.specs.Stocked.{SlotView}
 use Rattle.window_list.specs.Holders.{PlacedLayers}
 use Rattle.desk_call.specs.declared.control.ControlOf.{ControlOf}
@@ -27,7 +27,7 @@ bar_serial bar = unwrap_or bar 0
 abbrev pub bar_of : ℕ → Option ℕ → ControlOf
 bar_of window bar = record { window = window; control = bar_serial bar }
 
-module _ {W : Type 0} {K : W → Type 0} (control_loan : TakenBox W K → ControlLoan) {V : Type 0} {H : V → Type 0} (loan : TakenBox V H → Loan) where
+module _ {W : Type 0} {K : W → Type 0} (control_loan : TakenBox W K → ControlLoan) {V : Type 0} {H : V → Type 0} (loan : TakenBox V H → WindowLoan) where
   -- the end of a scroll bar was planned, if a list was made with one and the window has it still, and else nothing was
   abbrev pub IsBarToEnd : ℕ → Option ℕ → WindowManager V H → Controls (TakenBox W K) → Option Ending → Type 0
   IsBarToEnd window None t m planned = planned ≡ None

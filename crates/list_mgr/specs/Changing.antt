@@ -8,7 +8,7 @@ use Rattle.desk_layers.specs.declared.part.Part.{Part}
 use Rattle.desk_layers.specs.declared.part.Part.TheVariants as part
 use Rattle.def_iface.specs.Slots.{TakenBox}
 use Rattle.def_iface.specs.ListMeaning.{ListLoan}
-use Rattle.def_iface.specs.Meaning.{Loan}
+use Rattle.def_iface.specs.WindowMeaning.{WindowLoan}
 use Rattle.def_iface.specs.Stocked.{SlotView}
 use Rattle.window_list.specs.declared.layer.Layer.{Layer}
 use Rattle.list_cells.specs.declared.selecting.Selecting.{Selecting}
@@ -47,7 +47,7 @@ module _ {X : Type 0} {L : X → Type 0} (list_loan : TakenBox X L → ListLoan)
   abbrev pub IsDrawing : Bool → Lists (TakenBox X L) → ListAt → Type 0
   IsDrawing drawing m s = (x : KeptList) × (slice_get (records_of list_loan m) s.list ≡ Some x) × (x.kept.drawing ≡ drawing)
 
-  module _ {V : Type 0} {H : V → Type 0} (loan : TakenBox V H → Loan) where
+  module _ {V : Type 0} {H : V → Type 0} (loan : TakenBox V H → WindowLoan) where
     -- the region is the update region of the window that the list stands in, with all that the list owns
     abbrev pub IsMarkedRegion : WindowManager V H → Lists (TakenBox X L) → ListAt → Pixels → Type 0
     IsMarkedRegion t m s update = (w : Window V H) (a : Area) (x : KeptList) → IsWindowAt t.windows.records.items s.window w

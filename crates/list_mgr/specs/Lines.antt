@@ -6,7 +6,7 @@ use Rattle.control_values.specs.Settings.{Setting}
 use Rattle.def_iface.specs.Slots.{TakenBox}
 use Rattle.def_iface.specs.ControlMeaning.{ControlLoan}
 use Rattle.def_iface.specs.ListMeaning.{ListLoan}
-use Rattle.def_iface.specs.Meaning.{Loan}
+use Rattle.def_iface.specs.WindowMeaning.{WindowLoan}
 use Rattle.def_iface.specs.Stocked.{SlotView}
 use Rattle.desk_call.specs.declared.list.ListOf.{ListOf}
 use Rattle.window_mgr.specs.declared.manager.WindowManager.{WindowManager}
@@ -25,7 +25,7 @@ use Rattle.list_mgr.specs.Spots.{IsSpotOf}
 use Rattle.list_mgr.specs.WholeLists.{LeavesLists}
 use Rattle.list_mgr.specs.Within.{IsBarGiven, IsWhereRight}
 
-module _ {W : Type 0} {K : W → Type 0} (control_loan : TakenBox W K → ControlLoan) {V : Type 0} {H : V → Type 0} (loan : TakenBox V H → Loan) where
+module _ {W : Type 0} {K : W → Type 0} (control_loan : TakenBox W K → ControlLoan) {V : Type 0} {H : V → Type 0} (loan : TakenBox V H → WindowLoan) where
   -- windows and controls with these lists, as a desk
   abbrev pub desk_beside : WindowManager V H → Opened → List SlotView → Controls (TakenBox W K) → List ControlSlot → ListsState → ListDesk
   desk_beside t o slots c held lists = record {

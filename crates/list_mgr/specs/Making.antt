@@ -6,7 +6,7 @@ use Rattle.tb_geom.specs.Refusals.{first_refusal}
 use Rattle.def_iface.specs.Slots.{TakenBox}
 use Rattle.def_iface.specs.ControlMeaning.{ControlDefinition, ControlLoan}
 use Rattle.def_iface.specs.ListMeaning.{ListLoan}
-use Rattle.def_iface.specs.Meaning.{Loan}
+use Rattle.def_iface.specs.WindowMeaning.{WindowLoan}
 use Rattle.window_items.specs.Items as controls
 use Rattle.list_cells.specs.Clicks.{flags_number}
 use Rattle.list_cells.specs.Runs.{new_refusals}
@@ -42,7 +42,7 @@ room_refusals n controls next_control ls next =
     (nat_le most_lists (count_of n.window ls) || is_none next, TooMany)
     ∷ (not (have_room (bars_wanted n) controls next_control), TooMany) ∷ []
 
-module _ {V : Type 0} {H : V → Type 0} (loan : TakenBox V H → Loan) {W : Type 0} {K : W → Type 0} (control_loan : TakenBox W K → ControlLoan)
+module _ {V : Type 0} {H : V → Type 0} (loan : TakenBox V H → WindowLoan) {W : Type 0} {K : W → Type 0} (control_loan : TakenBox W K → ControlLoan)
     {X : Type 0} {L : X → Type 0} (list_loan : TakenBox X L → ListLoan) where
   -- why a list whose bars would have these definitions, or none, may not be made
   abbrev pub judged_by : NewList → (vertical horizontal : Option ControlDefinition) → WindowManager V H → Controls (TakenBox W K) → Lists (TakenBox X L) → Option Refusal

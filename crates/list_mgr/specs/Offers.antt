@@ -8,7 +8,7 @@ use Rattle.tb_geom.specs.Refusals.{first_refusal}
 use Rattle.def_iface.specs.declared.window_def.Stage.{Stage}
 use Rattle.def_iface.specs.ControlMeaning.{ControlDefinition, ControlLoan}
 use Rattle.def_iface.specs.ListMeaning.{ListDefinition, ListLoan}
-use Rattle.def_iface.specs.Meaning.{Loan}
+use Rattle.def_iface.specs.WindowMeaning.{WindowLoan}
 use Rattle.def_iface.specs.Slots.{IsIdle, IsPutBack, IsTaken, LoanOf, SlotOf, first_offer, is_left, TakenBox}
 use Rattle.desk_call.specs.declared.list.NewList.{NewList}
 use Rattle.window_mgr.specs.declared.manager.WindowManager.{WindowManager}
@@ -84,7 +84,7 @@ module _ {W : Type 0} {K : W → Type 0} (control_loan : TakenBox W K → Contro
     horizontal = option_map control_loan o.horizontal;
   }
 
-  module _ {V : Type 0} {H : V → Type 0} (loan : TakenBox V H → Loan) where
+  module _ {V : Type 0} {H : V → Type 0} (loan : TakenBox V H → WindowLoan) where
     -- they were taken out of some stocks, over which the controls are whole
     pub record AreOutBeside (n : NewList) (o : Offered) (t : WindowManager V H) (c : Controls (TakenBox W K)) : Type 0 where
       pub rest : List ListSlot

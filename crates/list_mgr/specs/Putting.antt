@@ -7,7 +7,7 @@ use Rattle.desk_layers.specs.declared.part.Part.TheVariants as part
 use Rattle.def_iface.specs.ControlMeaning.{ControlDefinition, ControlLoan}
 use Rattle.desk_layers.specs.Desk.{same_part}
 use Rattle.def_iface.specs.ListMeaning.{ListLoan}
-use Rattle.def_iface.specs.Meaning.{Loan}
+use Rattle.def_iface.specs.WindowMeaning.{WindowLoan}
 use Rattle.def_iface.specs.Slots.{IsTaken, TakenBox}
 use Rattle.def_iface.specs.Stocked.{SlotView}
 use Rattle.window_list.specs.declared.layer.Layer.{Layer}
@@ -68,7 +68,7 @@ pub record MayLay (k : ListTicket) (ls : PlacedLayers) : Type 0 where
   pub fits : is_in_range (moved_rect (view_rect k.view) ls.place.h ls.place.v) ≡ true
 
 -- `loan` says what a window's definition that was taken means
-module _ {V : Type 0} {H : V → Type 0} (loan : TakenBox V H → Loan) where
+module _ {V : Type 0} {H : V → Type 0} (loan : TakenBox V H → WindowLoan) where
   -- these layers with that of the list of this ticket behind them, which the window in `u` may have, and what changes by them
   pub record IsPlanOfList (k : ListTicket) (ls : PlacedLayers) (u : WindowManager V H) (l : Laid) : Type 0 where
     pub layer : Layer
@@ -92,7 +92,7 @@ pub record IsPlace {V : Type 0} {H : V → Type 0} {D : Type 0} (n : NewList) (t
   pub few : count_of n.window m.list.items.items < most_lists
 
 -- windows and lists among which the list of this ticket can be put as it was planned
-pub record IsReadyToPut {V : Type 0} {H : V → Type 0} {D : Type 0} (loan : TakenBox V H → Loan) (n : NewList) (k : ListTicket) (t : WindowManager V H) (m : Lists D) (p : Planned) : Type 0 where
+pub record IsReadyToPut {V : Type 0} {H : V → Type 0} {D : Type 0} (loan : TakenBox V H → WindowLoan) (n : NewList) (k : ListTicket) (t : WindowManager V H) (m : Lists D) (p : Planned) : Type 0 where
   pub place : IsPlace n t m k
   pub cells : p.cells ≡ empty_grid (nat_abs n.columns) (nat_abs n.rows)
   pub layers : PlacedLayers
@@ -103,7 +103,7 @@ pub record IsReadyToPut {V : Type 0} {H : V → Type 0} {D : Type 0} (loan : Tak
 -- ---- lists that are put
 
 -- `list_loan` says it of a list's
-module _ {X : Type 0} {L : X → Type 0} (list_loan : TakenBox X L → ListLoan) {V : Type 0} {H : V → Type 0} (loan : TakenBox V H → Loan) where
+module _ {X : Type 0} {L : X → Type 0} (list_loan : TakenBox X L → ListLoan) {V : Type 0} {H : V → Type 0} (loan : TakenBox V H → WindowLoan) where
   -- over any slots over which the windows are whole, and over these of the lists' stock, whatever the controls that are whole, all
   -- are whole afterwards, the controls as they were, and together they are such a step of the desk
   abbrev pub LeavesBeside : List ListSlot → List ListSlot → (ListDesk → ListDesk → Type 0)
@@ -116,7 +116,7 @@ module _ {X : Type 0} {L : X → Type 0} (list_loan : TakenBox X L → ListLoan)
 
 -- ---- scroll bars
 
-module _ {V : Type 0} {H : V → Type 0} (loan : TakenBox V H → Loan) {W : Type 0} {K : W → Type 0} (control_loan : TakenBox W K → ControlLoan) where
+module _ {V : Type 0} {H : V → Type 0} (loan : TakenBox V H → WindowLoan) {W : Type 0} {K : W → Type 0} (control_loan : TakenBox W K → ControlLoan) where
   -- a scroll bar's definition was taken out of a stock over which the controls are whole
   pub record IsBarTaken (d : ControlLoan) (t : WindowManager V H) (c : Controls (TakenBox W K)) : Type 0 where
     pub before : List ControlSlot

@@ -6,7 +6,7 @@ use Rattle.def_iface.specs.declared.size.Size.{Size}
 use Rattle.def_iface.specs.declared.window_def.Stage.TheVariants.{Live}
 use Rattle.def_iface.specs.ControlMeaning.{ControlLoan}
 use Rattle.def_iface.specs.ListMeaning.{ListDefinition, ListGoesBy, ListLoan}
-use Rattle.def_iface.specs.Meaning.{Loan}
+use Rattle.def_iface.specs.WindowMeaning.{WindowLoan}
 use Rattle.def_iface.specs.Stocked.{SlotView}
 use Rattle.list_cells.specs.Contents.{bytes_held}
 use Rattle.list_cells.specs.Grids.{Grid, IsGrid}
@@ -92,7 +92,7 @@ module _ {X : Type 0} {L : X → Type 0} (list_loan : TakenBox X L → ListLoan)
   lists_state m slots = record { lists = records_of m; next = m.list.next; stock = slots }
 
   -- `loan` says it of a window's
-  module _ {V : Type 0} {H : V → Type 0} (loan : TakenBox V H → Loan) where
+  module _ {V : Type 0} {H : V → Type 0} (loan : TakenBox V H → WindowLoan) where
     -- the lists are whole beside these windows over some slots
     pub record AreBeside (t : WindowManager V H) (m : Lists (TakenBox X L)) : Type 0 where
       pub slots : List ListSlot

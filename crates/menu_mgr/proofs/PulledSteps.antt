@@ -8,7 +8,7 @@ use Rattle.tb_geom.specs.Points.{PixelSet}
 use Rattle.tb_geom.specs.Rects.{in_plane}
 use Rattle.tb_geom.specs.Refusals.{first_refusal}
 use Rattle.def_iface.specs.Slots.{TakenBox}
-use Rattle.def_iface.specs.Meaning.{Loan}
+use Rattle.def_iface.specs.WindowMeaning.{WindowLoan}
 use Rattle.def_iface.specs.MenuMeaning.{MenuLoan, is_menu_size}
 use Rattle.def_iface.specs.Stocked.{SlotView}
 use Rattle.menu_list.specs.declared.listed.Listed.{Listed}
@@ -47,7 +47,7 @@ still d = record {
   menus = refl;
 }
 
-module _ {V : Type 0} {H : V → Type 0} (loan : TakenBox V H → Loan) {W : Type 0} {K : W → Type 0} (menu_loan : TakenBox W K → MenuLoan) where
+module _ {V : Type 0} {H : V → Type 0} (loan : TakenBox V H → WindowLoan) {W : Type 0} {K : W → Type 0} (menu_loan : TakenBox W K → MenuLoan) where
   abbrev pub seen_menus : Menus W K → List MenuRecord
   seen_menus m = menus_of menu_loan m.list.menus.items
 

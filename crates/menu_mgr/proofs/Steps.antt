@@ -7,7 +7,7 @@ use Rattle.tb_geom.specs.declared.refusal.Refusal.TheVariants.{NoSuchMenu}
 use Rattle.tb_geom.specs.Points.{PixelSet}
 use Rattle.tb_geom.specs.Refusals.{first_refusal}
 use Rattle.def_iface.specs.Slots.{TakenBox}
-use Rattle.def_iface.specs.Meaning.{Loan}
+use Rattle.def_iface.specs.WindowMeaning.{WindowLoan}
 use Rattle.def_iface.specs.MenuMeaning.{MenuLoan}
 use Rattle.def_iface.specs.Stocked.{SlotView}
 use Rattle.menu_list.specs.declared.listed.Listed.{Listed}
@@ -116,7 +116,7 @@ module _ {W : Type 0} {K : W → Type 0} (menu_loan : TakenBox W K → MenuLoan)
 
 -- ---- steps
 
-module _ {V : Type 0} {H : V → Type 0} (loan : TakenBox V H → Loan) {W : Type 0} {K : W → Type 0} (menu_loan : TakenBox W K → MenuLoan) where
+module _ {V : Type 0} {H : V → Type 0} (loan : TakenBox V H → WindowLoan) {W : Type 0} {K : W → Type 0} (menu_loan : TakenBox W K → MenuLoan) where
   -- windows and menus are whole, and this step led to them
   abbrev Leaves : MenuCall → Result MenuReply Refusal → List SlotView → WindowManager V H → WindowManager V H → Opened → Opened → Menus W K → Menus W K → List MenuSlot → List MenuSlot → Type 0
   Leaves call result slots t u o r m n before after =

@@ -6,7 +6,7 @@ use Rattle.tb_geom.specs.Pixels.{Pixels, holds}
 use Rattle.bit_map.specs.Bits.{Bits, bit}
 use Rattle.desk_layers.specs.declared.part.Part.{Part}
 use Rattle.desk_layers.specs.Desk.{on_screen}
-use Rattle.def_iface.specs.Meaning.{IsWithin}
+use Rattle.def_iface.specs.WindowMeaning.{IsWithin}
 use Rattle.desk_layers.specs.Scratch.{painted, content_layers, window_layers, layers_of, scratch}
 use Rattle.window_list.specs.declared.layer.Layer.{Layer}
 use Rattle.vis_update.specs.Records.{WindowRecord, Look, content_layer, layered_window}

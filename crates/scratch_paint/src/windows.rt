@@ -7,7 +7,7 @@ ghost use Rattle.tb_geom.specs.Rects.{in_plane};
 ghost use Rattle.scan_region.specs.Moves.{StaysInRange};
 ghost use Rattle.bit_blit.specs.Draws.{Draws};
 ghost use Rattle.draw_port.specs.Ops.{picture_bit};
-ghost use Rattle.def_iface.specs.News.{no_news};
+ghost use Rattle.def_iface.specs.WindowNews.{no_news};
 ghost use Rattle.window_list.specs.Holders.{layer_has};
 ghost use Rattle.vis_update.specs.Records.{record_of};
 ghost use Rattle.window_mgr.specs.Whole.{IsSettled};

@@ -10,7 +10,7 @@ use Rattle.tb_geom.specs.declared.point.Point.{Point}
 use Rattle.tb_geom.specs.Points.{PixelSet, minus}
 use Rattle.tb_geom.specs.Pixels.{Pixels, holds}
 use Rattle.def_iface.specs.Slots.{TakenBox}
-use Rattle.def_iface.specs.Meaning.{Loan}
+use Rattle.def_iface.specs.WindowMeaning.{WindowLoan}
 use Rattle.desk_layers.specs.Desk as layers
 use Rattle.desk_layers.specs.Desk.{LayeredDesk}
 use Rattle.desk_layers.specs.Owner.{Owner, owner, owner_among, same_owner, is_content}
@@ -32,7 +32,7 @@ use Rattle.vis_update.proofs.Sweeping.{AreSwept}
 use Rattle.vis_update.proofs.Takings.{Reaches, Taking, taking, taken_is, around_is, reaches_behind}
 use Rattle.vis_update.proofs.Sources.{kept_or_stale, stale_is, erase_is, copied_is}
 
-module _ {V : Type 0} {H : V → Type 0} (loan : TakenBox V H → Loan) (t : Touch) (look : Look) (before : State) (after : LayeredDesk) (changed : Pixels) (changes : IsChangedArea before.desk after changed) where
+module _ {V : Type 0} {H : V → Type 0} (loan : TakenBox V H → WindowLoan) (t : Touch) (look : Look) (before : State) (after : LayeredDesk) (changed : Pixels) (changes : IsChangedArea before.desk after changed) where
   -- outside the changed area nothing gets another owner
   same_outside : (is_its : Owner → Bool) (p : Point) → holds changed p ≡ false → (layers.on_screen before.desk p && is_its (owner before.desk p)) ≡ (layers.on_screen after p && is_its (owner after p))
   same_outside is_its p e = by_screen (layers.on_screen after p) refl

@@ -6,8 +6,8 @@ use Rattle.draw_port.specs.declared.shapes.Op.{Op}
 use Rattle.draw_port.specs.Ops.{picture_bit}
 use Rattle.def_iface.specs.declared.size.Size.{Size}
 use Rattle.def_iface.specs.Slots.{TakenBox}
-use Rattle.def_iface.specs.Meaning.{Definition, Loan}
-use Rattle.def_iface.specs.News.{AllNews, no_news}
+use Rattle.def_iface.specs.WindowMeaning.{WindowDefinition, WindowLoan}
+use Rattle.def_iface.specs.WindowNews.{AllWindowNews, no_news}
 use Rattle.desk_layers.specs.Desk as layers
 use Rattle.desk_layers.specs.declared.part.Part.{Part}
 use Rattle.desk_layers.specs.declared.part.Part.TheVariants.{Picture}
@@ -38,7 +38,7 @@ pub record WindowRecord : Type 0 where
   pub origin : Point
   -- its controls and lists, from front to back, in its own coordinates
   pub layers : List Layer
-  pub definition : Definition
+  pub definition : WindowDefinition
   -- the slot of the stock that the definition came from
   pub slot : ℕ
 
@@ -46,7 +46,7 @@ abbrev pub is_floating : WindowRecord → Bool
 is_floating w = w.floating
 
 -- all that the window's definition was told last
-abbrev pub news_of : WindowRecord → AllNews
+abbrev pub news_of : WindowRecord → AllWindowNews
 news_of w = record {
   size = w.size;
   title = w.title;
@@ -89,7 +89,7 @@ layered_window look w = record {
 }
 
 -- `loan` says what a definition that was taken means
-module _ {V : Type 0} {H : V → Type 0} (loan : TakenBox V H → Loan) where
+module _ {V : Type 0} {H : V → Type 0} (loan : TakenBox V H → WindowLoan) where
   abbrev pub record_of : Window V H → WindowRecord
   record_of w = record {
     serial = w.serial;

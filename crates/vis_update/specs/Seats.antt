@@ -4,7 +4,7 @@ use Rattle.tb_geom.specs.declared.point.Point.{Point}
 use Rattle.tb_geom.specs.Points.{PixelSet}
 use Rattle.tb_geom.specs.Pixels.{Pixels, holds}
 use Rattle.def_iface.specs.Slots.{TakenBox}
-use Rattle.def_iface.specs.Meaning.{Loan}
+use Rattle.def_iface.specs.WindowMeaning.{WindowLoan}
 use Rattle.desk_layers.specs.Desk.{LayeredDesk, IsDesk, on_screen, in_bar}
 use Rattle.desk_layers.specs.Owner.{owner}
 use Rattle.desk_layers.specs.Change.{State}
@@ -58,7 +58,7 @@ module _ {V : Type 0} {H : V → Type 0} where
     pub area : s.area.now ≡ a
 
 -- `loan` says what a definition that was taken means
-module _ {V : Type 0} {H : V → Type 0} (loan : TakenBox V H → Loan) where
+module _ {V : Type 0} {H : V → Type 0} (loan : TakenBox V H → WindowLoan) where
   abbrev pub seat_stand : Seat V H → Stand
   seat_stand s = record {
     serial = s.serial;

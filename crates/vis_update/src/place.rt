@@ -1,7 +1,7 @@
 //! Where a window may be.
 ghost use Rattle.std.specs.Prelude.{◌≡◌, ◌&&◌, true, Some, None, IfOk};
 ghost use Rattle.tb_geom.specs.Rects.{is_in_range, moved_rect, rect_holds};
-ghost use Rattle.def_iface.specs.Meaning.{IsWithin};
+ghost use Rattle.def_iface.specs.WindowMeaning.{IsWithin};
 ghost use Rattle.vis_update.specs.Places.{IsRegionsAt, is_placed};
 
 use def_iface::{Defined, Size, TakenWindow, WindowRegions};

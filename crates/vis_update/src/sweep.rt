@@ -11,7 +11,7 @@ ghost use Rattle.tb_geom.specs.Points.{minus};
 ghost use Rattle.tb_geom.specs.Rects.{rect_holds};
 ghost use Rattle.tb_geom.specs.Pixels.{holds};
 ghost use Rattle.desk_layers.specs.Desk.{LayeredDesk};
-ghost use Rattle.def_iface.specs.Meaning.{IsWithin};
+ghost use Rattle.def_iface.specs.WindowMeaning.{IsWithin};
 ghost use Rattle.desk_layers.specs.Change.{State};
 ghost use Rattle.vis_update.specs.Records.{WindowRecord, Look};
 ghost use Rattle.vis_update.specs.Areas.{IsNear, IsDesktop};

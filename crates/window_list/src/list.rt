@@ -3,7 +3,7 @@ ghost use Rattle.std.specs.Prelude.{◌≡◌, true, ◌<◌, ◌≤◌, nat_lt,
 ghost use Rattle.std.specs.List.{remove, list_all, prefix_len};
 ghost use Rattle.std.specs.Option.{option_map};
 ghost use Rattle.tb_geom.specs.Rects.{in_plane};
-ghost use Rattle.def_iface.specs.Meaning.{is_fitting};
+ghost use Rattle.def_iface.specs.WindowMeaning.{is_fitting};
 ghost use Rattle.window_list.specs.Holders.{fits_at};
 ghost use Rattle.window_list.specs.Classes.{front_place, back_place};
 ghost use Rattle.window_list.specs.Ranks.{moved_item};

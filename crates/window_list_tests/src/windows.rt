@@ -1,6 +1,6 @@
 //! Lists of windows, and of values in an order of their own.
 ghost use Rattle.std.specs.Prelude.{◌≡◌, ◌<◌, [], length, true, IfOk, OnOk, Some};
-ghost use Rattle.def_iface.specs.Meaning.{is_fitting};
+ghost use Rattle.def_iface.specs.WindowMeaning.{is_fitting};
 
 use def_iface::{Defined, Size, Stage, TakenWindow, WindowChange, WindowDef, WindowStock};
 use draw_port::{Op, Picture, Shape};

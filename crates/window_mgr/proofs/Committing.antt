@@ -7,7 +7,7 @@ use Rattle.tb_geom.specs.Points.{minus}
 use Rattle.tb_geom.specs.Pixels.{Pixels, holds}
 use Rattle.bit_map.specs.Bits.{Bits, on_map, bit}
 use Rattle.bit_map.specs.Patterns.{pattern_bit}
-use Rattle.def_iface.specs.News.{no_news}
+use Rattle.def_iface.specs.WindowNews.{no_news}
 use Rattle.desk_layers.specs.Desk as layers
 use Rattle.desk_layers.specs.Desk.{LayeredDesk}
 use Rattle.desk_layers.specs.declared.part.Part.{Part as Layer}

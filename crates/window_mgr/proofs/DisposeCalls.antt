@@ -6,7 +6,7 @@ use Rattle.std.proofs.lemmas.List.Elements.{All-head}
 use Rattle.tb_geom.specs.declared.refusal.Refusal.TheVariants.{NoMemory}
 use Rattle.def_iface.specs.Slots.{TakenBox}
 use Rattle.def_iface.specs.declared.window_def.Stage.TheVariants.{Live}
-use Rattle.def_iface.specs.Meaning.{Loan}
+use Rattle.def_iface.specs.WindowMeaning.{WindowLoan}
 use Rattle.def_iface.specs.Stocked.{SlotView, is_left}
 use Rattle.desk_layers.specs.Owner.{frame_bit}
 use Rattle.desk_layers.specs.Change.{IsChanged, no_change}
@@ -42,7 +42,7 @@ use Rattle.window_mgr.proofs.Steps.{found, not_missing}
 use Rattle.window_mgr.proofs.Arranged.{IsArrangedCall, is_left as arranged_is_left, is_whole as arranged_is_whole, spares as arranged_spares}
 use Rattle.window_mgr.specs.Sparing.{Spares}
 
-module _ {V : Type 0} {H : V → Type 0} (loan : TakenBox V H → Loan) where
+module _ {V : Type 0} {H : V → Type 0} (loan : TakenBox V H → WindowLoan) where
   -- ---- a window of the list, and the rest
 
   module _ (t : WindowManager V H) (at : ℕ) (w : Window V H) (w_is : IsWindowAt t.windows.records.items at w) (low : at < length t.windows.records.items) where

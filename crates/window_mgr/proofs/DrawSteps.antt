@@ -9,7 +9,7 @@ use Rattle.bit_map.specs.Bits.{on_map, bit}
 use Rattle.bit_blit.specs.Draws.{Draws}
 use Rattle.draw_port.specs.Ops.{op_value}
 use Rattle.def_iface.specs.Slots.{TakenBox}
-use Rattle.def_iface.specs.Meaning.{Loan}
+use Rattle.def_iface.specs.WindowMeaning.{WindowLoan}
 use Rattle.def_iface.specs.Stocked.{SlotView}
 use Rattle.desk_layers.specs.Desk as layers
 use Rattle.desk_layers.specs.declared.part.Part.TheVariants.{Picture}
@@ -43,7 +43,7 @@ use Rattle.std.proofs.lemmas.Option.{slice_get_within, get_or_from_slice_get}
 
 -- ---- the desk before and after
 
-module _ {V : Type 0} {H : V → Type 0} (loan : TakenBox V H → Loan) (t new : WindowManager V H) (slots : List SlotView) (d : Drawing) (at : ℕ) (whole : IsWholeManager loan t slots) (may : MayDraw d t at) (D : IsDrawnAt at d t new) where
+module _ {V : Type 0} {H : V → Type 0} (loan : TakenBox V H → WindowLoan) (t new : WindowManager V H) (slots : List SlotView) (d : Drawing) (at : ℕ) (whole : IsWholeManager loan t slots) (may : MayDraw d t at) (D : IsDrawnAt at d t new) where
   abbrev before : FullDesk
   before = desk_of loan t slots
 
@@ -130,7 +130,7 @@ module _ {V : Type 0} {H : V → Type 0} (loan : TakenBox V H → Loan) (t new :
 
 -- ---- the call, where nothing but want of memory can refuse it
 
-module _ {V : Type 0} {H : V → Type 0} (loan : TakenBox V H → Loan) (t u : WindowManager V H) (d : Drawing) (at : ℕ) (may : MayDraw d t at) where
+module _ {V : Type 0} {H : V → Type 0} (loan : TakenBox V H → WindowLoan) (t u : WindowManager V H) (d : Drawing) (at : ℕ) (may : MayDraw d t at) where
   pub draws : IsDrawnAt at d t u → IsStepOverAnySlots loan (Draw d) (Ok Done) t u
   draws drawn slots whole = (
     is_whole loan t u slots d at whole may drawn,

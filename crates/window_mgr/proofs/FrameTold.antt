@@ -12,12 +12,12 @@ use Rattle.tb_geom.specs.Rects.{in_plane, is_in_range, moved_rect, rect_holds}
 use Rattle.bit_map.specs.Bits.{Bits, on_map, bit}
 use Rattle.bit_blit.specs.Draws.{Draws, IsWritten}
 use Rattle.window_mgr.specs.Sparing.{IsRepainted, Repaints}
-use Rattle.def_iface.specs.News.{no_news, told_change}
+use Rattle.def_iface.specs.WindowNews.{no_news, told_change}
 use Rattle.def_iface.specs.declared.size.Size.{Size}
 use Rattle.def_iface.specs.Slots.{TakenBox}
 use Rattle.def_iface.specs.declared.window_def.WindowChange.{WindowChange}
 use Rattle.def_iface.specs.declared.window_def.WindowChange.TheVariants.{Resized, Titled, Highlighted, Closable, Zoomed, Tracked}
-use Rattle.def_iface.specs.Meaning.{Definition, Loan, IsWithin}
+use Rattle.def_iface.specs.WindowMeaning.{WindowDefinition, WindowLoan, IsWithin}
 use Rattle.def_iface.specs.Sizes.{is_size}
 use Rattle.def_iface.specs.Stocked.{SlotView}
 use Rattle.desk_layers.specs.Desk as layers
@@ -96,7 +96,7 @@ frame_in look (y ∷ ys) (suc i) w p distinct e its =
 
 -- ---- the window's record, in the list
 
-module _ {V : Type 0} {H : V → Type 0} (loan : TakenBox V H → Loan) where
+module _ {V : Type 0} {H : V → Type 0} (loan : TakenBox V H → WindowLoan) where
   -- its layers lie where they did
   told_lies : (change : WindowChange) (x : Window V H) (taken : TakenBox V H) → LieThere x → LieThere (record (with_change change x) { taken = taken })
   told_lies (Resized s) x taken its = its
@@ -132,7 +132,7 @@ module _ {V : Type 0} {H : V → Type 0} (loan : TakenBox V H → Loan) where
     abbrev w : WindowRecord
     w = record_of loan x
 
-    abbrev d : Definition
+    abbrev d : WindowDefinition
     d = (loan T.taken).definition
 
     abbrev v : WindowRecord

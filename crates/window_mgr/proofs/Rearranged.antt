@@ -13,7 +13,7 @@ use Rattle.desk_layers.specs.Desk as layers
 use Rattle.desk_layers.specs.Owner.{Owner, owner, own_bit, content_bit, frame_bit, is_content}
 use Rattle.desk_layers.specs.Owner.Owner.{Desktop, Bar, Frame, Content}
 use Rattle.desk_layers.specs.Change as plain
-use Rattle.def_iface.specs.News.{no_news}
+use Rattle.def_iface.specs.WindowNews.{no_news}
 use Rattle.desk_layers.proofs.Owning.{same_number}
 use Rattle.vis_update.specs.Records.{WindowRecord, Look, layered_window}
 use Rattle.vis_update.specs.Seats.{stand_of}

@@ -13,7 +13,7 @@ use Rattle.tb_geom.specs.Rects.{in_plane}
 use Rattle.bit_map.specs.Bits.{bit}
 use Rattle.draw_port.specs.declared.shapes.Op.{Op}
 use Rattle.def_iface.specs.Slots.{TakenBox}
-use Rattle.def_iface.specs.Meaning.{Loan}
+use Rattle.def_iface.specs.WindowMeaning.{WindowLoan}
 use Rattle.def_iface.specs.Stocked.{SlotView}
 use Rattle.desk_layers.specs.declared.part.Part.{Part}
 use Rattle.desk_layers.specs.Desk as layers
@@ -89,7 +89,7 @@ module _ (look : Look) (s : ℕ) (picture : WindowRecord → List Op) (origin : 
       let first = not_first (w.serial == s) (layered_window look w) (layers.window_of s (map (layered_window look) ws)) none in
       λ i. one (first.0 i) w ∷ untouched ws first.1 i
 
-  module _ {V : Type 0} {H : V → Type 0} (loan : TakenBox V H → Loan) where
+  module _ {V : Type 0} {H : V → Type 0} (loan : TakenBox V H → WindowLoan) where
     abbrev pub put_anew : Window V H → Window V H
     put_anew x = record x { picture = picture (record_of loan x); origin = origin (record_of loan x) }
 
@@ -123,7 +123,7 @@ module _ (look : Look) (s : ℕ) (picture : WindowRecord → List Op) (origin : 
 
 -- ---- the area of a window
 
-module _ {V : Type 0} {H : V → Type 0} (loan : TakenBox V H → Loan) (t : WindowManager V H) (slots : List SlotView) (whole : IsWholeManager loan t slots) (at s : ℕ) (x : Window V H) (there : slice_get t.windows.records.items at ≡ Some x) (number : x.serial ≡ s) where
+module _ {V : Type 0} {H : V → Type 0} (loan : TakenBox V H → WindowLoan) (t : WindowManager V H) (slots : List SlotView) (whole : IsWholeManager loan t slots) (at s : ℕ) (x : Window V H) (there : slice_get t.windows.records.items at ≡ Some x) (number : x.serial ≡ s) where
   abbrev desk : LayeredDesk
   desk = layered_desk (desk_of loan t slots)
 
@@ -139,7 +139,7 @@ module _ {V : Type 0} {H : V → Type 0} (loan : TakenBox V H → Loan) (t : Win
 
 -- ---- all that is known where one window got another picture, or has it elsewhere
 
-module _ {V : Type 0} {H : V → Type 0} (loan : TakenBox V H → Loan) (s : ℕ) (picture : WindowRecord → List Op) (origin : WindowRecord → Point) where
+module _ {V : Type 0} {H : V → Type 0} (loan : TakenBox V H → WindowLoan) (s : ℕ) (picture : WindowRecord → List Op) (origin : WindowRecord → Point) where
   pub record IsRepictured (at : ℕ) (t new : WindowManager V H) : Type 0 where
     pub window : Window V H
     pub there : slice_get t.windows.records.items at ≡ Some window

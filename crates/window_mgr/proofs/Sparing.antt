@@ -27,7 +27,7 @@ use Rattle.window_mgr.specs.FullDesk.{FullDesk, FullState, layered_desk, layered
 use Rattle.window_mgr.specs.Commits.{erased, redrawn, planned_times}
 use Rattle.window_mgr.specs.Sparing.{IsSparing, Spares, is_frame, moving_content}
 use Rattle.def_iface.specs.Slots.{TakenBox}
-use Rattle.def_iface.specs.Meaning.{Loan}
+use Rattle.def_iface.specs.WindowMeaning.{WindowLoan}
 use Rattle.window_mgr.specs.declared.manager.WindowManager.{WindowManager}
 use Rattle.window_mgr.proofs.Committing.{IsReady, AreApart, apart_from, copied_by, uncovered_by, found, of_content, of_frame, on_same}
 
@@ -338,6 +338,6 @@ sparing_none m d before after a = record {
   changed = λ p on ne. absurd (ne refl);
 }
 
-module _ {V : Type 0} {H : V → Type 0} (loan : TakenBox V H → Loan) where
+module _ {V : Type 0} {H : V → Type 0} (loan : TakenBox V H → WindowLoan) where
   pub spares_same : (s : ℕ) (by : Option Point) (t : WindowManager V H) → Spares loan s by t t
   spares_same s by t = sparing_none _ _ _ _ t.screen

@@ -2,7 +2,7 @@
 use Rattle.std.specs.Prelude.{ℕ, Bool, not, ◌&&◌, if◌then◌else◌, ◌==◌, List, [], ◌∷◌, Option, None, Some}
 use Rattle.tb_geom.specs.declared.point.Point.{Point}
 use Rattle.tb_geom.specs.Points.{minus}
-use Rattle.def_iface.specs.News.{no_news}
+use Rattle.def_iface.specs.WindowNews.{no_news}
 use Rattle.def_iface.specs.declared.window_def.Hit.{Hit}
 use Rattle.def_iface.specs.declared.window_def.Hit.TheVariants as hit
 use Rattle.desk_layers.specs.Desk.{on_screen}

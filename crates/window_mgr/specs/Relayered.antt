@@ -9,7 +9,7 @@ use Rattle.tb_geom.specs.Pixels.{Pixels, holds}
 use Rattle.tb_geom.specs.Rects.{rect_holds}
 use Rattle.desk_layers.specs.declared.part.Part.{Part}
 use Rattle.def_iface.specs.Slots.{TakenBox}
-use Rattle.def_iface.specs.Meaning.{Loan}
+use Rattle.def_iface.specs.WindowMeaning.{WindowLoan}
 use Rattle.desk_layers.specs.Desk.{LayeredDesk}
 use Rattle.desk_layers.specs.Owner.{same_owner}
 use Rattle.desk_layers.specs.Owner.Owner.{Content}
@@ -94,7 +94,7 @@ module _ {V : Type 0} {H : V → Type 0} where
       → IsGained w.place afresh w.layers.layers relaid.layers.layers relaid.gained
 
 -- `loan` says what a definition that was taken means
-module _ {V : Type 0} {H : V → Type 0} (loan : TakenBox V H → Loan) where
+module _ {V : Type 0} {H : V → Type 0} (loan : TakenBox V H → WindowLoan) where
   -- a window manager between calls in which as much of the content of the window at this place is visible, and of which this
   -- is to be redrawn
   pub record HasUpdate (at : ℕ) (update : Pixels) (t u : WindowManager V H) : Type 0 where

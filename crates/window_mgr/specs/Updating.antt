@@ -5,7 +5,7 @@ use Rattle.tb_geom.specs.declared.point.Point.{Point}
 use Rattle.tb_geom.specs.Points.{PixelSet}
 use Rattle.tb_geom.specs.Pixels.{Pixels, holds}
 use Rattle.def_iface.specs.Slots.{TakenBox}
-use Rattle.def_iface.specs.Meaning.{Loan}
+use Rattle.def_iface.specs.WindowMeaning.{WindowLoan}
 use Rattle.def_iface.specs.Stocked.{SlotView}
 use Rattle.desk_layers.specs.Desk.{on_screen}
 use Rattle.desk_layers.specs.declared.part.Part.{Part}
@@ -43,7 +43,7 @@ pub record IsRefreshed (these : Owner → Bool) (before after : FullState) : Typ
   pub pixels : IsChanged (refresh_change these before) (layered_state before) (layered_state after)
 
 -- `loan` says what a definition that was taken means
-module _ {V : Type 0} {H : V → Type 0} (loan : TakenBox V H → Loan) where
+module _ {V : Type 0} {H : V → Type 0} (loan : TakenBox V H → WindowLoan) where
   -- over any slots over which the window manager is whole it is whole afterwards, and its state is such a one
   abbrev pub LeavesState : (FullState → FullState → Type 0) → WindowManager V H → WindowManager V H → Type 0
   LeavesState after old new = (slots : List SlotView) → IsWholeManager loan old slots

@@ -2,7 +2,7 @@
 use Rattle.std.specs.Prelude.{◌≡◌, ℕ, List, [], map, None, true}
 use Rattle.std.specs.List.{remove}
 use Rattle.def_iface.specs.Slots.{TakenBox}
-use Rattle.def_iface.specs.Meaning.{Loan}
+use Rattle.def_iface.specs.WindowMeaning.{WindowLoan}
 use Rattle.desk_layers.specs.Desk.{IsDesk}
 use Rattle.window_list.specs.declared.window.Window.{Window}
 use Rattle.vis_update.specs.declared.area.Area.{Area}
@@ -31,7 +31,7 @@ module _ {V : Type 0} {H : V → Type 0} where
     pub is : seats ≡ remove all at
 
 -- `loan` says what a definition that was taken means
-module _ {V : Type 0} {H : V → Type 0} (loan : TakenBox V H → Loan) where
+module _ {V : Type 0} {H : V → Type 0} (loan : TakenBox V H → WindowLoan) where
   -- the records of the windows but the one at this place
   abbrev pub records_without : ℕ → WindowManager V H → List WindowRecord
   records_without at t = map (record_of loan) (remove t.windows.records.items at)

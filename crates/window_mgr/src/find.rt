@@ -3,7 +3,7 @@ ghost use Rattle.std.specs.Prelude.{◌≡◌, if◌then◌else◌, Ok, Err, Som
 ghost use Rattle.tb_geom.specs.declared.refusal.Refusal.TheVariants.{OutOfRange};
 ghost use Rattle.tb_geom.specs.Points.{minus};
 ghost use Rattle.tb_geom.specs.Rects.{in_plane};
-ghost use Rattle.def_iface.specs.News.{no_news};
+ghost use Rattle.def_iface.specs.WindowNews.{no_news};
 ghost use Rattle.window_mgr.specs.Kept.{IsKept};
 ghost use Rattle.vis_update.specs.Areas.{area_has};
 ghost use Rattle.window_mgr.specs.Finding.{found_at, part_of_hit};

@@ -1,6 +1,6 @@
 //! What a window's definition is told of its window, and the window's frame, drawn anew where it shows.
 ghost use Rattle.std.specs.Prelude.{◌≡◌, ◌<◌, ◌==◌, length, true};
-ghost use Rattle.def_iface.specs.News.{told_change};
+ghost use Rattle.def_iface.specs.WindowNews.{told_change};
 ghost use Rattle.window_list.specs.Changes.{keeps_size, has_short_title};
 ghost use Rattle.window_mgr.specs.Edits.{IsWindowAt};
 ghost use Rattle.window_mgr.specs.FrameNotices.{IsFrameNotified, notified_record};

@@ -5,8 +5,8 @@ ghost use Rattle.tb_geom.specs.Points.{minus};
 ghost use Rattle.tb_geom.specs.Pixels.{holds};
 ghost use Rattle.tb_geom.specs.Rects.{in_plane, is_in_range, moved_rect, rect_holds};
 ghost use Rattle.bit_blit.specs.Draws.{Draws, DrawsOnce, IsWritten};
-ghost use Rattle.def_iface.specs.Meaning.{is_fitting};
-ghost use Rattle.def_iface.specs.News.{no_news};
+ghost use Rattle.def_iface.specs.WindowMeaning.{is_fitting};
+ghost use Rattle.def_iface.specs.WindowNews.{no_news};
 ghost use Rattle.window_paint.specs.Frames.{IsPlaced, IsPainted};
 ghost use Rattle.window_paint.specs.Writes.{IsWrittenBy, one};
 

@@ -1,6 +1,6 @@
 //! Sizes, and definitions in a stock and out of it.
 ghost use Rattle.std.specs.Prelude.{◌≡◌, true};
-ghost use Rattle.def_iface.specs.Meaning.{is_fitting};
+ghost use Rattle.def_iface.specs.WindowMeaning.{is_fitting};
 
 use def_iface::{Defined, Hit, Size, Stage, TakenWindow, WindowDef, WindowRegions, WindowStock};
 use draw_port::{Canvas, Cut};

@@ -7,7 +7,7 @@ use Rattle.window_items.specs.Items.{item_index}
 use Rattle.window_items.proofs.SeenLemmas.{item_index-seen}
 use Rattle.def_iface.specs.Slots.{TakenBox}
 use Rattle.def_iface.specs.ControlMeaning.{ControlLoan}
-use Rattle.def_iface.specs.Meaning.{Loan}
+use Rattle.def_iface.specs.WindowMeaning.{WindowLoan}
 use Rattle.desk_call.specs.declared.control.ControlOf.{ControlOf}
 use Rattle.vis_update.specs.Records.{record_of}
 use Rattle.window_list.specs.declared.window.Window.{Window}
@@ -27,7 +27,7 @@ use Rattle.def_iface.specs.contracts.taken_control.TakenControlDefined.TheImpl a
 use Rattle.control_mgr.proofs.spots.Controls+TakenControl.spot.Goals as goal
 use Rattle.control_mgr.specs.Seen.{kept_seen}
 
-module _ {V : Type 0} {H : V → Type 0} (loan : TakenBox V H → Loan) where
+module _ {V : Type 0} {H : V → Type 0} (loan : TakenBox V H → WindowLoan) where
   -- a window that stands somewhere is not missing
   stands_there : (ws : List (Window V H)) (s i : ℕ) → StandsAt ws s i → is_missing s (map (record_of loan) ws) ≡ false
   stands_there [] s i at = let low = at.0 in absurd (omega arith)

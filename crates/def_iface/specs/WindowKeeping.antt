@@ -8,7 +8,7 @@ use Rattle.def_iface.specs.declared.size.Size.{Size}
 use Rattle.def_iface.specs.declared.window_def.Hit.{Hit}
 use Rattle.def_iface.specs.declared.window_def.WindowChange.{WindowChange}
 use Rattle.def_iface.specs.declared.window_def.WindowChange.TheVariants.{Resized, Titled, Highlighted, Closable, Zoomed, Tracked}
-use Rattle.def_iface.specs.News.{News}
+use Rattle.def_iface.specs.WindowNews.{WindowNews}
 
 -- the flags of a window that was told nothing yet
 abbrev pub no_flags : Flags
@@ -34,7 +34,7 @@ keeps_title (Titled t) = false
 keeps_title _ = true
 
 -- the flags once it is told this
-abbrev pub flags_in : News → Flags → Flags
+abbrev pub flags_in : WindowNews → Flags → Flags
 flags_in n f = record {
   highlighted = unwrap_or n.highlighted f.highlighted;
   go_away = unwrap_or n.closable f.go_away;
@@ -43,17 +43,17 @@ flags_in n f = record {
 }
 
 -- the title then: at most 255 characters are kept
-abbrev pub title_in : News → List ℕ → List ℕ
+abbrev pub title_in : WindowNews → List ℕ → List ℕ
 title_in n title = option_map_or (λ t. take 255 t) n.title title
 
 -- and the size
-abbrev pub size_in : News → Size → Size
+abbrev pub size_in : WindowNews → Size → Size
 size_in n size = unwrap_or n.size size
 
 -- the picture of a definition that keeps all of this, by what it looks like with it in a font
-abbrev pub kept_picture : (Flags → List ℕ → Size → List ℕ → PixelSet) → Flags → List ℕ → Size → News → List ℕ → PixelSet
+abbrev pub kept_picture : (Flags → List ℕ → Size → List ℕ → PixelSet) → Flags → List ℕ → Size → WindowNews → List ℕ → PixelSet
 kept_picture look f title size n = look (flags_in n f) (title_in n title) (size_in n size)
 
 -- and its parts, by those that it has with it
-abbrev pub kept_hit : (Flags → Size → Point → Hit) → Flags → Size → News → Point → Hit
+abbrev pub kept_hit : (Flags → Size → Point → Hit) → Flags → Size → WindowNews → Point → Hit
 kept_hit part f size n = part (flags_in n f) (size_in n size)
