@@ -28,7 +28,8 @@ use Rattle.control_mgr.specs.Settled.{AreSettled, IsSettledControl}
 use Rattle.control_mgr.specs.WholeControls.{AreControlsApart, AreWholeControls}
 use Rattle.control_mgr.proofs.Settled.{AreJoined}
 use Rattle.control_mgr.proofs.ControlBits.{same_own}
-use Rattle.control_mgr.proofs.SerialsFound.{StayControls, with_among}
+use Rattle.window_items.proofs.SerialLemmas.{with_among}
+use Rattle.control_mgr.proofs.SerialsFound.{StayControls}
 
 -- ---- lists
 

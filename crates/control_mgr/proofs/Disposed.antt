@@ -1,12 +1,12 @@
 -- A control that is disposed of: its layer taken out, the controls without it, and the step.
-use Rattle.std.proofs.Common.{◌≡◌, ℕ, zero, suc, ◌<◌, ◌≤◌, Bool, true, false, ◌||◌, List, [], ◌∷◌, length, Option, Some, None, Ok, refl, sym, ap, ◌∙◌, subst, arith}
+use Rattle.std.proofs.Common.{◌≡◌, ℕ, zero, suc, ◌<◌, ◌≤◌, Bool, true, false, List, [], ◌∷◌, length, Option, Some, None, Ok, refl, sym, ap, ◌∙◌, subst, arith}
 use Rattle.std.specs.Prelude.{map, slice_get}
-use Rattle.std.specs.List.{list_any, remove}
+use Rattle.std.specs.List.{remove}
 use Rattle.std.specs.Option.{option_map}
 use Rattle.tb_geom.specs.Points.{PixelSet}
 use Rattle.window_items.specs.declared.item.Item.{Item}
 use Rattle.control_mgr.specs.declared.control.Control.{Control}
-use Rattle.window_items.specs.Items.{items_of, count_of, has_serial, is_before, is_in_at, place_among}
+use Rattle.window_items.specs.Items.{items_of, count_of, is_before, is_in_at, place_among}
 use Rattle.control_mgr.specs.Seen.{all_seen, kept_seen, seen}
 use Rattle.window_items.proofs.SeenLemmas.{place_among-seen, remove-seen, slice_get-seen}
 use Rattle.window_items.proofs.WindowLemmas.{items_of-remove, items_of-remove_other, count_of-remove, count_of-remove_other, is_in_at-other, slice_get-items_of}
@@ -45,8 +45,7 @@ use Rattle.control_mgr.specs.Ending.{IsEnding, IsPlannedEnd}
 use Rattle.control_mgr.specs.InUse.{AreStocked}
 use Rattle.control_mgr.specs.Settled.{AreSettled, IsSettledControl}
 use Rattle.control_mgr.specs.Spots.{IsSpotOf}
-use Rattle.control_mgr.specs.WholeControls.{AreControlsApart, AreWholeControls, LeavesOver, control_desk, controls_state, records_of, slots_of}
-use Rattle.control_mgr.proofs.Added.{or_parts}
+use Rattle.control_mgr.specs.WholeControls.{AreWholeControls, LeavesOver, control_desk, controls_state, records_of, slots_of}
 use Rattle.control_mgr.proofs.Edited.{AreNoControls, begin_remove, behind_removed}
 use Rattle.control_mgr.proofs.LayerOut.{all-remove}
 use Rattle.control_mgr.proofs.Places.{at_window, in_its_window, layer_there, layers_named, read_is, record_there, there_is, within}
@@ -54,23 +53,10 @@ use Rattle.control_mgr.proofs.Reshown.{alone, set_among}
 use Rattle.control_mgr.proofs.Settled.{AreJoined, joined_laid, somewhere_laid}
 use Rattle.control_mgr.proofs.Steps.{nothing_missing}
 use Rattle.control_mgr.proofs.Stocks.{slot_is_left, slot_of, stocked_without}
+use Rattle.window_items.proofs.SerialLemmas.{apart-remove}
 use Rattle.window_items.proofs.EditLemmas.{All-remove, All-there, map-remove}
 
 -- ---- one taken out
-
-none-remove : (n i : ℕ) (cs : List ControlRecord) → list_any (has_serial n) cs ≡ false → list_any (has_serial n) (remove cs i) ≡ false
-none-remove n zero [] h = refl
-none-remove n (suc i) [] h = refl
-none-remove n zero (c ∷ cs) h = (or_parts (has_serial n c) (list_any (has_serial n) cs) h).1
-none-remove n (suc i) (c ∷ cs) h =
-    let parts = or_parts (has_serial n c) (list_any (has_serial n) cs) h in
-    let rest = none-remove n i cs parts.1 in (λ t. parts.0 t || rest t)
-
-apart-remove : (i : ℕ) (cs : List ControlRecord) → AreControlsApart cs → AreControlsApart (remove cs i)
-apart-remove zero [] h = tt
-apart-remove (suc i) [] h = tt
-apart-remove zero (c ∷ cs) h = h.1
-apart-remove (suc i) (c ∷ cs) h = (none-remove c.serial i cs h.0, apart-remove i cs h.1)
 
 slot_at : (cs : List ControlRecord) (i : ℕ) (c : ControlRecord) → slice_get cs i ≡ Some c → slice_get (slots_of cs) i ≡ Some c.kept.definition.slot
 slot_at [] i c e = absurd (cc)

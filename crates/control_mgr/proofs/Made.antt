@@ -1,15 +1,15 @@
 -- A control that is made: the controls with it, and the step.
-use Rattle.std.proofs.Common.{◌≡◌, ℕ, ◌<◌, ◌≤◌, Bool, true, false, ◌||◌, ◌==◌, List, [], ◌∷◌, ◌++◌, get_or, Option, Some, refl, sym, ap, ◌∙◌, subst, arith, eqb-true}
+use Rattle.std.proofs.Common.{◌≡◌, ℕ, ◌<◌, ◌≤◌, Bool, true, false, ◌==◌, List, [], ◌∷◌, ◌++◌, get_or, Option, Some, refl, sym, ap, ◌∙◌, subst, arith, eqb-true}
 use Rattle.std.specs.Prelude.{All, is_none, map}
 use Rattle.std.specs.List.{insert, list_any}
 use Rattle.std.proofs.lemmas.Bool.Decides.{nat_tests}
 use Rattle.std.proofs.lemmas.List.Elements.{All-append, All-cons, All-nil}
-use Rattle.std.proofs.lemmas.List.Folds.{list_any-append}
 use Rattle.std.proofs.lemmas.List.Edits.{get_or-insert_at}
 use Rattle.tb_geom.specs.declared.rect.Rect.{Rect}
 use Rattle.tb_geom.specs.Points.{PixelSet, minus}
 use Rattle.tb_geom.specs.Rects.{moved_rect}
 use Rattle.window_items.specs.declared.item.Item.{Item}
+use Rattle.window_items.proofs.SerialLemmas.{apart_more}
 use Rattle.control_mgr.specs.declared.control.Control.{Control}
 use Rattle.window_items.specs.Items.{are_before, items_of, count_of, has_serial, serial_after}
 use Rattle.control_mgr.specs.Seen.{all_seen, kept_seen, seen}
@@ -48,8 +48,8 @@ use Rattle.control_mgr.specs.ControlSteps.{AreLayersOf, IsControlMade, IsLayerOf
 use Rattle.control_mgr.specs.InUse.{AreStocked}
 use Rattle.control_mgr.specs.Making.{IsAddition}
 use Rattle.control_mgr.specs.Settled.{AreSettled, IsSettledControl, MayHaveSetting}
-use Rattle.control_mgr.specs.WholeControls.{AreControlsApart, AreBeside, AreWholeControls, LeavesOver, controls_state, records_of, slots_of}
-use Rattle.control_mgr.proofs.Added.{its, may_grow, may_lie_so, or_parts, unused}
+use Rattle.control_mgr.specs.WholeControls.{AreBeside, AreWholeControls, LeavesOver, controls_state, records_of, slots_of}
+use Rattle.control_mgr.proofs.Added.{its, may_grow, may_lie_so, unused}
 use Rattle.control_mgr.proofs.Edited.{AreNoControls, begin_behind, behind_inserted}
 use Rattle.control_mgr.proofs.Judging.{window_is}
 use Rattle.control_mgr.proofs.LayerIn.{one_read}
@@ -61,20 +61,11 @@ use Rattle.control_mgr.proofs.Stocks.{stocked_with}
 
 -- ---- controls with one more behind
 
-other_way : (a b : ℕ) → (a == b) ≡ false → (b == a) ≡ false
-other_way a b e = grind (arith, nat_tests)
-
 same_number : (a b : ℕ) → a ≡ b → (a == b) ≡ true
 same_number a b e = grind (arith, nat_tests)
 
 other_number : (a b : ℕ) → (b ≡ a → ⊥) → (a == b) ≡ false
 other_number a b e = grind (arith, nat_tests)
-
-apart_more : (c : ControlRecord) (cs : List ControlRecord) → list_any (has_serial c.serial) cs ≡ false → AreControlsApart cs → AreControlsApart (cs ++ c ∷ [])
-apart_more c [] e h = (refl, tt)
-apart_more c (x ∷ xs) e h =
-    let both = or_parts (x.serial == c.serial) (list_any (has_serial c.serial) xs) e in
-    (list_any-append (has_serial x.serial) xs (c ∷ []) ∙ (λ i. h.0 i || (other_way x.serial c.serial both.0 i || false)), apart_more c xs both.1 h.1)
 
 slots_more : (c : ControlRecord) (cs : List ControlRecord) → slots_of (cs ++ c ∷ []) ≡ slots_of cs ++ c.kept.definition.slot ∷ []
 slots_more c [] = refl

@@ -29,6 +29,7 @@ use Rattle.window_mgr.specs.Records.{desk_of}
 use Rattle.window_mgr.specs.Relayered.{AreLayersPut}
 use Rattle.window_paint.specs.White.{all_white}
 use Rattle.window_mgr.proofs.Contents as contents
+use Rattle.window_items.proofs.SerialLemmas.{none_in_window}
 use Rattle.control_mgr.specs.declared.controls.Controls.{Controls}
 use Rattle.control_mgr.specs.declared.ending.Ending.{Ending}
 use Rattle.control_mgr.specs.declared.making.Addition.{Addition}
@@ -40,7 +41,7 @@ use Rattle.control_mgr.specs.Judged.{may_be_placed}
 use Rattle.control_mgr.specs.Making.{IsGrown, IsReadyToAdd, IsTicket, IsTicketAfter, MayGrow}
 use Rattle.control_mgr.specs.Planned.{IsLaidSo}
 use Rattle.control_mgr.specs.WholeControls.{AreBeside, AreWholeControls, LeavesOver, control_desk, controls_state, records_of}
-use Rattle.control_mgr.proofs.Added.{its, may_grow, none_in_window, others_named}
+use Rattle.control_mgr.proofs.Added.{its, may_grow, others_named}
 use Rattle.control_mgr.proofs.LaidSo.{laid_put, stands_put}
 use Rattle.control_mgr.proofs.LayerIn.{all_with}
 use Rattle.control_mgr.specs.Seen.{kept_seen}

@@ -38,7 +38,7 @@ use Rattle.control_mgr.proofs.Settled.{changed_settled, retold, whole_put}
 use Rattle.control_mgr.proofs.Sound.{MayHave}
 use Rattle.control_mgr.proofs.Places.{IsThere, ItsLayer, layer_there, names, read_is, record_there, there_is, within}
 use Rattle.control_mgr.proofs.Reshown.{alone, redrawn_among}
-use Rattle.control_mgr.proofs.Serials.{with_there}
+use Rattle.window_items.proofs.SerialLemmas.{with_there}
 use Rattle.window_items.specs.declared.items.Items.{Items}
 use Rattle.window_items.specs.Lends.{with_value}
 use Rattle.window_items.proofs.LentLemmas.{lent_and_written}

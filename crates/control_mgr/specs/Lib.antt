@@ -15,4 +15,5 @@ pub mod Laying
 pub mod Planned
 pub mod Making
 pub mod Ending
+pub mod ItemsClosing
 pub mod ControlClosing

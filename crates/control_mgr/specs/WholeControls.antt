@@ -1,9 +1,8 @@
 -- What holds of the controls of a desk and of their stock between calls, and their state as plain data.
-use Rattle.std.specs.Prelude.{◌≡◌, ◌≤◌, ℕ, true, false, List, [], ◌∷◌, map, All, is_none}
-use Rattle.std.specs.List.{list_any}
+use Rattle.std.specs.Prelude.{◌≡◌, ◌≤◌, ℕ, true, false, List, [], map, All, is_none}
 use Rattle.tb_geom.specs.Points.{PixelSet}
 use Rattle.tb_geom.specs.Rects.{in_plane}
-use Rattle.window_items.specs.Items.{are_before, items_of, count_of, has_serial}
+use Rattle.window_items.specs.Items.{AreApart, are_before, items_of, count_of}
 use Rattle.control_mgr.specs.Seen.{all_seen}
 use Rattle.desk_layers.specs.declared.part.Part.{Part}
 use Rattle.def_iface.specs.Slots.{TakenBox}
@@ -28,8 +27,7 @@ use Rattle.control_mgr.specs.Settled.{AreSettled}
 
 -- each of another serial
 abbrev pub AreControlsApart : List ControlRecord → Type 0
-AreControlsApart [] = Unit {0}
-AreControlsApart (c ∷ cs) = (list_any (has_serial c.serial) cs ≡ false) × AreControlsApart cs
+AreControlsApart cs = AreApart cs
 
 abbrev pub AreLiveControls : List ControlRecord → Type 0
 AreLiveControls cs = All (λ c. c.kept.definition.definition.stage ≡ Live) cs

@@ -49,7 +49,7 @@ use Rattle.list_mgr.specs.Spots.{IsSpot, IsSpotOf}
 use Rattle.list_mgr.specs.WholeLists.{AreBeside, AreWholeLists, IsChangedOver, IsSettledList, list_desk, lists_state, records_of}
 use Rattle.list_mgr.specs.Within.{IsSameOutside, IsWhereRight}
 use Rattle.list_mgr.proofs.Edited.{Keeps, whole_edited}
-use Rattle.list_mgr.proofs.ListsFound.{with_own}
+use Rattle.window_items.proofs.SerialLemmas.{with_there}
 use Rattle.list_mgr.proofs.Places.{found_names}
 use Rattle.list_mgr.proofs.Steps.{IsTold, list_named, list_there}
 use Rattle.window_items.proofs.EditLemmas.{All-there, edit_alike, edit_nothing, there_edited}
@@ -238,9 +238,9 @@ module _ {V : Type 0} {H : V → Type 0} (loan : TakenBox V H → WindowLoan) {X
       let fonts : u.font ≡ t.font = ap (λ (d : FullDesk). d.font) left.1.desk in
       let same : (p : Point) → rect_holds within p ≡ false → now u.font (part.List (f x).serial) p ≡ was t.font (part.List (f x).serial) p = λ p out.
       ap (λ font. list_bit font (with_serial (f x).serial (records_of list_loan n)) p) fonts
-      ∙ ap (λ y. list_bit t.font y p) (with_own (f x).serial s.list (records_of list_loan n) (f x) after.apart (there_after x there) (same_number (f x).serial))
+      ∙ ap (λ y. list_bit t.font y p) (with_there (f x).serial s.list (records_of list_loan n) (f x) after.apart (there_after x there) (same_number (f x).serial))
       ∙ outside x there (All-there IsSettledList s.list (records_of list_loan m) x there lists.settled) t.font p out
-      ∙ sym (ap (λ y. list_bit t.font y p) (with_own (f x).serial s.list (records_of list_loan m) x lists.apart there (ap (λ k. k == (f x).serial) (sym (keeps.serial x)) ∙ same_number (f x).serial))) in
+      ∙ sym (ap (λ y. list_bit t.font y p) (with_there (f x).serial s.list (records_of list_loan m) x lists.apart there (ap (λ k. k == (f x).serial) (sym (keeps.serial x)) ∙ same_number (f x).serial))) in
       let redrawn : IsRightState (state_showing was (state_of loan t slots)) → IsLayerRedrawn l.window (part.List l.list) (state_showing was (state_of loan t slots)) (state_showing now (state_of loan u slots)) = λ right.
       subst (λ k. IsLayerRedrawn k (part.List l.list) (state_showing was (state_of loan t slots)) (state_showing now (state_of loan u slots))) (keeps.window x ∙ names.0)
       (subst (λ k. IsLayerRedrawn (f x).window (part.List k) (state_showing was (state_of loan t slots)) (state_showing now (state_of loan u slots))) (keeps.serial x ∙ names.1) (left.1.redrawn right same)) in (

@@ -33,7 +33,6 @@ use Rattle.window_mgr.specs.Relayered.{HasUpdate, IsGainedAt, IsPartAt, IsPlanOf
 use Rattle.window_mgr.proofs.Contents as contents
 use Rattle.control_mgr.specs.ControlSteps.{behind_controls}
 use Rattle.control_mgr.specs.Planned.{IsLaidSo}
-use Rattle.control_mgr.proofs.Added.{or_parts}
 use Rattle.control_mgr.proofs.LayerIn.{apart_in, low_in, may_in, planned_in}
 use Rattle.control_mgr.proofs.Places.{at_window}
 use Rattle.list_mgr.specs.declared.judging.ListTicket.{ListTicket}
@@ -42,7 +41,7 @@ use Rattle.list_mgr.specs.ListDesks.{KeptList}
 use Rattle.list_mgr.specs.ListSteps.{AreListLayers, IsLayerOf}
 use Rattle.list_mgr.specs.Putting.{IsPlace, IsPlanOfList, MayLay}
 use Rattle.list_mgr.specs.WholeLists.{AreBeside, records_of}
-use Rattle.list_mgr.proofs.ListsFound.{none_in_window}
+use Rattle.window_items.proofs.SerialLemmas.{none_in_window, or_parts}
 
 -- ---- layers of other lists
 

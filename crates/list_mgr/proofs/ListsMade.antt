@@ -19,7 +19,7 @@ use Rattle.list_mgr.specs.ListSteps.{IsChangedTo, IsListDisposed, IsListMade, Is
 use Rattle.list_mgr.specs.WholeLists.{IsSettledList}
 use Rattle.list_mgr.proofs.Edited.{Keeps}
 use Rattle.list_mgr.proofs.ListsBars.{bar_gone_keeps, bar_made_keeps, bar_made_lists, bar_made_missing}
-use Rattle.list_mgr.proofs.ListsFound.{with_first}
+use Rattle.window_items.proofs.SerialLemmas.{with_first}
 use Rattle.list_mgr.proofs.ListsKept.{IsRightLists, controls_same}
 use Rattle.list_mgr.proofs.ListsLaid.{gone_keeps, put_keeps}
 use Rattle.list_mgr.proofs.ListsWhole.{edited_whole}

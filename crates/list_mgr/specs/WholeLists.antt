@@ -1,6 +1,6 @@
 -- What holds of the lists of a desk and of their stock between calls, and their state as plain data.
-use Rattle.std.specs.Prelude.{◌≡◌, ◌≤◌, ◌≤ℤ◌, ℕ, true, false, not, List, [], ◌∷◌, length, map, All}
-use Rattle.std.specs.List.{filter, list_any}
+use Rattle.std.specs.Prelude.{◌≡◌, ◌≤◌, ◌≤ℤ◌, ℕ, true, false, not, List, [], length, map, All}
+use Rattle.std.specs.List.{filter}
 use Rattle.def_iface.specs.Slots.{TakenBox}
 use Rattle.def_iface.specs.declared.size.Size.{Size}
 use Rattle.def_iface.specs.declared.window_def.Stage.TheVariants.{Live}
@@ -10,7 +10,7 @@ use Rattle.def_iface.specs.WindowMeaning.{WindowLoan}
 use Rattle.def_iface.specs.Stocked.{SlotView}
 use Rattle.list_cells.specs.Contents.{bytes_held}
 use Rattle.list_cells.specs.Grids.{Grid, IsGrid}
-use Rattle.window_items.specs.Items.{are_before, count_of, has_serial, items_of}
+use Rattle.window_items.specs.Items.{AreApart, are_before, count_of, items_of}
 use Rattle.list_mgr.specs.Seen.{all_seen}
 use Rattle.list_view.specs.Axes.{bound}
 use Rattle.list_view.specs.Views.{IsView, View}
@@ -60,8 +60,7 @@ AreSettled ls = All IsSettledList ls
 
 -- each of another serial
 abbrev pub AreListsApart : List KeptList → Type 0
-AreListsApart [] = Unit {0}
-AreListsApart (l ∷ ls) = (list_any (has_serial l.serial) ls ≡ false) × AreListsApart ls
+AreListsApart ls = AreApart ls
 
 abbrev pub AreLiveLists : List KeptList → Type 0
 AreLiveLists ls = All (λ l. l.kept.definition.definition.stage ≡ Live) ls
