@@ -205,8 +205,10 @@ impl WindowList {
     pub fn set_stand(&mut self, at: usize, place: Point, shown: bool, user_state: Option<UserState>)
         requires within { at < length self.old.records.items }
         requires placed { in_plane place ≡ true }
-        requires fit { IfSome (slice_get self.old.records.items at) (λ w. list_all (fits_at place) w.layers.layers ≡ true) }
-        ensures { self.new ≡ record self.old { records = edit_at (with_stand place shown user_state) at self.old.records } }
+        requires fit { IfSome (slice_get self.old.records.items at)
+            (λ w. list_all (fits_at place) w.layers.layers ≡ true) }
+        ensures { self.new ≡ record self.old { records =
+            edit_at (with_stand place shown user_state) at self.old.records } }
     {
         let window = self.records.at_mut(at);
         window.layers.go_to(place);
@@ -272,7 +274,8 @@ impl WindowList {
     /// it leaves the list as it was.
     pub fn push_operation(&mut self, at: usize, operation: Op) -> Result<(), Refusal>
         requires { at < length self.old.records.items }
-        ensures added { OnOk result (self.new ≡ record self.old { records = edit_at (with_operation operation) at self.old.records }) }
+        ensures added { OnOk result
+            (self.new ≡ record self.old { records = edit_at (with_operation operation) at self.old.records }) }
         ensures kept { OnErr result (self.new ≡ self.old) }
         ensures refused { IfErr result (λ e. IfSome (slice_get self.old.records.items at) (λ w.
             e ≡ (if nat_lt (length w.picture) 1024 then Refusal.NoMemory else Refusal.TooMany))) }

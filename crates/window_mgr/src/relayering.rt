@@ -65,7 +65,8 @@ impl WindowManager {
             → (was : List ℕ → Part → PixelSet) (slots : List SlotView)
             → IsWholeManager ⟦<TakenWindow as Defined>⟧.loan self.old slots
             → IsWholeManager ⟦<TakenWindow as Defined>⟧.loan self.new slots
-            × IsLayerDrawnWithin within w.serial l (state_showing was (state_of ⟦<TakenWindow as Defined>⟧.loan self.old slots))
+            × IsLayerDrawnWithin within w.serial l
+            (state_showing was (state_of ⟦<TakenWindow as Defined>⟧.loan self.old slots))
             (state_showing (S.shows showing.now) (state_of ⟦<TakenWindow as Defined>⟧.loan self.new slots)) }
     {
         let area = &self.areas[at];
@@ -131,7 +132,8 @@ impl WindowManager {
             → (was : List ℕ → Part → PixelSet) (slots : List SlotView)
             → IsWholeManager ⟦<TakenWindow as Defined>⟧.loan self.old slots
             → IsWholeManager ⟦<TakenWindow as Defined>⟧.loan self.new slots
-            × AreLayersSet w.serial layers.layers part (state_showing was (state_of ⟦<TakenWindow as Defined>⟧.loan self.old slots))
+            × AreLayersSet w.serial layers.layers part
+            (state_showing was (state_of ⟦<TakenWindow as Defined>⟧.loan self.old slots))
             (state_showing (S.shows showing.now) (state_of ⟦<TakenWindow as Defined>⟧.loan self.new slots)) }
     {
         self.windows.set_layers(at, layers);
