@@ -1,5 +1,6 @@
 //! The menu that is pulled down.
-ghost use Rattle.std.specs.Prelude.{◌≡◌, ◌<◌, ◌≤◌, [], length, vec_capacity, Some, None, IfSome, true, List, ℕ, pos, ◌≤ℤ◌, slice_get, is_none, if◌then◌else◌};
+ghost use Rattle.std.specs.Prelude.{◌≡◌, ◌<◌, ◌≤◌, [], length, vec_capacity, Some, None, IfSome, true, List, ℕ, pos};
+ghost use Rattle.std.specs.Prelude.{◌≤ℤ◌, slice_get, is_none, if◌then◌else◌};
 ghost use Rattle.std.specs.Option.{option_map};
 ghost use Rattle.tb_geom.specs.Points.{PixelSet, minus};
 ghost use Rattle.tb_geom.specs.Rects.{in_plane};

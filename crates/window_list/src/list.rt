@@ -1,5 +1,6 @@
 //! The windows of a desk, which of them is active, and the serial of the next.
-ghost use Rattle.std.specs.Prelude.{◌≡◌, true, ◌<◌, ◌≤◌, nat_lt, ◌==◌, [], ◌∷◌, length, map, if◌then◌else◌, position, slice_index_or, slice_get, Some, None, OnOk, OnErr, IfErr, IfNone, IfSome};
+ghost use Rattle.std.specs.Prelude.{◌≡◌, true, ◌<◌, ◌≤◌, nat_lt, ◌==◌, [], ◌∷◌, length, map, if◌then◌else◌, position};
+ghost use Rattle.std.specs.Prelude.{slice_index_or, slice_get, Some, None, OnOk, OnErr, IfErr, IfNone, IfSome};
 ghost use Rattle.std.specs.List.{remove, list_all, prefix_len};
 ghost use Rattle.std.specs.Option.{option_map};
 ghost use Rattle.tb_geom.specs.Rects.{in_plane};
@@ -7,7 +8,9 @@ ghost use Rattle.def_iface.specs.WindowMeaning.{is_fitting};
 ghost use Rattle.window_list.specs.Holders.{fits_at};
 ghost use Rattle.window_list.specs.Classes.{front_place, back_place};
 ghost use Rattle.window_list.specs.Ranks.{moved_item};
-ghost use Rattle.window_list.specs.Lists.{has_serial, floats, leads, first_leading, with_new, dimmed, relit, serial_after, map_ranked, edit_at, IsLastBox, with_stand, with_picture, with_layers, with_origin, with_operation, IsPlacedAt};
+ghost use Rattle.window_list.specs.Lists.{has_serial, floats, leads, first_leading, with_new, dimmed, relit};
+ghost use Rattle.window_list.specs.Lists.{serial_after, map_ranked, edit_at, IsLastBox, with_stand, with_picture};
+ghost use Rattle.window_list.specs.Lists.{with_layers, with_origin, with_operation, IsPlacedAt};
 ghost use Rattle.window_list.specs.Changes.{keeps_size, has_short_title, IsNotifiedAt};
 
 use crate::{Layers, Placement, Ranks, UserState, Window};

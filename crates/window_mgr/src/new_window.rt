@@ -1,5 +1,6 @@
 //! The call that makes a window.
-ghost use Rattle.std.specs.Prelude.{◌≡◌, ◌+◌, ◌++◌, ◌∷◌, [], true, map, if◌then◌else◌, Some, None, All, IfOk, IfErr, MatchResult, length, vec_len};
+ghost use Rattle.std.specs.Prelude.{◌≡◌, ◌+◌, ◌++◌, ◌∷◌, [], true, map, if◌then◌else◌, Some, None, All, IfOk, IfErr};
+ghost use Rattle.std.specs.Prelude.{MatchResult, length, vec_len};
 ghost use Rattle.tb_geom.specs.Rects.{in_plane};
 ghost use Rattle.def_iface.specs.WindowMeaning.{is_fitting};
 ghost use Rattle.desk_call.specs.declared.window.WindowCall.TheVariants.{New, NewFloating};

@@ -10,7 +10,8 @@ ghost use Rattle.window_mgr.specs.Edits.{IsWindowAt};
 ghost use Rattle.window_mgr.specs.Kept.{IsKept};
 ghost use Rattle.window_mgr.specs.Records.{state_of, state_showing};
 ghost use Rattle.window_mgr.specs.Whole.{IsWholeManager};
-ghost use Rattle.window_mgr.specs.Relayered.{IsPartAt, MayHaveLayers, IsGainedAt, IsPlanOfLayers, AreLayersSet, AreLayersPut, HasUpdate, IsLayerDrawnWithin, IsLayerToggled};
+ghost use Rattle.window_mgr.specs.Relayered.{IsPartAt, MayHaveLayers, IsGainedAt, IsPlanOfLayers, AreLayersSet};
+ghost use Rattle.window_mgr.specs.Relayered.{AreLayersPut, HasUpdate, IsLayerDrawnWithin, IsLayerToggled};
 
 use crate::WindowManager;
 use bit_blit::fill;
