@@ -10,6 +10,7 @@ pub mod ControlSteps
 pub mod Damages
 pub mod Settled
 pub mod WholeControls
+pub mod ItemSpots
 pub mod Spots
 pub mod Laying
 pub mod Planned

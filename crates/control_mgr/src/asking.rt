@@ -129,7 +129,8 @@ impl Controls<TakenControl> {
         asked: PointAtControl,
     ) -> Result<ControlReply, Refusal>
         requires kept { IsKept ⟦<TakenWindow as Defined>⟧.loan windows.now }
-        requires beside { AreBeside ⟦<TakenControl as Defined>⟧.loan ⟦<TakenWindow as Defined>⟧.loan windows.now self.now }
+        requires beside { AreBeside ⟦<TakenControl as Defined>⟧.loan ⟦<TakenWindow as Defined>⟧.loan windows.now
+            self.now }
         ensures { (o : Opened) → LeavesControls ⟦<TakenControl as Defined>⟧.loan ⟦<TakenWindow as Defined>⟧.loan
             (IsControlStep (asks.Test asked) result) windows.now o self.now windows.now o self.now }
     {
@@ -148,7 +149,8 @@ impl Controls<TakenControl> {
         asked: PointInWindow,
     ) -> Result<ControlReply, Refusal>
         requires kept { IsKept ⟦<TakenWindow as Defined>⟧.loan windows.now }
-        requires beside { AreBeside ⟦<TakenControl as Defined>⟧.loan ⟦<TakenWindow as Defined>⟧.loan windows.now self.now }
+        requires beside { AreBeside ⟦<TakenControl as Defined>⟧.loan ⟦<TakenWindow as Defined>⟧.loan windows.now
+            self.now }
         ensures { (o : Opened) → LeavesControls ⟦<TakenControl as Defined>⟧.loan ⟦<TakenWindow as Defined>⟧.loan
             (IsControlStep (asks.Find asked) result) windows.now o self.now windows.now o self.now }
     {

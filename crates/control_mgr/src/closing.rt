@@ -14,8 +14,10 @@ impl Controls<TakenControl> {
     /// windows stay. Takes no memory, and draws nothing: this is for a window that is no more.
     pub fn end_of(&mut self, window: u64, stock: &mut ControlStock)
         requires live { AreLiveControls (records_of ⟦<TakenControl as Defined>⟧.loan self.old) }
-        requires stocked { AreStocked (λ d. d.stage) (slots_of (records_of ⟦<TakenControl as Defined>⟧.loan self.old)) (⟦<ControlStock as Stocked>⟧.slots stock.old) }
-        ensures { IsWindowLeft window (controls_state ⟦<TakenControl as Defined>⟧.loan self.old (⟦<ControlStock as Stocked>⟧.slots stock.old))
+        requires stocked { AreStocked (λ d. d.stage) (slots_of (records_of ⟦<TakenControl as Defined>⟧.loan self.old))
+            (⟦<ControlStock as Stocked>⟧.slots stock.old) }
+        ensures { IsWindowLeft window (controls_state ⟦<TakenControl as Defined>⟧.loan self.old
+            (⟦<ControlStock as Stocked>⟧.slots stock.old))
             (controls_state ⟦<TakenControl as Defined>⟧.loan self.new (⟦<ControlStock as Stocked>⟧.slots stock.new)) }
     {
         while let Some(control) = self.list.take_of(window) {
@@ -27,8 +29,10 @@ impl Controls<TakenControl> {
     /// slot stays as it was. Takes no memory, and refuses nothing.
     pub fn close(self, stock: &mut ControlStock)
         requires live { AreLiveControls (records_of ⟦<TakenControl as Defined>⟧.loan self) }
-        requires stocked { AreStocked (λ d. d.stage) (slots_of (records_of ⟦<TakenControl as Defined>⟧.loan self)) (⟦<ControlStock as Stocked>⟧.slots stock.old) }
-        ensures { AreAllControlsClosed (records_of ⟦<TakenControl as Defined>⟧.loan self) (⟦<ControlStock as Stocked>⟧.slots stock.old) (⟦<ControlStock as Stocked>⟧.slots stock.new) }
+        requires stocked { AreStocked (λ d. d.stage) (slots_of (records_of ⟦<TakenControl as Defined>⟧.loan self))
+            (⟦<ControlStock as Stocked>⟧.slots stock.old) }
+        ensures { AreAllControlsClosed (records_of ⟦<TakenControl as Defined>⟧.loan self)
+            (⟦<ControlStock as Stocked>⟧.slots stock.old) (⟦<ControlStock as Stocked>⟧.slots stock.new) }
     {
         let Controls { list, .. } = self;
         let Items { items, .. } = list;

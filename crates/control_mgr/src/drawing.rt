@@ -29,11 +29,13 @@ pub trait DrawnControl {
     /// canvas's font.
     fn draw_control(&self, canvas: &mut Canvas<'_>)
         requires live { (Self.control_loan self.now).definition.stage ≡ Stage.Live }
-        requires told { is_fitting_control (Self.control_loan self.now).definition (Self.control_loan self.now).definition.size ≡ true }
+        requires told { is_fitting_control (Self.control_loan self.now).definition
+            (Self.control_loan self.now).definition.size ≡ true }
         ensures same_map { canvas.new.map.ghost_name ≡ canvas.old.map.ghost_name }
         ensures same_frame { SameFrame canvas.old canvas.new }
         ensures drawn { Draws (canvas_holds canvas.old)
-            (λ p _. (Self.control_loan self.now).definition.picture no_control_news canvas.old.font.now (canvas_point canvas.old p))
+            (λ p _. (Self.control_loan self.now).definition.picture no_control_news canvas.old.font.now
+            (canvas_point canvas.old p))
             canvas.old.map.now canvas.new.map.now };
 }
 

@@ -69,7 +69,8 @@ impl Controls<TakenControl> {
         requires apart { ArePartsApart layers.now.layers }
         ensures out { IfOk result (λ planned. IfSome planned (IsTakenOut window control.control layers.now)) }
         ensures planned { IfOk result (λ planned. (u : _) (m : _)
-            → IsReadyToEnd ⟦<TakenWindow as Defined>⟧.loan ⟦<TakenControl as Defined>⟧.loan control window layers.now update.now windows.now u m
+            → IsReadyToEnd ⟦<TakenWindow as Defined>⟧.loan ⟦<TakenControl as Defined>⟧.loan control window layers.now
+            update.now windows.now u m
             → IsPlannedEnd ⟦<TakenWindow as Defined>⟧.loan ⟦<TakenControl as Defined>⟧.loan control u m planned) }
     {
         let Some(layer) = layers.find(Part::Control(control.control)) else {
@@ -96,7 +97,8 @@ impl Controls<TakenControl> {
         requires kept { IsKept ⟦<TakenWindow as Defined>⟧.loan windows.old }
         requires whole { AreWholeControls (desk_of ⟦<TakenWindow as Defined>⟧.loan windows.old []).windows
             (controls_state ⟦<TakenControl as Defined>⟧.loan self.old (⟦<ControlStock as Stocked>⟧.slots stock.old)) }
-        requires planned { IsPlannedEnd ⟦<TakenWindow as Defined>⟧.loan ⟦<TakenControl as Defined>⟧.loan control windows.old self.old planned }
+        requires planned { IsPlannedEnd ⟦<TakenWindow as Defined>⟧.loan ⟦<TakenControl as Defined>⟧.loan control
+            windows.old self.old planned }
         ensures step { (o : Opened) → LeavesOver ⟦<TakenControl as Defined>⟧.loan ⟦<TakenWindow as Defined>⟧.loan
             (⟦<ControlStock as Stocked>⟧.slots stock.old) (⟦<ControlStock as Stocked>⟧.slots stock.new)
             (IsEndedIfThere control) windows.old o self.old windows.new o self.new }
@@ -118,7 +120,8 @@ impl Controls<TakenControl> {
         requires kept { IsKept ⟦<TakenWindow as Defined>⟧.loan windows.old }
         requires whole { AreWholeControls (desk_of ⟦<TakenWindow as Defined>⟧.loan windows.old []).windows
             (controls_state ⟦<TakenControl as Defined>⟧.loan self.old (⟦<ControlStock as Stocked>⟧.slots stock.old)) }
-        requires ending { IsEnding ⟦<TakenWindow as Defined>⟧.loan ⟦<TakenControl as Defined>⟧.loan control windows.old self.old ending }
+        requires ending { IsEnding ⟦<TakenWindow as Defined>⟧.loan ⟦<TakenControl as Defined>⟧.loan control windows.old
+            self.old ending }
         ensures step { (o : Opened) → LeavesOver ⟦<TakenControl as Defined>⟧.loan ⟦<TakenWindow as Defined>⟧.loan
             (⟦<ControlStock as Stocked>⟧.slots stock.old) (⟦<ControlStock as Stocked>⟧.slots stock.new)
             (IsControlDisposed control) windows.old o self.old windows.new o self.new }

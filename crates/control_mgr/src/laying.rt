@@ -129,10 +129,13 @@ impl Controls<TakenControl> {
         lie: Lie,
     ) -> Result<ControlReply, Refusal>
         requires kept { IsKept ⟦<TakenWindow as Defined>⟧.loan windows.old }
-        requires beside { AreBeside ⟦<TakenControl as Defined>⟧.loan ⟦<TakenWindow as Defined>⟧.loan windows.old self.old }
-        requires spot { IsSpot ⟦<TakenWindow as Defined>⟧.loan ⟦<TakenControl as Defined>⟧.loan windows.old self.old spot }
+        requires beside { AreBeside ⟦<TakenControl as Defined>⟧.loan ⟦<TakenWindow as Defined>⟧.loan windows.old
+            self.old }
+        requires spot { IsSpot ⟦<TakenWindow as Defined>⟧.loan ⟦<TakenControl as Defined>⟧.loan windows.old self.old
+            spot }
         requires may { MayLie ⟦<TakenControl as Defined>⟧.loan windows.old self.old spot lie }
-        ensures { (c : Named) → IsSpotOf ⟦<TakenWindow as Defined>⟧.loan ⟦<TakenControl as Defined>⟧.loan c windows.old self.old spot
+        ensures { (c : Named) → IsSpotOf ⟦<TakenWindow as Defined>⟧.loan ⟦<TakenControl as Defined>⟧.loan c windows.old
+            self.old spot
             → (o : Opened) → LeavesControls ⟦<TakenControl as Defined>⟧.loan ⟦<TakenWindow as Defined>⟧.loan
             (IsLaidOrShort c (with_lie lie) result) windows.old o self.old windows.new o self.new }
     {
@@ -151,8 +154,10 @@ impl Controls<TakenControl> {
     /// Notes that the control at this index lies so, and tells its definition.
     fn put_lie(&mut self, at: usize, lie: Lie)
         requires at { at < length self.old.list.items.items }
-        requires tellable { IfSome (slice_get (records_of ⟦<TakenControl as Defined>⟧.loan self.old) at) (λ c. IsTellable (with_lie lie c)) }
-        ensures changed { IsChangedAt (with_lie lie) at (records_of ⟦<TakenControl as Defined>⟧.loan self.old) (records_of ⟦<TakenControl as Defined>⟧.loan self.new) }
+        requires tellable { IfSome (slice_get (records_of ⟦<TakenControl as Defined>⟧.loan self.old) at)
+            (λ c. IsTellable (with_lie lie c)) }
+        ensures changed { IsChangedAt (with_lie lie) at (records_of ⟦<TakenControl as Defined>⟧.loan self.old)
+            (records_of ⟦<TakenControl as Defined>⟧.loan self.new) }
         ensures next { self.new.list.next ≡ self.old.list.next }
         ensures alloc { self.new.alloc ≡ self.old.alloc }
     {
@@ -171,7 +176,8 @@ impl Controls<TakenControl> {
         shown: bool,
     ) -> Result<ControlReply, Refusal>
         requires kept { IsKept ⟦<TakenWindow as Defined>⟧.loan windows.old }
-        requires beside { AreBeside ⟦<TakenControl as Defined>⟧.loan ⟦<TakenWindow as Defined>⟧.loan windows.old self.old }
+        requires beside { AreBeside ⟦<TakenControl as Defined>⟧.loan ⟦<TakenWindow as Defined>⟧.loan windows.old
+            self.old }
         ensures { (o : Opened) → LeavesControls ⟦<TakenControl as Defined>⟧.loan ⟦<TakenWindow as Defined>⟧.loan
             (IsControlStep (shown_call shown control) result) windows.old o self.old windows.new o self.new }
     {
@@ -190,7 +196,8 @@ impl Controls<TakenControl> {
         moved: MoveControl,
     ) -> Result<ControlReply, Refusal>
         requires kept { IsKept ⟦<TakenWindow as Defined>⟧.loan windows.old }
-        requires beside { AreBeside ⟦<TakenControl as Defined>⟧.loan ⟦<TakenWindow as Defined>⟧.loan windows.old self.old }
+        requires beside { AreBeside ⟦<TakenControl as Defined>⟧.loan ⟦<TakenWindow as Defined>⟧.loan windows.old
+            self.old }
         ensures { (o : Opened) → LeavesControls ⟦<TakenControl as Defined>⟧.loan ⟦<TakenWindow as Defined>⟧.loan
             (IsControlStep (asks.Move moved) result) windows.old o self.old windows.new o self.new }
     {
@@ -212,7 +219,8 @@ impl Controls<TakenControl> {
         sized: SizeControl,
     ) -> Result<ControlReply, Refusal>
         requires kept { IsKept ⟦<TakenWindow as Defined>⟧.loan windows.old }
-        requires beside { AreBeside ⟦<TakenControl as Defined>⟧.loan ⟦<TakenWindow as Defined>⟧.loan windows.old self.old }
+        requires beside { AreBeside ⟦<TakenControl as Defined>⟧.loan ⟦<TakenWindow as Defined>⟧.loan windows.old
+            self.old }
         ensures { (o : Opened) → LeavesControls ⟦<TakenControl as Defined>⟧.loan ⟦<TakenWindow as Defined>⟧.loan
             (IsControlStep (asks.Size sized) result) windows.old o self.old windows.new o self.new }
     {

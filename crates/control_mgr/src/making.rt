@@ -102,7 +102,8 @@ impl Controls<TakenControl> {
     fn refusal_without(&self, windows: &WindowManager, new: &NewControl<'_>) -> Refusal
         requires { IsKept ⟦<TakenWindow as Defined>⟧.loan windows.now }
         ensures { first_refusal (judged_refusals new.now None (desk_of ⟦<TakenWindow as Defined>⟧.loan windows.now [])
-            (records_of ⟦<TakenControl as Defined>⟧.loan self.now) self.now.list.next ++ (true, Refusal.NoDefinition) ∷ []) ≡ Some result }
+            (records_of ⟦<TakenControl as Defined>⟧.loan self.now) self.now.list.next ++ (true, Refusal.NoDefinition)
+            ∷ []) ≡ Some result }
     {
         match self.judge(windows, new, None) {
             Ok(_ticket) => Refusal::NoDefinition,
@@ -119,9 +120,11 @@ impl Controls<TakenControl> {
     ) -> Result<Ticket, Refusal>
         requires { IsKept ⟦<TakenWindow as Defined>⟧.loan windows.now }
         ensures { let d = definition_if ⟦<TakenControl as Defined>⟧.loan taken.entry in MatchResult result
-            (λ ticket. (judged_by ⟦<TakenWindow as Defined>⟧.loan ⟦<TakenControl as Defined>⟧.loan new.now d windows.now self.now ≡ None)
+            (λ ticket. (judged_by ⟦<TakenWindow as Defined>⟧.loan ⟦<TakenControl as Defined>⟧.loan new.now d windows.now
+            self.now ≡ None)
             × IsTicket ⟦<TakenControl as Defined>⟧.loan new.now d windows.now self.now ticket)
-            (λ e. judged_by ⟦<TakenWindow as Defined>⟧.loan ⟦<TakenControl as Defined>⟧.loan new.now d windows.now self.now ≡ Some e) }
+            (λ e. judged_by ⟦<TakenWindow as Defined>⟧.loan ⟦<TakenControl as Defined>⟧.loan new.now d windows.now
+            self.now ≡ Some e) }
     {
         let Some(window) = windows.find(new.window) else {
             return Err(Refusal::NoSuchWindow);
@@ -153,11 +156,15 @@ impl Controls<TakenControl> {
         taken: &TakenControl,
     ) -> Result<Addition, Refusal>
         requires kept { IsKept ⟦<TakenWindow as Defined>⟧.loan windows.now }
-        requires beside { AreBeside ⟦<TakenControl as Defined>⟧.loan ⟦<TakenWindow as Defined>⟧.loan windows.now self.old }
+        requires beside { AreBeside ⟦<TakenControl as Defined>⟧.loan ⟦<TakenWindow as Defined>⟧.loan windows.now
+            self.old }
         ensures same { IsRoomier self.old self.new }
-        ensures judged { IfOk result (λ _. judged_by ⟦<TakenWindow as Defined>⟧.loan ⟦<TakenControl as Defined>⟧.loan new.now (Some (⟦<TakenControl as Defined>⟧.loan taken.now).definition) windows.now self.old ≡ None) }
-        ensures ok { IfOk result (IsAddition ⟦<TakenWindow as Defined>⟧.loan ⟦<TakenControl as Defined>⟧.loan new.now (⟦<TakenControl as Defined>⟧.loan taken.now).definition windows.now self.new) }
-        ensures err { IfErr result (IsNotAdded ⟦<TakenWindow as Defined>⟧.loan ⟦<TakenControl as Defined>⟧.loan new.now (⟦<TakenControl as Defined>⟧.loan taken.now).definition windows.now self.old) }
+        ensures judged { IfOk result (λ _. judged_by ⟦<TakenWindow as Defined>⟧.loan ⟦<TakenControl as Defined>⟧.loan
+            new.now (Some (⟦<TakenControl as Defined>⟧.loan taken.now).definition) windows.now self.old ≡ None) }
+        ensures ok { IfOk result (IsAddition ⟦<TakenWindow as Defined>⟧.loan ⟦<TakenControl as Defined>⟧.loan new.now
+            (⟦<TakenControl as Defined>⟧.loan taken.now).definition windows.now self.new) }
+        ensures err { IfErr result (IsNotAdded ⟦<TakenWindow as Defined>⟧.loan ⟦<TakenControl as Defined>⟧.loan new.now
+            (⟦<TakenControl as Defined>⟧.loan taken.now).definition windows.now self.old) }
     {
         let ticket = self.judge(windows, new, Some(taken))?;
         let layers = &windows.list().at(ticket.window).layers;
@@ -183,10 +190,13 @@ impl Controls<TakenControl> {
         requires kept { IsKept ⟦<TakenWindow as Defined>⟧.loan windows.now }
         requires at { ticket.window < length windows.now.windows.records.items }
         requires may { MayGrow new.now (⟦<TakenControl as Defined>⟧.loan taken.now).definition ticket layers.now }
-        ensures grown { IfOk result (IsGrown new.now (⟦<TakenControl as Defined>⟧.loan taken.now).definition ticket layers.now) }
+        ensures grown { IfOk result (IsGrown new.now (⟦<TakenControl as Defined>⟧.loan taken.now).definition ticket
+            layers.now) }
         ensures planned { IfOk result (λ addition. (u : _) (m : _)
-            → IsReadyToAdd ⟦<TakenWindow as Defined>⟧.loan ⟦<TakenControl as Defined>⟧.loan new.now (⟦<TakenControl as Defined>⟧.loan taken.now).definition ticket layers.now update.now windows.now u m
-            → IsAddition ⟦<TakenWindow as Defined>⟧.loan ⟦<TakenControl as Defined>⟧.loan new.now (⟦<TakenControl as Defined>⟧.loan taken.now).definition u m addition) }
+            → IsReadyToAdd ⟦<TakenWindow as Defined>⟧.loan ⟦<TakenControl as Defined>⟧.loan new.now
+            (⟦<TakenControl as Defined>⟧.loan taken.now).definition ticket layers.now update.now windows.now u m
+            → IsAddition ⟦<TakenWindow as Defined>⟧.loan ⟦<TakenControl as Defined>⟧.loan new.now
+            (⟦<TakenControl as Defined>⟧.loan taken.now).definition u m addition) }
     {
         let lie = Lie {
             place: new.place,
@@ -219,13 +229,17 @@ impl Controls<TakenControl> {
         taken: TakenControl,
     )
         requires kept { IsKept ⟦<TakenWindow as Defined>⟧.loan windows.old }
-        requires beside { AreBeside ⟦<TakenControl as Defined>⟧.loan ⟦<TakenWindow as Defined>⟧.loan windows.old self.old }
-        requires addition { IsAddition ⟦<TakenWindow as Defined>⟧.loan ⟦<TakenControl as Defined>⟧.loan new.now (⟦<TakenControl as Defined>⟧.loan taken).definition windows.old self.old addition }
+        requires beside { AreBeside ⟦<TakenControl as Defined>⟧.loan ⟦<TakenWindow as Defined>⟧.loan windows.old
+            self.old }
+        requires addition { IsAddition ⟦<TakenWindow as Defined>⟧.loan ⟦<TakenControl as Defined>⟧.loan new.now
+            (⟦<TakenControl as Defined>⟧.loan taken).definition windows.old self.old addition }
         requires fresh { (⟦<TakenControl as Defined>⟧.loan taken).definition.stage ≡ Stage.Fresh }
-        ensures step { (before left : _) → IsTaken (λ d. d.stage) new.now.kind (⟦<TakenControl as Defined>⟧.loan taken) before left
+        ensures step { (before left : _) → IsTaken (λ d. d.stage) new.now.kind (⟦<TakenControl as Defined>⟧.loan taken)
+            before left
             → (o : Opened) → LeavesOver ⟦<TakenControl as Defined>⟧.loan ⟦<TakenWindow as Defined>⟧.loan before left
             (IsControlMade new.now addition.ticket.serial) windows.old o self.old windows.new o self.new }
-        ensures put { AreLayersPut addition.ticket.window addition.layers addition.relaying.update windows.old windows.new }
+        ensures put { AreLayersPut addition.ticket.window addition.layers addition.relaying.update windows.old
+            windows.new }
         ensures room { vec_capacity self.old.list.items ≤ vec_capacity self.new.list.items }
     {
         let mut taken = taken;

@@ -32,7 +32,8 @@ impl Controls<TakenControl> {
         requires trackable { IsTrackable activity.old (records_of ⟦<TakenControl as Defined>⟧.loan self.old) }
         requires admitted { gate activity.old (control_standing call.now) ≡ None }
         ensures step { (begun : PixelSet) → LeavesOver ⟦<TakenControl as Defined>⟧.loan ⟦<TakenWindow as Defined>⟧.loan
-            (⟦<ControlStock as Stocked>⟧.slots stock.old) (⟦<ControlStock as Stocked>⟧.slots stock.new) (IsWhereRight (IsControlStep call.now result))
+            (⟦<ControlStock as Stocked>⟧.slots stock.old) (⟦<ControlStock as Stocked>⟧.slots stock.new)
+            (IsWhereRight (IsControlStep call.now result))
             windows.old (opened activity.old begun) self.old windows.new (opened activity.new begun) self.new }
         ensures trackable { IsTrackable activity.new (records_of ⟦<TakenControl as Defined>⟧.loan self.new) }
     {

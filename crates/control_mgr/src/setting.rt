@@ -57,9 +57,12 @@ impl Controls<TakenControl> {
     /// Gives a control this state, and draws it within the damage where it is not to be redrawn. Takes no memory.
     pub(crate) fn put(&mut self, windows: &mut WindowManager, spot: ControlAt, state: State)
         requires kept { IsKept ⟦<TakenWindow as Defined>⟧.loan windows.old }
-        requires beside { AreBeside ⟦<TakenControl as Defined>⟧.loan ⟦<TakenWindow as Defined>⟧.loan windows.old self.old }
-        requires spot { IsSpot ⟦<TakenWindow as Defined>⟧.loan ⟦<TakenControl as Defined>⟧.loan windows.old self.old spot }
-        ensures { (c : Named) → IsSpotOf ⟦<TakenWindow as Defined>⟧.loan ⟦<TakenControl as Defined>⟧.loan c windows.old self.old spot
+        requires beside { AreBeside ⟦<TakenControl as Defined>⟧.loan ⟦<TakenWindow as Defined>⟧.loan windows.old
+            self.old }
+        requires spot { IsSpot ⟦<TakenWindow as Defined>⟧.loan ⟦<TakenControl as Defined>⟧.loan windows.old self.old
+            spot }
+        ensures { (c : Named) → IsSpotOf ⟦<TakenWindow as Defined>⟧.loan ⟦<TakenControl as Defined>⟧.loan c windows.old
+            self.old spot
             → (o u : Opened) → LeavesControls ⟦<TakenControl as Defined>⟧.loan ⟦<TakenWindow as Defined>⟧.loan
             (IsPut c (with_state state)) windows.old o self.old windows.new u self.new }
     {
@@ -82,7 +85,8 @@ impl Controls<TakenControl> {
         values: ControlValues,
     )
         requires kept { IsKept ⟦<TakenWindow as Defined>⟧.loan windows.old }
-        requires beside { AreBeside ⟦<TakenControl as Defined>⟧.loan ⟦<TakenWindow as Defined>⟧.loan windows.old self.old }
+        requires beside { AreBeside ⟦<TakenControl as Defined>⟧.loan ⟦<TakenWindow as Defined>⟧.loan windows.old
+            self.old }
         ensures { (o u : Opened) → LeavesControls ⟦<TakenControl as Defined>⟧.loan ⟦<TakenWindow as Defined>⟧.loan
             (IsSettingGiven control values) windows.old o self.old windows.new u self.new }
     {
@@ -100,7 +104,8 @@ impl Controls<TakenControl> {
         set: ControlNumber,
     ) -> Result<ControlReply, Refusal>
         requires kept { IsKept ⟦<TakenWindow as Defined>⟧.loan windows.old }
-        requires beside { AreBeside ⟦<TakenControl as Defined>⟧.loan ⟦<TakenWindow as Defined>⟧.loan windows.old self.old }
+        requires beside { AreBeside ⟦<TakenControl as Defined>⟧.loan ⟦<TakenWindow as Defined>⟧.loan windows.old
+            self.old }
         ensures { (o : Opened) → LeavesControls ⟦<TakenControl as Defined>⟧.loan ⟦<TakenWindow as Defined>⟧.loan
             (IsWhereRight (IsControlStep (asks.SetValue set) result)) windows.old o self.old windows.new o self.new }
     {
@@ -118,7 +123,8 @@ impl Controls<TakenControl> {
         set: ControlNumber,
     ) -> Result<ControlReply, Refusal>
         requires kept { IsKept ⟦<TakenWindow as Defined>⟧.loan windows.old }
-        requires beside { AreBeside ⟦<TakenControl as Defined>⟧.loan ⟦<TakenWindow as Defined>⟧.loan windows.old self.old }
+        requires beside { AreBeside ⟦<TakenControl as Defined>⟧.loan ⟦<TakenWindow as Defined>⟧.loan windows.old
+            self.old }
         ensures { (o : Opened) → LeavesControls ⟦<TakenControl as Defined>⟧.loan ⟦<TakenWindow as Defined>⟧.loan
             (IsWhereRight (IsControlStep (asks.SetMinimum set) result)) windows.old o self.old windows.new o self.new }
     {
@@ -136,7 +142,8 @@ impl Controls<TakenControl> {
         set: ControlNumber,
     ) -> Result<ControlReply, Refusal>
         requires kept { IsKept ⟦<TakenWindow as Defined>⟧.loan windows.old }
-        requires beside { AreBeside ⟦<TakenControl as Defined>⟧.loan ⟦<TakenWindow as Defined>⟧.loan windows.old self.old }
+        requires beside { AreBeside ⟦<TakenControl as Defined>⟧.loan ⟦<TakenWindow as Defined>⟧.loan windows.old
+            self.old }
         ensures { (o : Opened) → LeavesControls ⟦<TakenControl as Defined>⟧.loan ⟦<TakenWindow as Defined>⟧.loan
             (IsWhereRight (IsControlStep (asks.SetMaximum set) result)) windows.old o self.old windows.new o self.new }
     {
@@ -154,7 +161,8 @@ impl Controls<TakenControl> {
         set: ControlNumber,
     ) -> Result<ControlReply, Refusal>
         requires kept { IsKept ⟦<TakenWindow as Defined>⟧.loan windows.old }
-        requires beside { AreBeside ⟦<TakenControl as Defined>⟧.loan ⟦<TakenWindow as Defined>⟧.loan windows.old self.old }
+        requires beside { AreBeside ⟦<TakenControl as Defined>⟧.loan ⟦<TakenWindow as Defined>⟧.loan windows.old
+            self.old }
         ensures { (o : Opened) → LeavesControls ⟦<TakenControl as Defined>⟧.loan ⟦<TakenWindow as Defined>⟧.loan
             (IsWhereRight (IsControlStep (asks.Hilite set) result)) windows.old o self.old windows.new o self.new }
     {
@@ -172,9 +180,11 @@ impl Controls<TakenControl> {
         set: &ControlTitle<'_>,
     ) -> Result<ControlReply, Refusal>
         requires kept { IsKept ⟦<TakenWindow as Defined>⟧.loan windows.old }
-        requires beside { AreBeside ⟦<TakenControl as Defined>⟧.loan ⟦<TakenWindow as Defined>⟧.loan windows.old self.old }
+        requires beside { AreBeside ⟦<TakenControl as Defined>⟧.loan ⟦<TakenWindow as Defined>⟧.loan windows.old
+            self.old }
         ensures { (o : Opened) → LeavesControls ⟦<TakenControl as Defined>⟧.loan ⟦<TakenWindow as Defined>⟧.loan
-            (IsWhereRight (IsControlStep (asks.SetTitle set.now) result)) windows.old o self.old windows.new o self.new }
+            (IsWhereRight (IsControlStep (asks.SetTitle set.now) result)) windows.old o self.old windows.new o
+            self.new }
     {
         let spot = self.spot(windows, set.control)?;
         let mut state = self.state(spot.control);

@@ -10,7 +10,8 @@ ghost use Rattle.window_mgr.specs.DeskStates.{Opened};
 ghost use Rattle.control_mgr.specs.Fields.{with_highlight};
 ghost use Rattle.control_mgr.specs.Seen.{seen};
 ghost use Rattle.control_mgr.specs.ControlDesks.{index_of};
-ghost use Rattle.control_mgr.specs.ControlSteps.{IsControlStep, IsHighlighted, dragged, highlight_after, highlight_of, is_part, is_thumb, released_setting, tracked_part};
+ghost use Rattle.control_mgr.specs.ControlSteps.{IsControlStep, IsHighlighted, dragged, highlight_after, highlight_of};
+ghost use Rattle.control_mgr.specs.ControlSteps.{is_part, is_thumb, released_setting, tracked_part};
 ghost use Rattle.control_mgr.specs.Damages.{IsPut, IsWhereRight};
 ghost use Rattle.control_mgr.specs.Spots.{IsSpot, IsSpotOf, opened};
 ghost use Rattle.control_mgr.specs.Settled.{AreSettled};
@@ -75,7 +76,8 @@ impl Controls<TakenControl> {
         requires at { at < length self.now.list.items.items }
         requires settled { AreSettled (records_of ⟦<TakenControl as Defined>⟧.loan self.now) }
         requires point { in_plane point ≡ true }
-        ensures { result ≡ tracked_part tracked (slice_get (records_of ⟦<TakenControl as Defined>⟧.loan self.now) at) point }
+        ensures { result ≡ tracked_part tracked (slice_get (records_of ⟦<TakenControl as Defined>⟧.loan self.now) at)
+            point }
     {
         let control = &self.list.items[at];
         let inside = if is_thumb(tracked.part) {
@@ -92,7 +94,8 @@ impl Controls<TakenControl> {
         requires settled { AreSettled (records_of ⟦<TakenControl as Defined>⟧.loan self.now) }
         requires from { in_plane tracked.from ≡ true }
         requires point { in_plane point ≡ true }
-        ensures { IfSome (slice_get (records_of ⟦<TakenControl as Defined>⟧.loan self.now) at) (λ c. result ≡ dragged tracked point c) }
+        ensures { IfSome (slice_get (records_of ⟦<TakenControl as Defined>⟧.loan self.now) at)
+            (λ c. result ≡ dragged tracked point c) }
     {
         let control = &self.list.items[at];
         let from = local(tracked.from, control.kept.place);
@@ -116,7 +119,8 @@ impl Controls<TakenControl> {
         requires settled { AreSettled (records_of ⟦<TakenControl as Defined>⟧.loan self.now) }
         requires from { in_plane tracked.from ≡ true }
         requires point { in_plane point ≡ true }
-        ensures { IfSome (slice_get (records_of ⟦<TakenControl as Defined>⟧.loan self.now) at) (λ c. result ≡ released_setting tracked point part c) }
+        ensures { IfSome (slice_get (records_of ⟦<TakenControl as Defined>⟧.loan self.now) at)
+            (λ c. result ≡ released_setting tracked point part c) }
     {
         if is_thumb(tracked.part) && part.is_some() {
             return self.dragged(at, tracked, point);
@@ -127,9 +131,12 @@ impl Controls<TakenControl> {
     /// Highlights a control, and draws it within the damage where it is not to be redrawn.
     fn highlight(&mut self, windows: &mut WindowManager, spot: ControlAt, highlight: Highlight)
         requires kept { IsKept ⟦<TakenWindow as Defined>⟧.loan windows.old }
-        requires beside { AreBeside ⟦<TakenControl as Defined>⟧.loan ⟦<TakenWindow as Defined>⟧.loan windows.old self.old }
-        requires spot { IsSpot ⟦<TakenWindow as Defined>⟧.loan ⟦<TakenControl as Defined>⟧.loan windows.old self.old spot }
-        ensures { (c : Named) → IsSpotOf ⟦<TakenWindow as Defined>⟧.loan ⟦<TakenControl as Defined>⟧.loan c windows.old self.old spot
+        requires beside { AreBeside ⟦<TakenControl as Defined>⟧.loan ⟦<TakenWindow as Defined>⟧.loan windows.old
+            self.old }
+        requires spot { IsSpot ⟦<TakenWindow as Defined>⟧.loan ⟦<TakenControl as Defined>⟧.loan windows.old self.old
+            spot }
+        ensures { (c : Named) → IsSpotOf ⟦<TakenWindow as Defined>⟧.loan ⟦<TakenControl as Defined>⟧.loan c windows.old
+            self.old spot
             → (o u : Opened) → LeavesControls ⟦<TakenControl as Defined>⟧.loan ⟦<TakenWindow as Defined>⟧.loan
             (IsPut c (with_highlight highlight)) windows.old o self.old windows.new u self.new }
     {
@@ -147,12 +154,17 @@ impl Controls<TakenControl> {
         highlight: Highlight,
     )
         requires kept { IsKept ⟦<TakenWindow as Defined>⟧.loan windows.old }
-        requires beside { AreBeside ⟦<TakenControl as Defined>⟧.loan ⟦<TakenWindow as Defined>⟧.loan windows.old self.old }
-        requires spot { IsSpot ⟦<TakenWindow as Defined>⟧.loan ⟦<TakenControl as Defined>⟧.loan windows.old self.old spot }
-        ensures shown { (c : Named) → IsSpotOf ⟦<TakenWindow as Defined>⟧.loan ⟦<TakenControl as Defined>⟧.loan c windows.old self.old spot
+        requires beside { AreBeside ⟦<TakenControl as Defined>⟧.loan ⟦<TakenWindow as Defined>⟧.loan windows.old
+            self.old }
+        requires spot { IsSpot ⟦<TakenWindow as Defined>⟧.loan ⟦<TakenControl as Defined>⟧.loan windows.old self.old
+            spot }
+        ensures shown { (c : Named) → IsSpotOf ⟦<TakenWindow as Defined>⟧.loan ⟦<TakenControl as Defined>⟧.loan c
+            windows.old self.old spot
             → (o u : Opened) → LeavesControls ⟦<TakenControl as Defined>⟧.loan ⟦<TakenWindow as Defined>⟧.loan
-            (IsWhereRight (IsHighlighted (is_thumb tracked) c highlight)) windows.old o self.old windows.new u self.new }
-        ensures there { (c : Named) → index_of c (records_of ⟦<TakenControl as Defined>⟧.loan self.new) ≡ index_of c (records_of ⟦<TakenControl as Defined>⟧.loan self.old) }
+            (IsWhereRight (IsHighlighted (is_thumb tracked) c highlight)) windows.old o self.old windows.new u
+            self.new }
+        ensures there { (c : Named) → index_of c (records_of ⟦<TakenControl as Defined>⟧.loan self.new)
+            ≡ index_of c (records_of ⟦<TakenControl as Defined>⟧.loan self.old) }
     {
         if is_thumb(tracked) {
             return;
@@ -168,9 +180,11 @@ impl Controls<TakenControl> {
         pressed: PointAtControl,
     ) -> Result<ControlReply, Refusal>
         requires kept { IsKept ⟦<TakenWindow as Defined>⟧.loan windows.old }
-        requires beside { AreBeside ⟦<TakenControl as Defined>⟧.loan ⟦<TakenWindow as Defined>⟧.loan windows.old self.old }
+        requires beside { AreBeside ⟦<TakenControl as Defined>⟧.loan ⟦<TakenWindow as Defined>⟧.loan windows.old
+            self.old }
         requires idle { activity.old ≡ Idle }
-        ensures step { (begun : PixelSet) → LeavesControls ⟦<TakenControl as Defined>⟧.loan ⟦<TakenWindow as Defined>⟧.loan
+        ensures step { (begun : PixelSet) → LeavesControls ⟦<TakenControl as Defined>⟧.loan
+            ⟦<TakenWindow as Defined>⟧.loan
             (IsWhereRight (IsControlStep (asks.Track pressed) result))
             windows.old (opened activity.old begun) self.old windows.new (opened activity.new begun) self.new }
         ensures trackable { IsTrackable activity.new (records_of ⟦<TakenControl as Defined>⟧.loan self.new) }
@@ -201,12 +215,17 @@ impl Controls<TakenControl> {
         point: Point,
     ) -> Result<ControlReply, Refusal>
         requires kept { IsKept ⟦<TakenWindow as Defined>⟧.loan windows.old }
-        requires beside { AreBeside ⟦<TakenControl as Defined>⟧.loan ⟦<TakenWindow as Defined>⟧.loan windows.old self.old }
-        requires trackable { IsTrackable (TrackingControl tracked) (records_of ⟦<TakenControl as Defined>⟧.loan self.old) }
-        ensures step { (begun : PixelSet) → LeavesControls ⟦<TakenControl as Defined>⟧.loan ⟦<TakenWindow as Defined>⟧.loan
+        requires beside { AreBeside ⟦<TakenControl as Defined>⟧.loan ⟦<TakenWindow as Defined>⟧.loan windows.old
+            self.old }
+        requires trackable { IsTrackable (TrackingControl tracked)
+            (records_of ⟦<TakenControl as Defined>⟧.loan self.old) }
+        ensures step { (begun : PixelSet) → LeavesControls ⟦<TakenControl as Defined>⟧.loan
+            ⟦<TakenWindow as Defined>⟧.loan
             (IsWhereRight (IsControlStep (asks.Step point) result))
-            windows.old (opened (TrackingControl tracked) begun) self.old windows.new (opened (TrackingControl tracked) begun) self.new }
-        ensures trackable { IsTrackable (TrackingControl tracked) (records_of ⟦<TakenControl as Defined>⟧.loan self.new) }
+            windows.old (opened (TrackingControl tracked) begun) self.old windows.new
+            (opened (TrackingControl tracked) begun) self.new }
+        ensures trackable { IsTrackable (TrackingControl tracked)
+            (records_of ⟦<TakenControl as Defined>⟧.loan self.new) }
     {
         if !point.is_in_range() {
             return Err(Refusal::OutOfRange);
@@ -226,10 +245,13 @@ impl Controls<TakenControl> {
         point: Point,
     ) -> Result<ControlReply, Refusal>
         requires kept { IsKept ⟦<TakenWindow as Defined>⟧.loan windows.old }
-        requires beside { AreBeside ⟦<TakenControl as Defined>⟧.loan ⟦<TakenWindow as Defined>⟧.loan windows.old self.old }
+        requires beside { AreBeside ⟦<TakenControl as Defined>⟧.loan ⟦<TakenWindow as Defined>⟧.loan windows.old
+            self.old }
         requires tracking { activity.old ≡ TrackingControl tracked }
-        requires trackable { IsTrackable (TrackingControl tracked) (records_of ⟦<TakenControl as Defined>⟧.loan self.old) }
-        ensures step { (begun : PixelSet) → LeavesControls ⟦<TakenControl as Defined>⟧.loan ⟦<TakenWindow as Defined>⟧.loan
+        requires trackable { IsTrackable (TrackingControl tracked)
+            (records_of ⟦<TakenControl as Defined>⟧.loan self.old) }
+        ensures step { (begun : PixelSet) → LeavesControls ⟦<TakenControl as Defined>⟧.loan
+            ⟦<TakenWindow as Defined>⟧.loan
             (IsWhereRight (IsControlStep (asks.End point) result))
             windows.old (opened activity.old begun) self.old windows.new (opened activity.new begun) self.new }
         ensures trackable { IsTrackable activity.new (records_of ⟦<TakenControl as Defined>⟧.loan self.new) }

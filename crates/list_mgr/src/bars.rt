@@ -25,8 +25,10 @@ fn set_bar(
     values: ControlValues,
 )
     requires kept { IsKept ⟦<TakenWindow as Defined>⟧.loan windows.old }
-    requires beside { AreControlsBeside ⟦<TakenControl as Defined>⟧.loan ⟦<TakenWindow as Defined>⟧.loan windows.old controls.old }
-    ensures { IsBarSetOver ⟦<TakenControl as Defined>⟧.loan ⟦<TakenWindow as Defined>⟧.loan window bar values windows.old controls.old windows.new controls.new }
+    requires beside { AreControlsBeside ⟦<TakenControl as Defined>⟧.loan ⟦<TakenWindow as Defined>⟧.loan windows.old
+        controls.old }
+    ensures { IsBarSetOver ⟦<TakenControl as Defined>⟧.loan ⟦<TakenWindow as Defined>⟧.loan window bar values
+        windows.old controls.old windows.new controls.new }
 {
     if let Some(control) = bar {
         controls.set_setting(windows, ControlOf { window, control }, values);
@@ -42,11 +44,14 @@ impl Lists<TakenList> {
         spot: ListAt,
     )
         requires kept { IsKept ⟦<TakenWindow as Defined>⟧.loan windows.old }
-        requires beside { AreControlsBeside ⟦<TakenControl as Defined>⟧.loan ⟦<TakenWindow as Defined>⟧.loan windows.old controls.old }
+        requires beside { AreControlsBeside ⟦<TakenControl as Defined>⟧.loan ⟦<TakenWindow as Defined>⟧.loan windows.old
+            controls.old }
         requires lists { AreBeside ⟦<TakenList as Defined>⟧.loan ⟦<TakenWindow as Defined>⟧.loan windows.old self.now }
         requires spot { IsSpot ⟦<TakenWindow as Defined>⟧.loan ⟦<TakenList as Defined>⟧.loan windows.old self.now spot }
-        ensures { (l : Named) → IsSpotOf ⟦<TakenWindow as Defined>⟧.loan ⟦<TakenList as Defined>⟧.loan l windows.old self.now spot
-            → LeavesLists ⟦<TakenList as Defined>⟧.loan ⟦<TakenWindow as Defined>⟧.loan ⟦<TakenControl as Defined>⟧.loan (IsWhereRight (AreBarsSet l)) windows.old controls.old self.now windows.new controls.new self.now }
+        ensures { (l : Named) → IsSpotOf ⟦<TakenWindow as Defined>⟧.loan ⟦<TakenList as Defined>⟧.loan l windows.old
+            self.now spot
+            → LeavesLists ⟦<TakenList as Defined>⟧.loan ⟦<TakenWindow as Defined>⟧.loan ⟦<TakenControl as Defined>⟧.loan
+            (IsWhereRight (AreBarsSet l)) windows.old controls.old self.now windows.new controls.new self.now }
     {
         let list = &self.list.items[spot.list];
         let down = list.kept.view.vertical_values(list.kept.cells.rows());

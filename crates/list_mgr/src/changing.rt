@@ -51,7 +51,8 @@ impl Lists<TakenList> {
         requires kept { IsKept ⟦<TakenWindow as Defined>⟧.loan windows.now }
         requires beside { AreBeside ⟦<TakenList as Defined>⟧.loan ⟦<TakenWindow as Defined>⟧.loan windows.now self.now }
         requires spot { IsSpot ⟦<TakenWindow as Defined>⟧.loan ⟦<TakenList as Defined>⟧.loan windows.now self.now spot }
-        ensures { MatchResult result (IsMark ⟦<TakenList as Defined>⟧.loan ⟦<TakenWindow as Defined>⟧.loan windows.now self.now spot)
+        ensures { MatchResult result (IsMark ⟦<TakenList as Defined>⟧.loan ⟦<TakenWindow as Defined>⟧.loan windows.now
+            self.now spot)
             (λ _. IsDrawing ⟦<TakenList as Defined>⟧.loan false self.now spot) }
     {
         if self.list.items[spot.list].kept.drawing {
@@ -78,8 +79,10 @@ impl Lists<TakenList> {
         requires kept { IsKept ⟦<TakenWindow as Defined>⟧.loan windows.old }
         requires beside { AreBeside ⟦<TakenList as Defined>⟧.loan ⟦<TakenWindow as Defined>⟧.loan windows.old self.now }
         requires spot { IsSpot ⟦<TakenWindow as Defined>⟧.loan ⟦<TakenList as Defined>⟧.loan windows.old self.now spot }
-        requires mark { IsMark ⟦<TakenList as Defined>⟧.loan ⟦<TakenWindow as Defined>⟧.loan windows.old self.now spot mark }
-        ensures { IsShownOrMarked ⟦<TakenList as Defined>⟧.loan ⟦<TakenWindow as Defined>⟧.loan within mark changes spot self.now windows.old windows.new }
+        requires mark { IsMark ⟦<TakenList as Defined>⟧.loan ⟦<TakenWindow as Defined>⟧.loan windows.old self.now spot
+            mark }
+        ensures { IsShownOrMarked ⟦<TakenList as Defined>⟧.loan ⟦<TakenWindow as Defined>⟧.loan within mark changes spot
+            self.now windows.old windows.new }
     {
         match mark {
             None => {

@@ -41,7 +41,8 @@ fn plan_bar(
     requires low { at < length windows.now.windows.records.items }
     requires apart { ArePartsApart layers.now.layers }
     ensures out { IfOk result (λ planned. IfSome planned (IsTakenOut at (bar_serial bar) layers.now)) }
-    ensures planned { IfOk result (IsBarPlanned ⟦<TakenControl as Defined>⟧.loan ⟦<TakenWindow as Defined>⟧.loan window bar at layers.now update.now windows.now) }
+    ensures planned { IfOk result (IsBarPlanned ⟦<TakenControl as Defined>⟧.loan ⟦<TakenWindow as Defined>⟧.loan window
+        bar at layers.now update.now windows.now) }
 {
     match bar {
         Some(control) => {
@@ -63,7 +64,8 @@ fn end_bar(
     requires kept { IsKept ⟦<TakenWindow as Defined>⟧.loan windows.old }
     requires whole { AreWholeControls (desk_of ⟦<TakenWindow as Defined>⟧.loan windows.old []).windows
         (controls_state ⟦<TakenControl as Defined>⟧.loan controls.old (⟦<ControlStock as Stocked>⟧.slots stock.old)) }
-    requires planned { IsBarToEnd ⟦<TakenControl as Defined>⟧.loan ⟦<TakenWindow as Defined>⟧.loan window bar windows.old controls.old planned }
+    requires planned { IsBarToEnd ⟦<TakenControl as Defined>⟧.loan ⟦<TakenWindow as Defined>⟧.loan window bar
+        windows.old controls.old planned }
     ensures gone { IsBarGoneOver ⟦<TakenControl as Defined>⟧.loan ⟦<TakenWindow as Defined>⟧.loan
         (⟦<ControlStock as Stocked>⟧.slots stock.old) (⟦<ControlStock as Stocked>⟧.slots stock.new)
         window bar windows.old controls.old windows.new controls.new }
@@ -87,13 +89,16 @@ impl Lists<TakenList> {
     ) -> Result<ListReply, Refusal>
         requires kept { IsKept ⟦<TakenWindow as Defined>⟧.loan windows.old }
         requires controls { AreWholeControls (desk_of ⟦<TakenWindow as Defined>⟧.loan windows.old []).windows
-            (controls_state ⟦<TakenControl as Defined>⟧.loan controls.old (⟦<ControlStock as Stocked>⟧.slots bars.old)) }
+            (controls_state ⟦<TakenControl as Defined>⟧.loan controls.old
+            (⟦<ControlStock as Stocked>⟧.slots bars.old)) }
         requires lists { AreWholeLists (desk_of ⟦<TakenWindow as Defined>⟧.loan windows.old []).windows
             (lists_state ⟦<TakenList as Defined>⟧.loan self.old (⟦<ListStock as Stocked>⟧.slots stock.old)) }
-        ensures { LeavesOver ⟦<TakenList as Defined>⟧.loan ⟦<TakenWindow as Defined>⟧.loan ⟦<TakenControl as Defined>⟧.loan
+        ensures { LeavesOver ⟦<TakenList as Defined>⟧.loan ⟦<TakenWindow as Defined>⟧.loan
+            ⟦<TakenControl as Defined>⟧.loan
             (⟦<ControlStock as Stocked>⟧.slots bars.old) (⟦<ControlStock as Stocked>⟧.slots bars.new)
             (⟦<ListStock as Stocked>⟧.slots stock.old) (⟦<ListStock as Stocked>⟧.slots stock.new)
-            (IsListStep (asks.Dispose list) result) windows.old controls.old self.old windows.new controls.new self.new }
+            (IsListStep (asks.Dispose list) result) windows.old controls.old self.old windows.new controls.new
+            self.new }
     {
         let spot = self.spot(windows, list)?;
         let layer = self.layer(windows, spot);
@@ -128,8 +133,10 @@ impl Lists<TakenList> {
     /// stay. Takes no memory, and draws nothing: this is for a window that is no more, whose controls end with it.
     pub fn end_of(&mut self, window: u64, stock: &mut ListStock)
         requires live { AreLiveLists (records_of ⟦<TakenList as Defined>⟧.loan self.old) }
-        requires stocked { AreStocked (λ d. d.stage) (slots_of (records_of ⟦<TakenList as Defined>⟧.loan self.old)) (⟦<ListStock as Stocked>⟧.slots stock.old) }
-        ensures { AreListsOfLeft window (lists_state ⟦<TakenList as Defined>⟧.loan self.old (⟦<ListStock as Stocked>⟧.slots stock.old))
+        requires stocked { AreStocked (λ d. d.stage) (slots_of (records_of ⟦<TakenList as Defined>⟧.loan self.old))
+            (⟦<ListStock as Stocked>⟧.slots stock.old) }
+        ensures { AreListsOfLeft window (lists_state ⟦<TakenList as Defined>⟧.loan self.old
+            (⟦<ListStock as Stocked>⟧.slots stock.old))
             (lists_state ⟦<TakenList as Defined>⟧.loan self.new (⟦<ListStock as Stocked>⟧.slots stock.new)) }
     {
         while let Some(list) = self.list.take_of(window) {
@@ -141,8 +148,10 @@ impl Lists<TakenList> {
     /// stays as it was. Takes no memory, and refuses nothing.
     pub fn close(self, stock: &mut ListStock)
         requires live { AreLiveLists (records_of ⟦<TakenList as Defined>⟧.loan self) }
-        requires stocked { AreStocked (λ d. d.stage) (slots_of (records_of ⟦<TakenList as Defined>⟧.loan self)) (⟦<ListStock as Stocked>⟧.slots stock.old) }
-        ensures { AreAllListsClosed (records_of ⟦<TakenList as Defined>⟧.loan self) (⟦<ListStock as Stocked>⟧.slots stock.old) (⟦<ListStock as Stocked>⟧.slots stock.new) }
+        requires stocked { AreStocked (λ d. d.stage) (slots_of (records_of ⟦<TakenList as Defined>⟧.loan self))
+            (⟦<ListStock as Stocked>⟧.slots stock.old) }
+        ensures { AreAllListsClosed (records_of ⟦<TakenList as Defined>⟧.loan self)
+            (⟦<ListStock as Stocked>⟧.slots stock.old) (⟦<ListStock as Stocked>⟧.slots stock.new) }
     {
         let Lists { list, .. } = self;
         let Items { items, .. } = list;

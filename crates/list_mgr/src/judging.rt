@@ -127,7 +127,8 @@ fn view_with_bars(
     ensures { (w : WindowRecord) → w.place ≡ window
         → let refusals = lie_refusals new.now (definition_if ⟦<TakenControl as Defined>⟧.loan vertical.entry)
         (definition_if ⟦<TakenControl as Defined>⟧.loan horizontal.entry) (Some w) in
-        MatchResult result (λ view. (view ≡ view_of new.now) × (first_refusal refusals ≡ None)) (λ e. first_refusal refusals ≡ Some e) }
+        MatchResult result (λ view. (view ≡ view_of new.now) × (first_refusal refusals ≡ None))
+        (λ e. first_refusal refusals ≡ Some e) }
 {
     let view = view_in(new, window)?;
     let down = may_bar_be_in(new.vertical_bar, vertical, view.vertical_bar(), window);
@@ -224,7 +225,8 @@ impl Lists<TakenList> {
             MatchResult result
             (IsListTicket ⟦<TakenWindow as Defined>⟧.loan ⟦<TakenControl as Defined>⟧.loan ⟦<TakenList as Defined>⟧.loan
             new.now v h windows.now controls.now self.now)
-            (λ e. judged_by ⟦<TakenWindow as Defined>⟧.loan ⟦<TakenControl as Defined>⟧.loan ⟦<TakenList as Defined>⟧.loan
+            (λ e. judged_by ⟦<TakenWindow as Defined>⟧.loan ⟦<TakenControl as Defined>⟧.loan
+            ⟦<TakenList as Defined>⟧.loan
             new.now v h windows.now controls.now self.now ≡ Some e) }
     {
         let Some(window) = windows.find(new.window) else {

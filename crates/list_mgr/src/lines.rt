@@ -33,9 +33,11 @@ impl Lists<TakenList> {
     /// Scrolls the list that stands here, as far as there are cells to be seen, and says whether it is scrolled otherwise then.
     fn scroll_by(&mut self, spot: ListAt, columns: i32, rows: i32) -> bool
         requires { spot.list < length self.old.list.items.items }
-        ensures lists { records_of ⟦<TakenList as Defined>⟧.loan self.new ≡ edit_at (with_scroll columns rows) spot.list (records_of ⟦<TakenList as Defined>⟧.loan self.old) }
+        ensures lists { records_of ⟦<TakenList as Defined>⟧.loan self.new
+            ≡ edit_at (with_scroll columns rows) spot.list (records_of ⟦<TakenList as Defined>⟧.loan self.old) }
         ensures next { self.new.list.next ≡ self.old.list.next }
-        ensures changes { IfSome (slice_get (records_of ⟦<TakenList as Defined>⟧.loan self.old) spot.list) (λ x. IsSameOrNot result (with_scroll columns rows x) x) }
+        ensures changes { IfSome (slice_get (records_of ⟦<TakenList as Defined>⟧.loan self.old) spot.list)
+            (λ x. IsSameOrNot result (with_scroll columns rows x) x) }
     {
         let list = &self.list.items[spot.list];
         let old = list.kept.view;
@@ -61,11 +63,14 @@ impl Lists<TakenList> {
         changes: bool,
     )
         requires kept { IsKept ⟦<TakenWindow as Defined>⟧.loan windows.old }
-        requires beside { AreControlsBeside ⟦<TakenControl as Defined>⟧.loan ⟦<TakenWindow as Defined>⟧.loan windows.old controls.old }
+        requires beside { AreControlsBeside ⟦<TakenControl as Defined>⟧.loan ⟦<TakenWindow as Defined>⟧.loan windows.old
+            controls.old }
         requires lists { AreBeside ⟦<TakenList as Defined>⟧.loan ⟦<TakenWindow as Defined>⟧.loan windows.old self.now }
         requires spot { IsSpot ⟦<TakenWindow as Defined>⟧.loan ⟦<TakenList as Defined>⟧.loan windows.old self.now spot }
-        requires mark { IsMark ⟦<TakenList as Defined>⟧.loan ⟦<TakenWindow as Defined>⟧.loan windows.old self.now spot mark }
-        ensures { IsShownWithBars ⟦<TakenControl as Defined>⟧.loan ⟦<TakenWindow as Defined>⟧.loan ⟦<TakenList as Defined>⟧.loan within mark changes spot self.now
+        requires mark { IsMark ⟦<TakenList as Defined>⟧.loan ⟦<TakenWindow as Defined>⟧.loan windows.old self.now spot
+            mark }
+        ensures { IsShownWithBars ⟦<TakenControl as Defined>⟧.loan ⟦<TakenWindow as Defined>⟧.loan
+            ⟦<TakenList as Defined>⟧.loan within mark changes spot self.now
             windows.old controls.old windows.new controls.new }
     {
         self.show(windows, spot, within, mark, changes);
@@ -80,10 +85,13 @@ impl Lists<TakenList> {
         lines: ListLines,
     ) -> Result<ListReply, Refusal>
         requires kept { IsKept ⟦<TakenWindow as Defined>⟧.loan windows.old }
-        requires beside { AreControlsBeside ⟦<TakenControl as Defined>⟧.loan ⟦<TakenWindow as Defined>⟧.loan windows.old controls.old }
+        requires beside { AreControlsBeside ⟦<TakenControl as Defined>⟧.loan ⟦<TakenWindow as Defined>⟧.loan windows.old
+            controls.old }
         requires lists { AreBeside ⟦<TakenList as Defined>⟧.loan ⟦<TakenWindow as Defined>⟧.loan windows.old self.old }
-        ensures { LeavesLists ⟦<TakenList as Defined>⟧.loan ⟦<TakenWindow as Defined>⟧.loan ⟦<TakenControl as Defined>⟧.loan
-            (IsWhereRight (IsListStep (asks.AddRows lines) result)) windows.old controls.old self.old windows.new controls.new self.new }
+        ensures { LeavesLists ⟦<TakenList as Defined>⟧.loan ⟦<TakenWindow as Defined>⟧.loan
+            ⟦<TakenControl as Defined>⟧.loan
+            (IsWhereRight (IsListStep (asks.AddRows lines) result)) windows.old controls.old self.old windows.new
+            controls.new self.new }
     {
         let spot = self.spot(windows, lines.list)?;
         if let Some(refusal) = self.list.items[spot.list]
@@ -112,10 +120,13 @@ impl Lists<TakenList> {
         lines: ListLines,
     ) -> Result<ListReply, Refusal>
         requires kept { IsKept ⟦<TakenWindow as Defined>⟧.loan windows.old }
-        requires beside { AreControlsBeside ⟦<TakenControl as Defined>⟧.loan ⟦<TakenWindow as Defined>⟧.loan windows.old controls.old }
+        requires beside { AreControlsBeside ⟦<TakenControl as Defined>⟧.loan ⟦<TakenWindow as Defined>⟧.loan windows.old
+            controls.old }
         requires lists { AreBeside ⟦<TakenList as Defined>⟧.loan ⟦<TakenWindow as Defined>⟧.loan windows.old self.old }
-        ensures { LeavesLists ⟦<TakenList as Defined>⟧.loan ⟦<TakenWindow as Defined>⟧.loan ⟦<TakenControl as Defined>⟧.loan
-            (IsWhereRight (IsListStep (asks.AddColumns lines) result)) windows.old controls.old self.old windows.new controls.new self.new }
+        ensures { LeavesLists ⟦<TakenList as Defined>⟧.loan ⟦<TakenWindow as Defined>⟧.loan
+            ⟦<TakenControl as Defined>⟧.loan
+            (IsWhereRight (IsListStep (asks.AddColumns lines) result)) windows.old controls.old self.old windows.new
+            controls.new self.new }
     {
         let spot = self.spot(windows, lines.list)?;
         if let Some(refusal) = self.list.items[spot.list]
@@ -144,10 +155,13 @@ impl Lists<TakenList> {
         lines: ListLines,
     ) -> Result<ListReply, Refusal>
         requires kept { IsKept ⟦<TakenWindow as Defined>⟧.loan windows.old }
-        requires beside { AreControlsBeside ⟦<TakenControl as Defined>⟧.loan ⟦<TakenWindow as Defined>⟧.loan windows.old controls.old }
+        requires beside { AreControlsBeside ⟦<TakenControl as Defined>⟧.loan ⟦<TakenWindow as Defined>⟧.loan windows.old
+            controls.old }
         requires lists { AreBeside ⟦<TakenList as Defined>⟧.loan ⟦<TakenWindow as Defined>⟧.loan windows.old self.old }
-        ensures { LeavesLists ⟦<TakenList as Defined>⟧.loan ⟦<TakenWindow as Defined>⟧.loan ⟦<TakenControl as Defined>⟧.loan
-            (IsWhereRight (IsListStep (asks.DeleteRows lines) result)) windows.old controls.old self.old windows.new controls.new self.new }
+        ensures { LeavesLists ⟦<TakenList as Defined>⟧.loan ⟦<TakenWindow as Defined>⟧.loan
+            ⟦<TakenControl as Defined>⟧.loan
+            (IsWhereRight (IsListStep (asks.DeleteRows lines) result)) windows.old controls.old self.old windows.new
+            controls.new self.new }
     {
         let spot = self.spot(windows, lines.list)?;
         if let Some(refusal) = self.list.items[spot.list]
@@ -177,10 +191,13 @@ impl Lists<TakenList> {
         lines: ListLines,
     ) -> Result<ListReply, Refusal>
         requires kept { IsKept ⟦<TakenWindow as Defined>⟧.loan windows.old }
-        requires beside { AreControlsBeside ⟦<TakenControl as Defined>⟧.loan ⟦<TakenWindow as Defined>⟧.loan windows.old controls.old }
+        requires beside { AreControlsBeside ⟦<TakenControl as Defined>⟧.loan ⟦<TakenWindow as Defined>⟧.loan windows.old
+            controls.old }
         requires lists { AreBeside ⟦<TakenList as Defined>⟧.loan ⟦<TakenWindow as Defined>⟧.loan windows.old self.old }
-        ensures { LeavesLists ⟦<TakenList as Defined>⟧.loan ⟦<TakenWindow as Defined>⟧.loan ⟦<TakenControl as Defined>⟧.loan
-            (IsWhereRight (IsListStep (asks.DeleteColumns lines) result)) windows.old controls.old self.old windows.new controls.new self.new }
+        ensures { LeavesLists ⟦<TakenList as Defined>⟧.loan ⟦<TakenWindow as Defined>⟧.loan
+            ⟦<TakenControl as Defined>⟧.loan
+            (IsWhereRight (IsListStep (asks.DeleteColumns lines) result)) windows.old controls.old self.old windows.new
+            controls.new self.new }
     {
         let spot = self.spot(windows, lines.list)?;
         if let Some(refusal) = self.list.items[spot.list]
@@ -210,10 +227,13 @@ impl Lists<TakenList> {
         scrolled: ScrollList,
     ) -> Result<ListReply, Refusal>
         requires kept { IsKept ⟦<TakenWindow as Defined>⟧.loan windows.old }
-        requires beside { AreControlsBeside ⟦<TakenControl as Defined>⟧.loan ⟦<TakenWindow as Defined>⟧.loan windows.old controls.old }
+        requires beside { AreControlsBeside ⟦<TakenControl as Defined>⟧.loan ⟦<TakenWindow as Defined>⟧.loan windows.old
+            controls.old }
         requires lists { AreBeside ⟦<TakenList as Defined>⟧.loan ⟦<TakenWindow as Defined>⟧.loan windows.old self.old }
-        ensures { LeavesLists ⟦<TakenList as Defined>⟧.loan ⟦<TakenWindow as Defined>⟧.loan ⟦<TakenControl as Defined>⟧.loan
-            (IsWhereRight (IsListStep (asks.Scroll scrolled) result)) windows.old controls.old self.old windows.new controls.new self.new }
+        ensures { LeavesLists ⟦<TakenList as Defined>⟧.loan ⟦<TakenWindow as Defined>⟧.loan
+            ⟦<TakenControl as Defined>⟧.loan
+            (IsWhereRight (IsListStep (asks.Scroll scrolled) result)) windows.old controls.old self.old windows.new
+            controls.new self.new }
     {
         let spot = self.spot(windows, scrolled.list)?;
         let within = self.list.items[spot.list].kept.view.rect();

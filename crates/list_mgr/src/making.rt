@@ -11,7 +11,8 @@ ghost use Rattle.control_mgr.specs.WholeControls.{AreWholeControls, controls_sta
 ghost use Rattle.list_mgr.specs.ListRefusals.{lacks_kind, scroll_kind};
 ghost use Rattle.list_mgr.specs.ListSteps.{IsListMade, IsListStep};
 ghost use Rattle.list_mgr.specs.Making.{IsListTicket};
-ghost use Rattle.list_mgr.specs.Offers.{AreOffered, AreOut, AreOutBeside, IsBack, IsNotMade, IsOffer, IsOfferIf, MayGoBack, definition_of, lacks_any, seen_offers, why_not};
+ghost use Rattle.list_mgr.specs.Offers.{AreOffered, AreOut, AreOutBeside, IsBack, IsNotMade, IsOffer, IsOfferIf};
+ghost use Rattle.list_mgr.specs.Offers.{MayGoBack, definition_of, lacks_any, seen_offers, why_not};
 ghost use Rattle.list_mgr.specs.Putting.{AreRoomier};
 ghost use Rattle.list_mgr.specs.WholeLists.{AreBeside, AreWholeLists, LeavesOver, lists_state};
 
@@ -60,7 +61,8 @@ fn take_bar(wanted: bool, bars: &mut ControlStock) -> Option<TakenControl>
 
 /// Puts a list's definition back, if one was taken.
 fn put_list_back(taken: Option<TakenList>, stock: &mut ListStock)
-    requires { MayGoBack (λ d. d.stage) (option_map ⟦<TakenList as Defined>⟧.loan taken) (⟦<ListStock as Stocked>⟧.slots stock.old) }
+    requires { MayGoBack (λ d. d.stage) (option_map ⟦<TakenList as Defined>⟧.loan taken)
+        (⟦<ListStock as Stocked>⟧.slots stock.old) }
     ensures { IsBack (option_map ⟦<TakenList as Defined>⟧.loan taken)
         (⟦<ListStock as Stocked>⟧.slots stock.old) (⟦<ListStock as Stocked>⟧.slots stock.new) }
 {
@@ -71,7 +73,8 @@ fn put_list_back(taken: Option<TakenList>, stock: &mut ListStock)
 
 /// Puts a scroll bar's definition back, if one was taken.
 fn put_bar_back(taken: Option<TakenControl>, bars: &mut ControlStock)
-    requires { MayGoBack (λ d. d.stage) (option_map ⟦<TakenControl as Defined>⟧.loan taken) (⟦<ControlStock as Stocked>⟧.slots bars.old) }
+    requires { MayGoBack (λ d. d.stage) (option_map ⟦<TakenControl as Defined>⟧.loan taken)
+        (⟦<ControlStock as Stocked>⟧.slots bars.old) }
     ensures { IsBack (option_map ⟦<TakenControl as Defined>⟧.loan taken)
         (⟦<ControlStock as Stocked>⟧.slots bars.old) (⟦<ControlStock as Stocked>⟧.slots bars.new) }
 {
@@ -84,7 +87,8 @@ impl Offers {
     /// Takes the definitions that a new list and its scroll bars need, of which the stocks have the kinds, as far as they are to be
     /// had.
     fn take(new: &NewList<'_>, stock: &mut ListStock, bars: &mut ControlStock) -> Offers
-        requires { lacks_kind new.now (⟦<ListStock as Stocked>⟧.slots stock.old) (⟦<ControlStock as Stocked>⟧.slots bars.old) ≡ false }
+        requires { lacks_kind new.now (⟦<ListStock as Stocked>⟧.slots stock.old)
+            (⟦<ControlStock as Stocked>⟧.slots bars.old) ≡ false }
         ensures { AreOffered new.now (seen_offers ⟦<TakenControl as Defined>⟧.loan ⟦<TakenList as Defined>⟧.loan result)
             (⟦<ListStock as Stocked>⟧.slots stock.old) (⟦<ListStock as Stocked>⟧.slots stock.new)
             (⟦<ControlStock as Stocked>⟧.slots bars.old) (⟦<ControlStock as Stocked>⟧.slots bars.new) }
@@ -118,7 +122,8 @@ impl Offers {
     fn give_back(self, new: &NewList<'_>, stock: &mut ListStock, bars: &mut ControlStock)
         requires { AreOut new.now (seen_offers ⟦<TakenControl as Defined>⟧.loan ⟦<TakenList as Defined>⟧.loan self)
             (⟦<ListStock as Stocked>⟧.slots stock.old) (⟦<ControlStock as Stocked>⟧.slots bars.old) }
-        ensures { (kept held : _) → AreOffered new.now (seen_offers ⟦<TakenControl as Defined>⟧.loan ⟦<TakenList as Defined>⟧.loan self)
+        ensures { (kept held : _) → AreOffered new.now (seen_offers ⟦<TakenControl as Defined>⟧.loan
+            ⟦<TakenList as Defined>⟧.loan self)
             kept (⟦<ListStock as Stocked>⟧.slots stock.old) held (⟦<ControlStock as Stocked>⟧.slots bars.old)
             → (⟦<ListStock as Stocked>⟧.slots stock.new ≡ kept) × (⟦<ControlStock as Stocked>⟧.slots bars.new ≡ held) }
     {
@@ -134,7 +139,8 @@ impl Offers {
 
     /// Whether one that is wanted was not to be had.
     fn lacks_any(&self, new: &NewList<'_>) -> bool
-        ensures { result ≡ lacks_any new.now (seen_offers ⟦<TakenControl as Defined>⟧.loan ⟦<TakenList as Defined>⟧.loan self.now) }
+        ensures { result ≡ lacks_any new.now (seen_offers ⟦<TakenControl as Defined>⟧.loan ⟦<TakenList as Defined>⟧.loan
+            self.now) }
     {
         self.list.is_none()
             || ((new.vertical_bar && self.vertical.is_none())
@@ -154,10 +160,12 @@ impl Lists<TakenList> {
     ) -> Result<ListReply, Refusal>
         requires kept { IsKept ⟦<TakenWindow as Defined>⟧.loan windows.old }
         requires controls { AreWholeControls (desk_of ⟦<TakenWindow as Defined>⟧.loan windows.old []).windows
-            (controls_state ⟦<TakenControl as Defined>⟧.loan controls.old (⟦<ControlStock as Stocked>⟧.slots bars.old)) }
+            (controls_state ⟦<TakenControl as Defined>⟧.loan controls.old
+            (⟦<ControlStock as Stocked>⟧.slots bars.old)) }
         requires lists { AreWholeLists (desk_of ⟦<TakenWindow as Defined>⟧.loan windows.old []).windows
             (lists_state ⟦<TakenList as Defined>⟧.loan self.old (⟦<ListStock as Stocked>⟧.slots stock.old)) }
-        ensures { LeavesOver ⟦<TakenList as Defined>⟧.loan ⟦<TakenWindow as Defined>⟧.loan ⟦<TakenControl as Defined>⟧.loan
+        ensures { LeavesOver ⟦<TakenList as Defined>⟧.loan ⟦<TakenWindow as Defined>⟧.loan
+            ⟦<TakenControl as Defined>⟧.loan
             (⟦<ControlStock as Stocked>⟧.slots bars.old) (⟦<ControlStock as Stocked>⟧.slots bars.new)
             (⟦<ListStock as Stocked>⟧.slots stock.old) (⟦<ListStock as Stocked>⟧.slots stock.new)
             (IsListStep (asks.New new.now) result) windows.old controls.old self.old windows.new controls.new self.new }
@@ -185,19 +193,28 @@ impl Lists<TakenList> {
         offers: Offers,
     ) -> Result<u64, (Offers, Refusal)>
         requires kept { IsKept ⟦<TakenWindow as Defined>⟧.loan windows.old }
-        requires out { AreOutBeside ⟦<TakenControl as Defined>⟧.loan ⟦<TakenList as Defined>⟧.loan ⟦<TakenWindow as Defined>⟧.loan new.now
-            (seen_offers ⟦<TakenControl as Defined>⟧.loan ⟦<TakenList as Defined>⟧.loan offers) windows.old controls.old }
+        requires out { AreOutBeside ⟦<TakenControl as Defined>⟧.loan ⟦<TakenList as Defined>⟧.loan
+            ⟦<TakenWindow as Defined>⟧.loan new.now
+            (seen_offers ⟦<TakenControl as Defined>⟧.loan ⟦<TakenList as Defined>⟧.loan offers) windows.old
+            controls.old }
         requires lists { AreBeside ⟦<TakenList as Defined>⟧.loan ⟦<TakenWindow as Defined>⟧.loan windows.old self.old }
-        ensures unrefused { IfOk result (λ _. why_not ⟦<TakenControl as Defined>⟧.loan ⟦<TakenList as Defined>⟧.loan ⟦<TakenWindow as Defined>⟧.loan new.now
-            (seen_offers ⟦<TakenControl as Defined>⟧.loan ⟦<TakenList as Defined>⟧.loan offers) windows.old controls.old self.old ≡ None) }
+        ensures unrefused { IfOk result (λ _. why_not ⟦<TakenControl as Defined>⟧.loan ⟦<TakenList as Defined>⟧.loan
+            ⟦<TakenWindow as Defined>⟧.loan new.now
+            (seen_offers ⟦<TakenControl as Defined>⟧.loan ⟦<TakenList as Defined>⟧.loan offers) windows.old controls.old
+            self.old ≡ None) }
         ensures made { IfOk result (λ serial. (kept rest held left : _)
-            → AreOffered new.now (seen_offers ⟦<TakenControl as Defined>⟧.loan ⟦<TakenList as Defined>⟧.loan offers) kept rest held left
-            → LeavesOver ⟦<TakenList as Defined>⟧.loan ⟦<TakenWindow as Defined>⟧.loan ⟦<TakenControl as Defined>⟧.loan held left kept rest
+            → AreOffered new.now (seen_offers ⟦<TakenControl as Defined>⟧.loan ⟦<TakenList as Defined>⟧.loan offers)
+            kept rest held left
+            → LeavesOver ⟦<TakenList as Defined>⟧.loan ⟦<TakenWindow as Defined>⟧.loan ⟦<TakenControl as Defined>⟧.loan
+            held left kept rest
             (IsListMade new.now serial) windows.old controls.old self.old windows.new controls.new self.new) }
         ensures refused { IfErr result (λ back. (back.0 ≡ offers)
-            × IsNotMade ⟦<TakenControl as Defined>⟧.loan ⟦<TakenList as Defined>⟧.loan ⟦<TakenWindow as Defined>⟧.loan new.now
-            (seen_offers ⟦<TakenControl as Defined>⟧.loan ⟦<TakenList as Defined>⟧.loan offers) windows.old controls.old self.old back.1) }
-        ensures same { IfErr result (λ _. (windows.new ≡ windows.old) × IsRoomier controls.old controls.new × AreRoomier self.old self.new) }
+            × IsNotMade ⟦<TakenControl as Defined>⟧.loan ⟦<TakenList as Defined>⟧.loan ⟦<TakenWindow as Defined>⟧.loan
+            new.now
+            (seen_offers ⟦<TakenControl as Defined>⟧.loan ⟦<TakenList as Defined>⟧.loan offers) windows.old controls.old
+            self.old back.1) }
+        ensures same { IfErr result (λ _. (windows.new ≡ windows.old) × IsRoomier controls.old controls.new
+            × AreRoomier self.old self.new) }
     {
         let vertical = offers.vertical.as_ref();
         let horizontal = offers.horizontal.as_ref();
@@ -226,16 +243,23 @@ impl Lists<TakenList> {
         offers: Offers,
     ) -> Result<(), Offers>
         requires kept { IsKept ⟦<TakenWindow as Defined>⟧.loan windows.old }
-        requires out { AreOutBeside ⟦<TakenControl as Defined>⟧.loan ⟦<TakenList as Defined>⟧.loan ⟦<TakenWindow as Defined>⟧.loan new.now
-            (seen_offers ⟦<TakenControl as Defined>⟧.loan ⟦<TakenList as Defined>⟧.loan offers) windows.old controls.old }
+        requires out { AreOutBeside ⟦<TakenControl as Defined>⟧.loan ⟦<TakenList as Defined>⟧.loan
+            ⟦<TakenWindow as Defined>⟧.loan new.now
+            (seen_offers ⟦<TakenControl as Defined>⟧.loan ⟦<TakenList as Defined>⟧.loan offers) windows.old
+            controls.old }
         requires lists { AreBeside ⟦<TakenList as Defined>⟧.loan ⟦<TakenWindow as Defined>⟧.loan windows.old self.old }
-        requires ticket { IsListTicket ⟦<TakenWindow as Defined>⟧.loan ⟦<TakenControl as Defined>⟧.loan ⟦<TakenList as Defined>⟧.loan new.now
+        requires ticket { IsListTicket ⟦<TakenWindow as Defined>⟧.loan ⟦<TakenControl as Defined>⟧.loan
+            ⟦<TakenList as Defined>⟧.loan new.now
             (definition_of (option_map ⟦<TakenControl as Defined>⟧.loan offers.vertical))
-            (definition_of (option_map ⟦<TakenControl as Defined>⟧.loan offers.horizontal)) windows.old controls.old self.old ticket }
-        requires complete { lacks_any new.now (seen_offers ⟦<TakenControl as Defined>⟧.loan ⟦<TakenList as Defined>⟧.loan offers) ≡ false }
+            (definition_of (option_map ⟦<TakenControl as Defined>⟧.loan offers.horizontal)) windows.old controls.old
+            self.old ticket }
+        requires complete { lacks_any new.now (seen_offers ⟦<TakenControl as Defined>⟧.loan
+            ⟦<TakenList as Defined>⟧.loan offers) ≡ false }
         ensures made { IfOk result (λ _. (kept rest held left : _)
-            → AreOffered new.now (seen_offers ⟦<TakenControl as Defined>⟧.loan ⟦<TakenList as Defined>⟧.loan offers) kept rest held left
-            → LeavesOver ⟦<TakenList as Defined>⟧.loan ⟦<TakenWindow as Defined>⟧.loan ⟦<TakenControl as Defined>⟧.loan held left kept rest
+            → AreOffered new.now (seen_offers ⟦<TakenControl as Defined>⟧.loan ⟦<TakenList as Defined>⟧.loan offers)
+            kept rest held left
+            → LeavesOver ⟦<TakenList as Defined>⟧.loan ⟦<TakenWindow as Defined>⟧.loan ⟦<TakenControl as Defined>⟧.loan
+            held left kept rest
             (IsListMade new.now ticket.serial) windows.old controls.old self.old windows.new controls.new self.new) }
         ensures same { IfErr result (λ back. (back ≡ offers) × (windows.new ≡ windows.old)
             × IsRoomier controls.old controls.new × AreRoomier self.old self.new) }

@@ -28,13 +28,16 @@ impl Lists<TakenList> {
     ) -> Result<ListReply, Refusal>
         requires kept { IsKept ⟦<TakenWindow as Defined>⟧.loan windows.old }
         requires controls_whole { AreWholeControls (desk_of ⟦<TakenWindow as Defined>⟧.loan windows.old []).windows
-            (controls_state ⟦<TakenControl as Defined>⟧.loan controls.old (⟦<ControlStock as Stocked>⟧.slots bars.old)) }
+            (controls_state ⟦<TakenControl as Defined>⟧.loan controls.old
+            (⟦<ControlStock as Stocked>⟧.slots bars.old)) }
         requires lists_whole { AreWholeLists (desk_of ⟦<TakenWindow as Defined>⟧.loan windows.old []).windows
             (lists_state ⟦<TakenList as Defined>⟧.loan self.old (⟦<ListStock as Stocked>⟧.slots stock.old)) }
-        ensures { LeavesOver ⟦<TakenList as Defined>⟧.loan ⟦<TakenWindow as Defined>⟧.loan ⟦<TakenControl as Defined>⟧.loan
+        ensures { LeavesOver ⟦<TakenList as Defined>⟧.loan ⟦<TakenWindow as Defined>⟧.loan
+            ⟦<TakenControl as Defined>⟧.loan
             (⟦<ControlStock as Stocked>⟧.slots bars.old) (⟦<ControlStock as Stocked>⟧.slots bars.new)
             (⟦<ListStock as Stocked>⟧.slots stock.old) (⟦<ListStock as Stocked>⟧.slots stock.new)
-            (IsWhereRight (IsListStep call.now result)) windows.old controls.old self.old windows.new controls.new self.new }
+            (IsWhereRight (IsListStep call.now result)) windows.old controls.old self.old windows.new controls.new
+            self.new }
     {
         match call {
             ListCall::New(new) => self.make(windows, controls, new, stock, bars),

@@ -3,7 +3,9 @@ ghost use Rattle.std.specs.Prelude.{◌≡◌, ◌<◌, length, IfOk};
 ghost use Rattle.window_mgr.specs.Kept.{IsKept};
 ghost use Rattle.control_mgr.specs.Making.{IsRoomier};
 ghost use Rattle.control_mgr.specs.Planned.{IsLaidSo};
-ghost use Rattle.list_mgr.specs.Putting.{AreBarsTaken, AreRoomier, IsBarTaken, IsOneBarTicket, IsPlace, IsPlannedWithBar, IsPlannedWithBars, IsPlanOfList, IsReadyToPut, IsTwoBarTicket, MayLay};
+ghost use Rattle.list_mgr.specs.Putting.{AreBarsTaken, AreRoomier, IsBarTaken, IsOneBarTicket, IsPlace};
+ghost use Rattle.list_mgr.specs.Putting.{IsPlannedWithBar, IsPlannedWithBars, IsPlanOfList, IsReadyToPut};
+ghost use Rattle.list_mgr.specs.Putting.{IsTwoBarTicket, MayLay};
 ghost use Rattle.list_mgr.specs.WholeLists.{AreBeside};
 
 use crate::Lists;
@@ -68,7 +70,8 @@ fn lay(
     requires kept { IsKept ⟦<TakenWindow as Defined>⟧.loan windows.now }
     requires at { ticket.now.window < length windows.now.windows.records.items }
     requires may { MayLay ticket.now layers.now }
-    ensures { IfOk result (λ laid. (u : _) → IsLaidSo ⟦<TakenWindow as Defined>⟧.loan ticket.now.window layers.now update.now windows.now u
+    ensures { IfOk result (λ laid. (u : _) → IsLaidSo ⟦<TakenWindow as Defined>⟧.loan ticket.now.window layers.now
+        update.now windows.now u
         → IsPlanOfList ⟦<TakenWindow as Defined>⟧.loan ticket.now layers.now u laid) }
 {
     let rect = ticket.view.rect();
@@ -101,7 +104,8 @@ impl Lists<TakenList> {
         requires beside { AreBeside ⟦<TakenList as Defined>⟧.loan ⟦<TakenWindow as Defined>⟧.loan windows.now self.old }
         requires place { IsPlace new.now windows.now self.old ticket.now }
         ensures same { AreRoomier self.old self.new }
-        ensures planned { IfOk result (IsReadyToPut ⟦<TakenWindow as Defined>⟧.loan new.now ticket.now windows.now self.new) }
+        ensures planned { IfOk result (IsReadyToPut ⟦<TakenWindow as Defined>⟧.loan new.now ticket.now windows.now
+            self.new) }
     {
         self.list.reserve(1)?;
         let cells = ListCells::new(self.alloc, new.columns, new.rows)?;
@@ -124,12 +128,15 @@ impl Lists<TakenList> {
         requires took { IsBarTaken ⟦<TakenWindow as Defined>⟧.loan ⟦<TakenControl as Defined>⟧.loan
             (⟦<TakenControl as Defined>⟧.loan taken.now) windows.now controls.old }
         requires lists { AreBeside ⟦<TakenList as Defined>⟧.loan ⟦<TakenWindow as Defined>⟧.loan windows.now self.old }
-        requires ticket { IsOneBarTicket ⟦<TakenWindow as Defined>⟧.loan ⟦<TakenControl as Defined>⟧.loan ⟦<TakenList as Defined>⟧.loan
-            new.now (⟦<TakenControl as Defined>⟧.loan taken.now).definition windows.now controls.old self.old ticket.now }
+        requires ticket { IsOneBarTicket ⟦<TakenWindow as Defined>⟧.loan ⟦<TakenControl as Defined>⟧.loan
+            ⟦<TakenList as Defined>⟧.loan
+            new.now (⟦<TakenControl as Defined>⟧.loan taken.now).definition windows.now controls.old self.old
+            ticket.now }
         ensures same { AreRoomier self.old self.new }
         ensures same_controls { IsRoomier controls.old controls.new }
         ensures planned { IfOk result (IsPlannedWithBar ⟦<TakenWindow as Defined>⟧.loan ⟦<TakenControl as Defined>⟧.loan
-            new.now ticket.now (⟦<TakenControl as Defined>⟧.loan taken.now).definition windows.now controls.new self.new) }
+            new.now ticket.now (⟦<TakenControl as Defined>⟧.loan taken.now).definition windows.now controls.new
+            self.new) }
     {
         controls.reserve(1)?;
         self.list.reserve(1)?;
@@ -167,15 +174,20 @@ impl Lists<TakenList> {
     ) -> Result<PlannedWithBars, Refusal>
         requires kept { IsKept ⟦<TakenWindow as Defined>⟧.loan windows.now }
         requires took { AreBarsTaken ⟦<TakenWindow as Defined>⟧.loan ⟦<TakenControl as Defined>⟧.loan
-            (⟦<TakenControl as Defined>⟧.loan vertical.now) (⟦<TakenControl as Defined>⟧.loan horizontal.now) windows.now controls.old }
+            (⟦<TakenControl as Defined>⟧.loan vertical.now) (⟦<TakenControl as Defined>⟧.loan horizontal.now)
+            windows.now controls.old }
         requires lists { AreBeside ⟦<TakenList as Defined>⟧.loan ⟦<TakenWindow as Defined>⟧.loan windows.now self.old }
-        requires ticket { IsTwoBarTicket ⟦<TakenWindow as Defined>⟧.loan ⟦<TakenControl as Defined>⟧.loan ⟦<TakenList as Defined>⟧.loan
-            new.now (⟦<TakenControl as Defined>⟧.loan vertical.now).definition (⟦<TakenControl as Defined>⟧.loan horizontal.now).definition
+        requires ticket { IsTwoBarTicket ⟦<TakenWindow as Defined>⟧.loan ⟦<TakenControl as Defined>⟧.loan
+            ⟦<TakenList as Defined>⟧.loan
+            new.now (⟦<TakenControl as Defined>⟧.loan vertical.now).definition
+            (⟦<TakenControl as Defined>⟧.loan horizontal.now).definition
             windows.now controls.old self.old ticket.now }
         ensures same { AreRoomier self.old self.new }
         ensures same_controls { IsRoomier controls.old controls.new }
-        ensures planned { IfOk result (IsPlannedWithBars ⟦<TakenWindow as Defined>⟧.loan ⟦<TakenControl as Defined>⟧.loan
-            new.now ticket.now (⟦<TakenControl as Defined>⟧.loan vertical.now).definition (⟦<TakenControl as Defined>⟧.loan horizontal.now).definition
+        ensures planned { IfOk result (IsPlannedWithBars ⟦<TakenWindow as Defined>⟧.loan
+            ⟦<TakenControl as Defined>⟧.loan
+            new.now ticket.now (⟦<TakenControl as Defined>⟧.loan vertical.now).definition
+            (⟦<TakenControl as Defined>⟧.loan horizontal.now).definition
             windows.now controls.new self.new) }
     {
         controls.reserve(2)?;

@@ -73,9 +73,11 @@ impl Lists<TakenList> {
         requires beside { AreBeside ⟦<TakenList as Defined>⟧.loan ⟦<TakenWindow as Defined>⟧.loan windows.old self.old }
         requires ready { IsReadyToPut ⟦<TakenWindow as Defined>⟧.loan new.now ticket.now windows.old self.old planned }
         requires fresh { (⟦<TakenList as Defined>⟧.loan taken).definition.stage ≡ Stage.Fresh }
-        ensures { (before left : _) → IsTaken (λ d. d.stage) new.now.kind (⟦<TakenList as Defined>⟧.loan taken) before left
+        ensures { (before left : _) → IsTaken (λ d. d.stage) new.now.kind (⟦<TakenList as Defined>⟧.loan taken) before
+            left
             → LeavesBeside ⟦<TakenList as Defined>⟧.loan ⟦<TakenWindow as Defined>⟧.loan before left
-            (IsListPut new.now ticket.now.serial bars.vertical bars.horizontal) windows.old self.old windows.new self.new }
+            (IsListPut new.now ticket.now.serial bars.vertical bars.horizontal) windows.old self.old windows.new
+            self.new }
     {
         let mut taken = taken;
         let Planned { cells, laid } = planned;
@@ -113,15 +115,18 @@ impl Lists<TakenList> {
     ) -> Result<(), TakenList>
         requires kept { IsKept ⟦<TakenWindow as Defined>⟧.loan windows.old }
         requires lists { AreBeside ⟦<TakenList as Defined>⟧.loan ⟦<TakenWindow as Defined>⟧.loan windows.old self.old }
-        requires ticket { IsListTicket ⟦<TakenWindow as Defined>⟧.loan ⟦<TakenControl as Defined>⟧.loan ⟦<TakenList as Defined>⟧.loan
+        requires ticket { IsListTicket ⟦<TakenWindow as Defined>⟧.loan ⟦<TakenControl as Defined>⟧.loan
+            ⟦<TakenList as Defined>⟧.loan
             new.now None None windows.old controls.now self.old ticket }
         requires fresh { (⟦<TakenList as Defined>⟧.loan taken).definition.stage ≡ Stage.Fresh }
         requires unbarred { (new.now.vertical_bar ≡ false) × (new.now.horizontal_bar ≡ false) }
         ensures put { IfOk result (λ _. (held before left : _)
             → IsTaken (λ d. d.stage) new.now.kind (⟦<TakenList as Defined>⟧.loan taken) before left
             → LeavesOver ⟦<TakenList as Defined>⟧.loan ⟦<TakenWindow as Defined>⟧.loan ⟦<TakenControl as Defined>⟧.loan
-            held held before left (IsListMade new.now ticket.serial) windows.old controls.now self.old windows.new controls.now self.new) }
-        ensures same { IfErr result (λ back. (back ≡ taken) × (windows.new ≡ windows.old) × AreRoomier self.old self.new) }
+            held held before left (IsListMade new.now ticket.serial) windows.old controls.now self.old windows.new
+            controls.now self.new) }
+        ensures same { IfErr result (λ back. (back ≡ taken) × (windows.new ≡ windows.old)
+            × AreRoomier self.old self.new) }
     {
         match self.plan(windows, new, &ticket) {
             Ok(planned) => {
@@ -147,14 +152,16 @@ impl Lists<TakenList> {
         requires took { IsBarTaken ⟦<TakenWindow as Defined>⟧.loan ⟦<TakenControl as Defined>⟧.loan
             (⟦<TakenControl as Defined>⟧.loan bar) windows.old controls.old }
         requires lists { AreBeside ⟦<TakenList as Defined>⟧.loan ⟦<TakenWindow as Defined>⟧.loan windows.old self.old }
-        requires ticket { IsOneBarTicket ⟦<TakenWindow as Defined>⟧.loan ⟦<TakenControl as Defined>⟧.loan ⟦<TakenList as Defined>⟧.loan
+        requires ticket { IsOneBarTicket ⟦<TakenWindow as Defined>⟧.loan ⟦<TakenControl as Defined>⟧.loan
+            ⟦<TakenList as Defined>⟧.loan
             new.now (⟦<TakenControl as Defined>⟧.loan bar).definition windows.old controls.old self.old ticket }
         requires fresh { (⟦<TakenList as Defined>⟧.loan taken).definition.stage ≡ Stage.Fresh }
         ensures put { IfOk result (λ _. (held rest before left : _)
             → IsTaken (λ d. d.stage) scroll_kind (⟦<TakenControl as Defined>⟧.loan bar) held rest
             → IsTaken (λ d. d.stage) new.now.kind (⟦<TakenList as Defined>⟧.loan taken) before left
             → LeavesOver ⟦<TakenList as Defined>⟧.loan ⟦<TakenWindow as Defined>⟧.loan ⟦<TakenControl as Defined>⟧.loan
-            held rest before left (IsListMade new.now ticket.serial) windows.old controls.old self.old windows.new controls.new self.new) }
+            held rest before left (IsListMade new.now ticket.serial) windows.old controls.old self.old windows.new
+            controls.new self.new) }
         ensures same { IfErr result (λ back. (back ≡ (taken, bar)) × (windows.new ≡ windows.old)
             × IsRoomier controls.old controls.new × AreRoomier self.old self.new) }
     {
@@ -185,10 +192,13 @@ impl Lists<TakenList> {
     ) -> Result<(), (TakenList, TakenControl, TakenControl)>
         requires kept { IsKept ⟦<TakenWindow as Defined>⟧.loan windows.old }
         requires took { AreBarsTaken ⟦<TakenWindow as Defined>⟧.loan ⟦<TakenControl as Defined>⟧.loan
-            (⟦<TakenControl as Defined>⟧.loan vertical) (⟦<TakenControl as Defined>⟧.loan horizontal) windows.old controls.old }
+            (⟦<TakenControl as Defined>⟧.loan vertical) (⟦<TakenControl as Defined>⟧.loan horizontal) windows.old
+            controls.old }
         requires lists { AreBeside ⟦<TakenList as Defined>⟧.loan ⟦<TakenWindow as Defined>⟧.loan windows.old self.old }
-        requires ticket { IsTwoBarTicket ⟦<TakenWindow as Defined>⟧.loan ⟦<TakenControl as Defined>⟧.loan ⟦<TakenList as Defined>⟧.loan
-            new.now (⟦<TakenControl as Defined>⟧.loan vertical).definition (⟦<TakenControl as Defined>⟧.loan horizontal).definition
+        requires ticket { IsTwoBarTicket ⟦<TakenWindow as Defined>⟧.loan ⟦<TakenControl as Defined>⟧.loan
+            ⟦<TakenList as Defined>⟧.loan
+            new.now (⟦<TakenControl as Defined>⟧.loan vertical).definition
+            (⟦<TakenControl as Defined>⟧.loan horizontal).definition
             windows.old controls.old self.old ticket }
         requires fresh { (⟦<TakenList as Defined>⟧.loan taken).definition.stage ≡ Stage.Fresh }
         ensures put { IfOk result (λ _. (held mid rest before left : _)
@@ -196,7 +206,8 @@ impl Lists<TakenList> {
             → IsTaken (λ d. d.stage) scroll_kind (⟦<TakenControl as Defined>⟧.loan horizontal) mid rest
             → IsTaken (λ d. d.stage) new.now.kind (⟦<TakenList as Defined>⟧.loan taken) before left
             → LeavesOver ⟦<TakenList as Defined>⟧.loan ⟦<TakenWindow as Defined>⟧.loan ⟦<TakenControl as Defined>⟧.loan
-            held rest before left (IsListMade new.now ticket.serial) windows.old controls.old self.old windows.new controls.new self.new) }
+            held rest before left (IsListMade new.now ticket.serial) windows.old controls.old self.old windows.new
+            controls.new self.new) }
         ensures same { IfErr result (λ back. (back ≡ (taken, vertical, horizontal)) × (windows.new ≡ windows.old)
             × IsRoomier controls.old controls.new × AreRoomier self.old self.new) }
     {

@@ -33,7 +33,8 @@ struct Toggled<'a, D> {
 impl<'a, D: DrawnList> Toggling for Toggled<'a, D> {
     ghost is_ready = { λ t. IsSettledList (seen D.list_loan t.list.now) };
 
-    ghost toggles = { λ t font. is_turned font (D.list_loan t.list.now.kept.definition).definition t.list.now.kept.view t.list.now.kept.cells
+    ghost toggles = { λ t font. is_turned font (D.list_loan t.list.now.kept.definition).definition t.list.now.kept.view
+        t.list.now.kept.cells
         (selected_by t.selecting t.list.now.kept.cells) };
 
     fn invert(&self, canvas: &mut Canvas<'_>) {
@@ -61,8 +62,10 @@ impl Lists<TakenList> {
         requires kept { IsKept ⟦<TakenWindow as Defined>⟧.loan windows.old }
         requires beside { AreBeside ⟦<TakenList as Defined>⟧.loan ⟦<TakenWindow as Defined>⟧.loan windows.old self.now }
         requires spot { IsSpot ⟦<TakenWindow as Defined>⟧.loan ⟦<TakenList as Defined>⟧.loan windows.old self.now spot }
-        requires mark { IsMark ⟦<TakenList as Defined>⟧.loan ⟦<TakenWindow as Defined>⟧.loan windows.old self.now spot mark }
-        ensures { IsToggledOrMarked ⟦<TakenList as Defined>⟧.loan ⟦<TakenWindow as Defined>⟧.loan mark selecting spot self.now windows.old windows.new }
+        requires mark { IsMark ⟦<TakenList as Defined>⟧.loan ⟦<TakenWindow as Defined>⟧.loan windows.old self.now spot
+            mark }
+        ensures { IsToggledOrMarked ⟦<TakenList as Defined>⟧.loan ⟦<TakenWindow as Defined>⟧.loan mark selecting spot
+            self.now windows.old windows.new }
     {
         let list = &self.list.items[spot.list];
         match mark {

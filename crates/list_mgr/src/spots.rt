@@ -7,6 +7,7 @@ ghost use Rattle.list_mgr.specs.Spots.{IsSpotOf};
 ghost use Rattle.list_mgr.specs.WholeLists.{records_of};
 
 use crate::Lists;
+use control_mgr::spot_of;
 use def_iface::{Defined, TakenList, TakenWindow};
 use desk_call::ListOf;
 use tb_geom::Refusal;
@@ -25,15 +26,17 @@ impl Lists<TakenList> {
         ensures { let refusals = missing_refusals list (desk_of ⟦<TakenWindow as Defined>⟧.loan windows.now [])
             (records_of ⟦<TakenList as Defined>⟧.loan self.now) in
             MatchResult result
-            (λ spot. IsSpotOf ⟦<TakenWindow as Defined>⟧.loan ⟦<TakenList as Defined>⟧.loan list windows.now self.now spot)
+            (λ spot. IsSpotOf ⟦<TakenWindow as Defined>⟧.loan ⟦<TakenList as Defined>⟧.loan list windows.now self.now
+            spot)
             (λ e. first_refusal refusals ≡ Some e) }
     {
-        let Some(window) = windows.find(list.window) else {
-            return Err(Refusal::NoSuchWindow);
-        };
-        match self.list.find(list.window, list.list) {
-            Some(list) => Ok(ListAt { window, list }),
-            None => Err(Refusal::NoSuchList),
+        let missing = Refusal::NoSuchList;
+        match spot_of(windows, &self.list, list.window, list.list, missing) {
+            Ok(at) => Ok(ListAt {
+                window: at.window,
+                list: at.item,
+            }),
+            Err(refusal) => Err(refusal),
         }
     }
 }

@@ -74,8 +74,10 @@ impl<L: ControlLook> ControlDef for StdControl<L> {
     fn begin(&mut self)
         requires { (std_meaning L.seen L.part L.value self.old).stage ≡ Stage.Fresh }
         ensures live { (std_meaning L.seen L.part L.value self.new).stage ≡ Stage.Live }
-        ensures regions { SameControlRegions (std_meaning L.seen L.part L.value self.old) (std_meaning L.seen L.part L.value self.new) }
-        ensures look { ControlHears (λ n. n) (std_meaning L.seen L.part L.value self.old) (std_meaning L.seen L.part L.value self.new) }
+        ensures regions { SameControlRegions (std_meaning L.seen L.part L.value self.old)
+            (std_meaning L.seen L.part L.value self.new) }
+        ensures look { ControlHears (λ n. n) (std_meaning L.seen L.part L.value self.old)
+            (std_meaning L.seen L.part L.value self.new) }
         ensures kept { self.new ≡ control_at Stage.Live self.old }
     {
         self.stage = Stage::Live;
@@ -89,10 +91,12 @@ impl<L: ControlLook> ControlDef for StdControl<L> {
         ensures stays { (std_meaning L.seen L.part L.value self.new).stage ≡ Stage.Live }
         ensures size { (std_meaning L.seen L.part L.value self.new).size
             ≡ control_size_after change.now (std_meaning L.seen L.part L.value self.old).size }
-        ensures regions { SameControlRegions (std_meaning L.seen L.part L.value self.old) (std_meaning L.seen L.part L.value self.new) }
+        ensures regions { SameControlRegions (std_meaning L.seen L.part L.value self.old)
+            (std_meaning L.seen L.part L.value self.new) }
         ensures heard { ControlHears (told_control change.now) (std_meaning L.seen L.part L.value self.old)
             (std_meaning L.seen L.part L.value self.new) }
-        ensures damage { IsControlDamage result (std_meaning L.seen L.part L.value self.old) (std_meaning L.seen L.part L.value self.new) }
+        ensures damage { IsControlDamage result (std_meaning L.seen L.part L.value self.old)
+            (std_meaning L.seen L.part L.value self.new) }
         ensures kept { self.new ≡ told_std change.now self.old }
     {
         let kept = self.kept.after(change);
@@ -124,7 +128,8 @@ impl<L: ControlLook> ControlDef for StdControl<L> {
     fn dispose(&mut self)
         requires { (std_meaning L.seen L.part L.value self.old).stage ≡ Stage.Live }
         ensures closed { (std_meaning L.seen L.part L.value self.new).stage ≡ Stage.Closed }
-        ensures same { SameControlLook (std_meaning L.seen L.part L.value self.old) (std_meaning L.seen L.part L.value self.new) }
+        ensures same { SameControlLook (std_meaning L.seen L.part L.value self.old)
+            (std_meaning L.seen L.part L.value self.new) }
         ensures kept { self.new ≡ control_at Stage.Closed self.old }
     {
         self.stage = Stage::Closed;
