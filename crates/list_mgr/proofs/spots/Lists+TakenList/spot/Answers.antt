@@ -10,9 +10,9 @@ use Rattle.window_mgr.specs.Refused.{is_missing}
 use Rattle.list_mgr.specs.Seen.{kept_seen}
 use Rattle.list_mgr.proofs.spots.Lists+TakenList.spot.Goals as goal
 
-pub returns-in_ok-at : goal.returns-in_ok-at
-returns-in_ok-at g c =
-    let its = c.in_ok-at.ensures in
+pub returns-in-Ok : goal.returns-in-Ok
+returns-in-Ok g c =
+    let its = c.in-Ok.ensures in
     record {
       window = its.window;
       there = its.there;
@@ -20,8 +20,8 @@ returns-in_ok-at g c =
       low = its.low;
     }
 
-pub returns-in_err-refusal : goal.returns-in_err-refusal
-returns-in_err-refusal g c =
+pub returns-in-Err : goal.returns-in-Err
+returns-in-Err g c =
     ap (λ (o : Option ℕ). first_refusal ((is_missing c.args.list.window (desk_of (window.loan-value g.dyn-2).it c.args.windows.now []).windows, NoSuchWindow) ∷ (is_none o, NoSuchList) ∷ []))
     (item_index-seen (kept_seen (list.loan-value g.dyn-1).it) c.args.list.window c.args.list.list c.args.self.now.list.items.items)
-    ∙ c.in_err-refusal.ensures
+    ∙ c.in-Err.ensures
