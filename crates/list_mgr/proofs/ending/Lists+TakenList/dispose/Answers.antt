@@ -15,7 +15,7 @@ use Rattle.window_items.specs.declared.item.Item.{Item}
 pub without-requires-clause-apart : goal.without-requires-clause-apart
 without-requires-clause-apart g c =
     let list_loan = (list.loan-value g.dyn-1).it in
-    let control_loan = (control.loan-value g.dyn-3).it in
+    let control_loan = (control.loan-value g.dyn-2).it in
     let l = c.args.list in
     let t = c.args.windows.now in
     let m = c.args.self.now in
@@ -32,7 +32,7 @@ area-requires g c = area_there _ c.args.windows.now c.requires.kept c.in_ok-spot
 pub plan_layers-requires-clause-apart : goal.plan_layers-requires-clause-apart
 plan_layers-requires-clause-apart g c =
     let list_loan = (list.loan-value g.dyn-1).it in
-    let control_loan = (control.loan-value g.dyn-3).it in
+    let control_loan = (control.loan-value g.dyn-2).it in
     let l = c.args.list in
     let t = c.args.windows.now in
     let m = c.args.self.now in
@@ -47,7 +47,7 @@ plan_layers-requires-clause-apart g c =
 pub plan_bar-requires-clause-apart : goal.plan_bar-requires-clause-apart
 plan_bar-requires-clause-apart g c =
     let list_loan = (list.loan-value g.dyn-1).it in
-    let control_loan = (control.loan-value g.dyn-3).it in
+    let control_loan = (control.loan-value g.dyn-2).it in
     let l = c.args.list in
     let t = c.args.windows.now in
     let m = c.args.self.now in
@@ -62,7 +62,7 @@ plan_bar-requires-clause-apart g c =
 pub plan_bar-requires-2-clause-apart : goal.plan_bar-requires-2-clause-apart
 plan_bar-requires-2-clause-apart g c =
     let list_loan = (list.loan-value g.dyn-1).it in
-    let control_loan = (control.loan-value g.dyn-3).it in
+    let control_loan = (control.loan-value g.dyn-2).it in
     let l = c.args.list in
     let t = c.args.windows.now in
     let m = c.args.self.now in
@@ -77,7 +77,7 @@ plan_bar-requires-2-clause-apart g c =
 pub commit_layers-requires-clause-may : goal.commit_layers-requires-clause-may
 commit_layers-requires-clause-may g c =
     let list_loan = (list.loan-value g.dyn-1).it in
-    let control_loan = (control.loan-value g.dyn-3).it in
+    let control_loan = (control.loan-value g.dyn-2).it in
     let l = c.args.list in
     let t = c.args.windows.now in
     let m = c.args.self.now in
@@ -92,7 +92,7 @@ commit_layers-requires-clause-may g c =
 pub commit_layers-requires-clause-planned : goal.commit_layers-requires-clause-planned
 commit_layers-requires-clause-planned g c =
     let list_loan = (list.loan-value g.dyn-1).it in
-    let control_loan = (control.loan-value g.dyn-3).it in
+    let control_loan = (control.loan-value g.dyn-2).it in
     let l = c.args.list in
     let t = c.args.windows.now in
     let m = c.args.self.now in
@@ -116,7 +116,7 @@ put_away-requires-clause-left g c = ended_left (list.loan-value g.dyn-1).it c.ar
 pub end_bar-requires-clause-kept : goal.end_bar-requires-clause-kept
 end_bar-requires-clause-kept g c =
     let list_loan = (list.loan-value g.dyn-1).it in
-    let control_loan = (control.loan-value g.dyn-3).it in
+    let control_loan = (control.loan-value g.dyn-2).it in
     let l = c.args.list in
     let t = c.args.windows.now in
     let m = c.args.self.now in
@@ -132,7 +132,7 @@ end_bar-requires-clause-kept g c =
 pub end_bar-requires-clause-whole : goal.end_bar-requires-clause-whole
 end_bar-requires-clause-whole g c =
     let list_loan = (list.loan-value g.dyn-1).it in
-    let control_loan = (control.loan-value g.dyn-3).it in
+    let control_loan = (control.loan-value g.dyn-2).it in
     let l = c.args.list in
     let t = c.args.windows.now in
     let m = c.args.self.now in
@@ -148,7 +148,7 @@ end_bar-requires-clause-whole g c =
 pub end_bar-requires-clause-planned : goal.end_bar-requires-clause-planned
 end_bar-requires-clause-planned g c =
     let list_loan = (list.loan-value g.dyn-1).it in
-    let control_loan = (control.loan-value g.dyn-3).it in
+    let control_loan = (control.loan-value g.dyn-2).it in
     let l = c.args.list in
     let t = c.args.windows.now in
     let m = c.args.self.now in
@@ -165,7 +165,7 @@ end_bar-requires-clause-planned g c =
 pub end_bar-requires-2-clause-kept : goal.end_bar-requires-2-clause-kept
 end_bar-requires-2-clause-kept g c =
     let list_loan = (list.loan-value g.dyn-1).it in
-    let control_loan = (control.loan-value g.dyn-3).it in
+    let control_loan = (control.loan-value g.dyn-2).it in
     let l = c.args.list in
     let t = c.args.windows.now in
     let m = c.args.self.now in
@@ -182,7 +182,7 @@ end_bar-requires-2-clause-kept g c =
 pub end_bar-requires-2-clause-whole : goal.end_bar-requires-2-clause-whole
 end_bar-requires-2-clause-whole g c =
     let list_loan = (list.loan-value g.dyn-1).it in
-    let control_loan = (control.loan-value g.dyn-3).it in
+    let control_loan = (control.loan-value g.dyn-2).it in
     let l = c.args.list in
     let t = c.args.windows.now in
     let m = c.args.self.now in
@@ -199,7 +199,7 @@ end_bar-requires-2-clause-whole g c =
 pub end_bar-requires-2-clause-planned : goal.end_bar-requires-2-clause-planned
 end_bar-requires-2-clause-planned g c =
     let list_loan = (list.loan-value g.dyn-1).it in
-    let control_loan = (control.loan-value g.dyn-3).it in
+    let control_loan = (control.loan-value g.dyn-2).it in
     let l = c.args.list in
     let t = c.args.windows.now in
     let m = c.args.self.now in
@@ -217,7 +217,7 @@ end_bar-requires-2-clause-planned g c =
 pub returns : goal.returns
 returns g c =
     let list_loan = (list.loan-value g.dyn-1).it in
-    let control_loan = (control.loan-value g.dyn-3).it in
+    let control_loan = (control.loan-value g.dyn-2).it in
     let l = c.args.list in
     let t = c.args.windows.now in
     let m = c.args.self.now in
