@@ -12,5 +12,5 @@ place-requires-clause-beside g c = beside_roomier _ _ c.args.self.now c.plan.new
 
 pub returns-in-Ok-clause-put : goal.returns-in-Ok-clause-put
 returns-in-Ok-clause-put g c held before left took =
-    put_plain _ (list.loan-value g.dyn-1).it (control.loan-value g.dyn-3).it c.args.new.now c.args.ticket.serial c.args.windows.now c.place.new.windows c.args.controls.now c.args.self.now c.plan.new.self c.place.new.self
+    put_plain _ (list.loan-value g.dyn-1).it (control.loan-value g.dyn-2).it c.args.new.now c.args.ticket.serial c.args.windows.now c.place.new.windows c.args.controls.now c.args.self.now c.plan.new.self c.place.new.self
     before left c.requires.unbarred c.plan.ensures.same c.none.result.vertical c.none.result.horizontal c.none.ensures.vertical c.none.ensures.horizontal (c.place.ensures before left took) held
