@@ -7,7 +7,7 @@ use Rattle.desk_call.specs.declared.control.ControlInfo.{ControlInfo}
 use Rattle.desk_call.specs.declared.control.ControlReply.{ControlReply}
 use Rattle.desk_call.specs.declared.control.ControlReply.TheVariants.{Done, Made, Info, Found, Part}
 use Rattle.desk_call.specs.declared.control.FoundControl.{FoundControl}
-use Rattle.reply_lines.specs.Texts.{done_text, number_text, flag_text}
+use Rattle.line_words.specs.Replies.{done_text, number_text, flag_text}
 
 -- a control's value, its minimum and its maximum, how it is highlighted, and whether it is shown
 abbrev pub info_text : ControlInfo → List ℕ

@@ -6,7 +6,7 @@ ghost use Rattle.control_words.specs.ControlLines.{info_text, part_text, found_t
 use control_values::ControlPart;
 use desk_call::{ControlInfo, ControlReply, FoundControl};
 use itoa::Buffer;
-use reply_lines::{flag_text, write_done, write_number};
+use line_words::{flag_text, write_done, write_number};
 use tb_geom::Refusal;
 use watched_io::{Sink, send, send_all};
 

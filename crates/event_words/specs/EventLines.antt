@@ -5,7 +5,7 @@ use Rattle.desk_call.specs.declared.event.EventReply.{EventReply}
 use Rattle.desk_call.specs.declared.event.EventReply.TheVariants.{Done, Posted, Told}
 use Rattle.event_queue.specs.declared.event.Event.{Event}
 use Rattle.event_queue.specs.Events.{number_of}
-use Rattle.reply_lines.specs.Texts.{done_text, number_text, flag_number}
+use Rattle.line_words.specs.Replies.{done_text, number_text, flag_number}
 
 -- an event: its code, message, time, the column and row of the mouse, and modifier flags
 abbrev pub event_text : Event → List ℕ

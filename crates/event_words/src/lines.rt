@@ -6,7 +6,7 @@ ghost use Rattle.watched_io.specs.Writes.{Sends};
 use desk_call::EventReply;
 use event_queue::Event;
 use itoa::Buffer;
-use reply_lines::{flag_number, write_done, write_number};
+use line_words::{flag_number, write_done, write_number};
 use tb_geom::Refusal;
 use watched_io::{Sink, send_all};
 

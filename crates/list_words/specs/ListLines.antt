@@ -4,7 +4,7 @@ use Rattle.std.specs.Fmt.{signed_decimal}
 use Rattle.list_cells.specs.declared.cell.Cell.{Cell}
 use Rattle.desk_call.specs.declared.list.ListReply.{ListReply}
 use Rattle.desk_call.specs.declared.list.ListReply.TheVariants as replies
-use Rattle.reply_lines.specs.Texts.{done_text, number_text, flag_number}
+use Rattle.line_words.specs.Replies.{done_text, number_text, flag_number}
 
 -- the data of a cell, between two quotes
 abbrev pub data_text : List ℕ → List ℕ

@@ -6,7 +6,7 @@ ghost use Rattle.list_words.specs.ListLines.{data_text, cell_text, found_text, l
 use desk_call::ListReply;
 use itoa::Buffer;
 use list_cells::Cell;
-use reply_lines::{flag_number, write_done, write_number};
+use line_words::{flag_number, write_done, write_number};
 use tb_geom::Refusal;
 use watched_io::{Sink, send, send_all};
 

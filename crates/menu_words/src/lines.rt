@@ -5,7 +5,7 @@ ghost use Rattle.menu_words.specs.MenuLines.{item_text, choice_text, menu_reply_
 
 use desk_call::{Choice, MenuReply};
 use itoa::Buffer;
-use reply_lines::{write_done, write_number};
+use line_words::{write_done, write_number};
 use tb_geom::Refusal;
 use watched_io::{Sink, send, send_all};
 

@@ -26,4 +26,4 @@ pub use command::{Command, DeskSize};
 pub use lines::LineBuffer;
 pub use parser::parse;
 pub use reply_line::write_reply;
-pub use reply_lines::write_done;
+pub use line_words::write_done;

@@ -11,7 +11,7 @@ use Rattle.desk_call.specs.declared.window.Found.{Found}
 use Rattle.desk_call.specs.declared.window.WindowInfo.{WindowInfo}
 use Rattle.desk_call.specs.declared.window.WindowReply.{WindowReply}
 use Rattle.desk_call.specs.declared.window.WindowReply.TheVariants as window_reply
-use Rattle.reply_lines.specs.Texts.{done_text, number_text, flag_text, flag_number, region_text}
+use Rattle.line_words.specs.Replies.{done_text, number_text, flag_text, flag_number, region_text}
 
 -- a window by its number, and none by 0
 abbrev pub window_number : Option ℕ → ℕ

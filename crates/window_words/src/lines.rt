@@ -6,7 +6,7 @@ ghost use Rattle.window_words.specs.WindowLines.{found_text, info_text, window_n
 use def_iface::Size;
 use desk_call::{Found, FrameReply, OutlineReply, WindowInfo, WindowReply};
 use itoa::Buffer;
-use reply_lines::{flag_number, flag_text, write_done, write_number, write_region};
+use line_words::{flag_number, flag_text, write_done, write_number, write_region};
 use tb_geom::Refusal;
 use watched_io::{Sink, send_all};
 

@@ -1,7 +1,7 @@
 use Rattle.std.proofs.Common.{◌≡◌, ℕ, List, ◌++◌, length}
 use Rattle.line_words.specs.Hex.{hex_text}
 use Rattle.watched_io.specs.Writes.{Sent}
-use Rattle.reply_lines.proofs.region.write_digits.Given as goal
+use Rattle.line_words.proofs.region.write_digits.Given as goal
 
 abbrev pub invariant-loop-rest : goal.invariant-loop-rest
 invariant-loop-rest g l = (done : List ℕ) × (l.initial.rest ≡ done ++ l.rest) × Sent (g.S.Sink.output l.initial.sink) (g.S.Sink.output l.sink) (hex_text 65 done)

@@ -1,6 +1,6 @@
 //! The lines of a call that was done, and of a number.
 ghost use Rattle.std.specs.Prelude.{◌≡◌, false};
-ghost use Rattle.reply_lines.specs.Texts.{done_text, number_text, flag_text, flag_number};
+ghost use Rattle.line_words.specs.Replies.{done_text, number_text, flag_text, flag_number};
 ghost use Rattle.watched_io.specs.Writes.{Sends};
 
 use itoa::Buffer;

@@ -1,8 +1,8 @@
 use Rattle.std.proofs.Common.{◌++◌, sym, rules, subst}
-use Rattle.reply_lines.proofs.HexOut.{hex_text-append, hex_text-moves, hex_text-around}
+use Rattle.line_words.proofs.HexOut.{hex_text-append, hex_text-moves, hex_text-around}
 use Rattle.watched_io.specs.Writes.{Sent}
 use Rattle.watched_io.proofs.Written.{Sent-trans, Sends-exit}
-use Rattle.reply_lines.proofs.region.write_digits.Goals as goal
+use Rattle.line_words.proofs.region.write_digits.Goals as goal
 
 pub returns-in_err-send : goal.returns-in_err-send
 returns-in_err-send g c =

@@ -1,6 +1,6 @@
 use Rattle.std.proofs.Common.{rules}
-use Rattle.reply_lines.proofs.HexOut.{hex_text-more}
-use Rattle.reply_lines.proofs.region.digits_of.Goals as goal
+use Rattle.line_words.proofs.HexOut.{hex_text-more}
+use Rattle.line_words.proofs.region.digits_of.Goals as goal
 
 pub loop-byte-preserved : goal.loop-byte-preserved
 loop-byte-preserved c = record {

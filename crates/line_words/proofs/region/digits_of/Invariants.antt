@@ -1,7 +1,7 @@
 use Rattle.std.proofs.Common.{◌≡◌, ◌*◌, take}
 use Rattle.arrayvec.specs.ArrayVec.{array_vec_len}
 use Rattle.line_words.specs.Hex.{hex_text}
-use Rattle.reply_lines.proofs.region.digits_of.Given as goal
+use Rattle.line_words.proofs.region.digits_of.Given as goal
 
 abbrev pub invariant-loop-byte : goal.invariant-loop-byte
 invariant-loop-byte l = record {

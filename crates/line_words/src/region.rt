@@ -3,7 +3,7 @@
 //! A region may have some 32,000 bytes. So their digits go out by parts, and take no memory.
 ghost use Rattle.std.specs.Prelude.{◌≡◌, ◌≤◌, ◌<◌, length, false};
 ghost use Rattle.line_words.specs.Hex.{hex_digit, hex_text};
-ghost use Rattle.reply_lines.specs.Texts.{region_text};
+ghost use Rattle.line_words.specs.Replies.{region_text};
 ghost use Rattle.watched_io.specs.Writes.{Sends};
 
 use arrayvec::ArrayVec;

@@ -1,7 +1,7 @@
 use Rattle.std.proofs.Common.{[], ◌∷◌, ◌++◌, codes}
 use Rattle.line_words.specs.Hex.{hex_text}
 use Rattle.watched_io.proofs.Written.{Sends-after, Sends-exit_first}
-use Rattle.reply_lines.proofs.region.write_region.Goals as goal
+use Rattle.line_words.proofs.region.write_region.Goals as goal
 
 pub returns-in_err-send : goal.returns-in_err-send
 returns-in_err-send g c =
