@@ -14,3 +14,4 @@ pub mod MenuMeaning
 pub mod ListMeaning
 pub mod Stocked
 pub mod Stocks
+pub mod Boxed

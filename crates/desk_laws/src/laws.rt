@@ -337,7 +337,8 @@ pub fn controls_are_shown_by_their_records()
 #[tactic(auto, using(crate::proofs::Shown::lists_go_by_records))]
 pub fn lists_are_shown_by_their_records()
     ensures { (s : ToolboxState) → AreContentsRight s
-        → All (λ l. ListGoesBy (cell_size l.kept.view) (not l.kept.flags.no_nil_hilite) l.kept.definition.definition) s.lists.lists }
+        → All (λ l. ListGoesBy (cell_size l.kept.view) (not l.kept.flags.no_nil_hilite) l.kept.definition.definition)
+        s.lists.lists }
 {}
 
 /// Over any run of a desk that just began, the activate events that are told of one window are in turn an activation and a
