@@ -5,12 +5,12 @@ ghost use Rattle.tb_geom.specs.declared.refusal.Refusal.{Refusal};
 ghost use Rattle.tb_geom.specs.declared.refusal.Refusal.TheVariants.{NoSuchName};
 ghost use Rattle.line_words.specs.Tables.{named};
 ghost use Rattle.script_text.specs.declared.command.Command.{Command};
-ghost use Rattle.script_text.specs.declared.verb.Verb.{Verb};
+ghost use Rattle.command_words.specs.declared.verb.Verb.{Verb};
 ghost use Rattle.script_text.specs.Spelling.{IsLine};
-ghost use Rattle.script_text.specs.Commands.{verbs};
+ghost use Rattle.command_words.specs.Verbs.{verbs};
 ghost use Rattle.script_text.specs.Lines.{lines_of};
 
-pub use window_words::laws::modes_are_read_by_their_names;
+pub use command_words::laws::modes_are_read_by_their_names;
 
 /// A first word stands for a verb exactly where the table has the two.
 pub fn a_verb_is_one_of_the_table()
