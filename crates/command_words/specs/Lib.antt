@@ -10,6 +10,7 @@ pub mod MenuLines
 pub mod MenuWords
 pub mod Names
 pub mod OutlineWords
+pub mod Sizes
 pub mod UpdateWords
 pub mod Verbs
 pub mod WindowLines

@@ -12,6 +12,7 @@ use Rattle.line_words.specs.Words.{◌>>=◌, Field, number_at, serial_at}
 use Rattle.line_words.specs.Shapes.{Shape, says, number, flag, name, text, serial, point, mapped}
 use Rattle.command_words.specs.declared.lists.ListVerb.{ListVerb}
 use Rattle.command_words.specs.declared.lists.ListVerb.TheVariants as verbs
+use Rattle.command_words.specs.Sizes.{size}
 
 -- two words that are a window and a list
 abbrev pub list_at : Option (List ℕ) → Field ListOf
@@ -31,10 +32,6 @@ cell_at rest =
 -- W L
 abbrev pub of_list : {A : Type 0} → (ListOf → Shape A) → Shape A
 of_list next = serial (λ window. serial (λ list. next (record { window = window; list = list })))
-
--- width height
-abbrev pub size : {A : Type 0} → (Size → Shape A) → Shape A
-size next = number (λ width. number (λ height. next (record { width = width; height = height })))
 
 -- column row, a cell of a list
 abbrev pub cell : {A : Type 0} → ListOf → (CellOf → Shape A) → Shape A

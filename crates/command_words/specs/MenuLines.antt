@@ -3,12 +3,7 @@ use Rattle.std.specs.Prelude.{ℕ, List, ◌++◌, Option, None, Some, codes, de
 use Rattle.desk_call.specs.declared.menu.Choice.{Choice}
 use Rattle.desk_call.specs.declared.menu.MenuReply.{MenuReply}
 use Rattle.desk_call.specs.declared.menu.MenuReply.TheVariants.{Done, Pulled, Item, Chosen}
-use Rattle.line_words.specs.Replies.{done_text, number_text}
-
--- a menu or an item by its number, and none by 0
-abbrev pub number_or_none : Option ℕ → ℕ
-number_or_none None = 0
-number_or_none (Some number) = number
+use Rattle.line_words.specs.Replies.{done_text, number_text, number_or_none}
 
 -- an item: its menu, and its number there
 abbrev pub item_text : Choice → List ℕ

@@ -1,18 +1,14 @@
 -- The words of the commands for the outline of a window that is dragged or grown.
-use Rattle.def_iface.specs.declared.size.Size.{Size}
 use Rattle.desk_call.specs.declared.outline.OutlineCall.{OutlineCall}
 use Rattle.desk_call.specs.declared.outline.OutlineCall.TheVariants as calls
-use Rattle.line_words.specs.Shapes.{Shape, says, number, serial, point}
+use Rattle.line_words.specs.Shapes.{Shape, says, serial, point}
 use Rattle.command_words.specs.declared.outlines.OutlineVerb.{OutlineVerb}
 use Rattle.command_words.specs.declared.outlines.OutlineVerb.TheVariants as verbs
+use Rattle.command_words.specs.Sizes.{size}
 
 -- W h v
 abbrev pub drag_shape : Shape OutlineCall
 drag_shape = serial (λ window. point (λ place. says (calls.Drag (record { window = window; point = place }))))
-
--- width height
-abbrev pub size : {A : Type 0} → (Size → Shape A) → Shape A
-size next = number (λ width. number (λ height. next (record { width = width; height = height })))
 
 -- W h v, width and height of the least size, and of the most
 abbrev pub grow_shape : Shape OutlineCall

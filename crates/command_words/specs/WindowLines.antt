@@ -1,5 +1,5 @@
 -- The line of what is answered about windows, their frames and their outlines.
-use Rattle.std.specs.Prelude.{ℕ, List, ◌++◌, Option, None, Some, codes, decimal}
+use Rattle.std.specs.Prelude.{ℕ, List, ◌++◌, codes, decimal}
 use Rattle.std.specs.Fmt.{signed_decimal}
 use Rattle.def_iface.specs.declared.size.Size.{Size}
 use Rattle.desk_call.specs.Parts.{part_number}
@@ -11,16 +11,11 @@ use Rattle.desk_call.specs.declared.window.Found.{Found}
 use Rattle.desk_call.specs.declared.window.WindowInfo.{WindowInfo}
 use Rattle.desk_call.specs.declared.window.WindowReply.{WindowReply}
 use Rattle.desk_call.specs.declared.window.WindowReply.TheVariants as window_reply
-use Rattle.line_words.specs.Replies.{done_text, number_text, flag_text, flag_number, region_text}
-
--- a window by its number, and none by 0
-abbrev pub window_number : Option ℕ → ℕ
-window_number None = 0
-window_number (Some window) = window
+use Rattle.line_words.specs.Replies.{done_text, number_text, number_or_none, flag_text, flag_number, region_text}
 
 -- the part that a point lies in, and the window
 abbrev pub found_text : Found → List ℕ
-found_text found = codes "ok " ++ (decimal (part_number found.part) ++ (codes " " ++ (decimal (window_number found.window) ++ codes "\n")))
+found_text found = codes "ok " ++ (decimal (part_number found.part) ++ (codes " " ++ (decimal (number_or_none found.window) ++ codes "\n")))
 
 -- where a window's content lies on the screen, its width and height, and whether the window is shown and highlighted
 abbrev pub info_text : WindowInfo → List ℕ
@@ -34,7 +29,7 @@ abbrev pub window_reply_text : WindowReply → List ℕ
 window_reply_text window_reply.Done = done_text
 window_reply_text (window_reply.Made number) = number_text number
 window_reply_text (window_reply.Found found) = found_text found
-window_reply_text (window_reply.Front window) = number_text (window_number window)
+window_reply_text (window_reply.Front window) = number_text (number_or_none window)
 window_reply_text (window_reply.Info info) = info_text info
 window_reply_text (window_reply.Region bytes) = region_text bytes.items
 

@@ -1,7 +1,8 @@
 //! The lines of what is answered about windows, their frames and their outlines.
 ghost use Rattle.std.specs.Prelude.{◌≡◌, false};
+ghost use Rattle.line_words.specs.Replies.{number_or_none};
 ghost use Rattle.watched_io.specs.Writes.{Sends};
-ghost use Rattle.command_words.specs.WindowLines.{found_text, info_text, window_number, window_reply_text, frame_reply_text, size_text, outline_reply_text};
+ghost use Rattle.command_words.specs.WindowLines.{found_text, info_text, window_reply_text, frame_reply_text, size_text, outline_reply_text};
 
 use def_iface::Size;
 use desk_call::{Found, FrameReply, OutlineReply, WindowInfo, WindowReply};
@@ -44,7 +45,7 @@ fn write_found<S: Sink>(sink: &mut S, found: Found) -> Result<(), Refusal>
 
 /// A window by its number, and none by 0.
 fn window_number(window: Option<u64>) -> u64
-    ensures { result ≡ window_number window }
+    ensures { result ≡ number_or_none window }
 {
     window.unwrap_or(0)
 }

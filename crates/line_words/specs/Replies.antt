@@ -1,5 +1,5 @@
 -- What the replies of all managers are made of.
-use Rattle.std.specs.Prelude.{ℕ, Bool, List, ◌++◌, codes, decimal, if◌then◌else◌}
+use Rattle.std.specs.Prelude.{ℕ, Bool, List, ◌++◌, Option, None, Some, codes, decimal, if◌then◌else◌}
 use Rattle.line_words.specs.Hex.{hex_text}
 
 -- a call that was done and has no value
@@ -9,6 +9,11 @@ done_text = codes "ok\n"
 -- a number
 abbrev pub number_text : ℕ → List ℕ
 number_text number = codes "ok " ++ (decimal number ++ codes "\n")
+
+-- a thing by its number, and none by 0
+abbrev pub number_or_none : Option ℕ → ℕ
+number_or_none None = 0
+number_or_none (Some number) = number
 
 -- a region, as its bytes: each is two digits, with the letters `A` to `F`
 abbrev pub region_text : List ℕ → List ℕ
