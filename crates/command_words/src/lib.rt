@@ -7,7 +7,7 @@
 //! `Drawings.antt`. A cell is its column and then its row.
 //!
 //! `write_window_reply` and its likes write the line of a reply (`specs/WindowLines.antt` and its likes). `laws` says that
-//! modes are read by their names.
+//! verbs are those of the table, and that modes are read by their names.
 //!
 //! The form of a whole line is judged here, and then the names of modes and patterns; no range of a number, no kind of a
 //! window, a control or a list, and no region.
