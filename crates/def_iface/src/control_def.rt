@@ -50,7 +50,8 @@ pub trait ControlDef: Drop {
     /// and after are equal outside it, within the range of coordinates.
     fn told(&mut self, change: &ControlChange<'_>) -> Rect
         requires live { (control_meaning self.old).stage ≡ Stage.Live }
-        requires fits { is_fitting_control (control_meaning self.old) (control_size_after change.now (control_meaning self.old).size) ≡ true }
+        requires fits { is_fitting_control (control_meaning self.old)
+            (control_size_after change.now (control_meaning self.old).size) ≡ true }
         ensures stays { (control_meaning self.new).stage ≡ Stage.Live }
         ensures size { (control_meaning self.new).size ≡ control_size_after change.now (control_meaning self.old).size }
         ensures regions { SameControlRegions (control_meaning self.old) (control_meaning self.new) }

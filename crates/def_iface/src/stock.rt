@@ -44,7 +44,8 @@ impl Stock {
     pub fn new(alloc: Global) -> Stock
         ensures empty { ⟦<Stock as Stocked>⟧.slots result ≡ [] }
         ensures full { All IsFull (⟦<Stock as Stocked>⟧.slots result) }
-        ensures none { ⟦<Stock as StockedAll>⟧.all_slots result ≡ record { windows = []; menus = []; controls = []; lists = [] } }
+        ensures none { ⟦<Stock as StockedAll>⟧.all_slots result
+            ≡ record { windows = []; menus = []; controls = []; lists = [] } }
         ensures all_full { AreAllFull (⟦<Stock as StockedAll>⟧.all_slots result) }
     {
         Stock {

@@ -99,8 +99,10 @@ impl TakenWindow {
         requires fresh { (⟦<TakenWindow as Defined>⟧.loan self.old).definition.stage ≡ Stage.Fresh }
         requires fits { is_fitting (⟦<TakenWindow as Defined>⟧.loan self.old).definition size ≡ true }
         ensures begun { IsBegun (new_window_news size title.now go_away highlighted)
-            (⟦<TakenWindow as Defined>⟧.loan self.old).definition (⟦<TakenWindow as Defined>⟧.loan self.new).definition }
-        ensures slot { (⟦<TakenWindow as Defined>⟧.loan self.new).slot ≡ (⟦<TakenWindow as Defined>⟧.loan self.old).slot }
+            (⟦<TakenWindow as Defined>⟧.loan self.old).definition
+            (⟦<TakenWindow as Defined>⟧.loan self.new).definition }
+        ensures slot { (⟦<TakenWindow as Defined>⟧.loan self.new).slot
+            ≡ (⟦<TakenWindow as Defined>⟧.loan self.old).slot }
     {
         self.wake();
         let _damage = self.told(WindowChange::Resized(size));
@@ -119,7 +121,8 @@ impl TakenWindow {
             (⟦<TakenWindow as Defined>⟧.loan self.new).definition }
         ensures look { WindowHears (λ n. n) (⟦<TakenWindow as Defined>⟧.loan self.old).definition
             (⟦<TakenWindow as Defined>⟧.loan self.new).definition }
-        ensures slot { (⟦<TakenWindow as Defined>⟧.loan self.new).slot ≡ (⟦<TakenWindow as Defined>⟧.loan self.old).slot }
+        ensures slot { (⟦<TakenWindow as Defined>⟧.loan self.new).slot
+            ≡ (⟦<TakenWindow as Defined>⟧.loan self.old).slot }
     {
         self.definition.begin();
     }
@@ -139,7 +142,8 @@ impl TakenWindow {
             (⟦<TakenWindow as Defined>⟧.loan self.new).definition }
         ensures damage { IsDamage result (⟦<TakenWindow as Defined>⟧.loan self.old).definition
             (⟦<TakenWindow as Defined>⟧.loan self.new).definition }
-        ensures slot { (⟦<TakenWindow as Defined>⟧.loan self.new).slot ≡ (⟦<TakenWindow as Defined>⟧.loan self.old).slot }
+        ensures slot { (⟦<TakenWindow as Defined>⟧.loan self.new).slot
+            ≡ (⟦<TakenWindow as Defined>⟧.loan self.old).slot }
     {
         self.definition.told(change)
     }
@@ -163,7 +167,8 @@ impl TakenWindow {
         ensures same_map { canvas.new.map.ghost_name ≡ canvas.old.map.ghost_name }
         ensures same_frame { SameFrame canvas.old canvas.new }
         ensures drawn { Draws (canvas_holds canvas.old)
-            (λ p _. (⟦<TakenWindow as Defined>⟧.loan self.now).definition.picture no_news canvas.old.font.now (canvas_point canvas.old p))
+            (λ p _. (⟦<TakenWindow as Defined>⟧.loan self.now).definition.picture no_news canvas.old.font.now
+            (canvas_point canvas.old p))
             canvas.old.map.now canvas.new.map.now }
     {
         self.definition.draw(canvas);

@@ -12,7 +12,9 @@ ghost use Rattle.window_frame.specs.Followers.{AreInformed};
 ghost use Rattle.window_frame.specs.Outcomes.{outcome_of};
 ghost use Rattle.desk_toolbox.specs.Economy.{IsCallEconomical};
 ghost use Rattle.desk_toolbox.specs.EventSteps.{events_left};
-ghost use Rattle.desk_toolbox.specs.Run.{AreControlsLeft, AreListsLeft, IsAdmitted, IsControlTold, IsEventAnswer, IsFormFault, IsListAnswer, IsUpdateTold, IsWindowTold, is_covered, is_hidden_by_menu, is_under_menu};
+ghost use Rattle.desk_toolbox.specs.Run.{AreControlsLeft, AreListsLeft, IsAdmitted, IsControlTold, IsEventAnswer};
+ghost use Rattle.desk_toolbox.specs.Run.{IsFormFault, IsListAnswer, IsUpdateTold, IsWindowTold, is_covered};
+ghost use Rattle.desk_toolbox.specs.Run.{is_hidden_by_menu, is_under_menu};
 ghost use Rattle.desk_toolbox.specs.ToolboxStates.{ToolboxState};
 
 use crate::events::Events;

@@ -107,7 +107,8 @@ impl Desk {
     /// yet.
     pub fn new(alloc: Global, stock: WindowStock) -> Result<Desk, Refusal>
         requires { All IsFull (⟦<WindowStock as Stocked>⟧.slots stock) }
-        ensures { IfOk result (λ d. IsWholeManager ⟦<TakenWindow as Defined>⟧.loan d.windows (⟦<WindowStock as Stocked>⟧.slots d.stock)) }
+        ensures { IfOk result (λ d. IsWholeManager ⟦<TakenWindow as Defined>⟧.loan d.windows
+            (⟦<WindowStock as Stocked>⟧.slots d.stock)) }
     {
         let list = WindowList::new(Ranks::new(alloc));
         let font = Font::built_in(alloc)?;
@@ -130,8 +131,10 @@ impl Desk {
 
     /// Makes the window of the library that this one of the model is.
     fn open(&mut self, serial: u64) -> Result<(), Refusal>
-        requires { IsWholeManager ⟦<TakenWindow as Defined>⟧.loan self.old.windows (⟦<WindowStock as Stocked>⟧.slots self.old.stock) }
-        ensures { IsWholeManager ⟦<TakenWindow as Defined>⟧.loan self.new.windows (⟦<WindowStock as Stocked>⟧.slots self.new.stock) }
+        requires { IsWholeManager ⟦<TakenWindow as Defined>⟧.loan self.old.windows
+            (⟦<WindowStock as Stocked>⟧.slots self.old.stock) }
+        ensures { IsWholeManager ⟦<TakenWindow as Defined>⟧.loan self.new.windows
+            (⟦<WindowStock as Stocked>⟧.slots self.new.stock) }
     {
         let mut desk = self.plain.desk;
         let at = desk.index_of(serial);
@@ -154,7 +157,8 @@ impl Desk {
 
     /// Whether each pixel of the screen, and each region that is kept, is what the model has.
     pub fn agrees(&self) -> bool
-        requires { IsWholeManager ⟦<TakenWindow as Defined>⟧.loan self.now.windows (⟦<WindowStock as Stocked>⟧.slots self.now.stock) }
+        requires { IsWholeManager ⟦<TakenWindow as Defined>⟧.loan self.now.windows
+            (⟦<WindowStock as Stocked>⟧.slots self.now.stock) }
     {
         for v in 0..16 {
             for h in 0..24 {
@@ -167,7 +171,8 @@ impl Desk {
     }
 
     fn agrees_at(&self, point: Point) -> bool
-        requires { IsWholeManager ⟦<TakenWindow as Defined>⟧.loan self.now.windows (⟦<WindowStock as Stocked>⟧.slots self.now.stock) }
+        requires { IsWholeManager ⟦<TakenWindow as Defined>⟧.loan self.now.windows
+            (⟦<WindowStock as Stocked>⟧.slots self.now.stock) }
     {
         if is_black(self.windows.screen(), point) != self.plain.is_black(point) {
             return false;
@@ -212,8 +217,10 @@ impl Desk {
 
     /// Carries out a step, and answers whether the library and the model then agree.
     pub fn follows(&mut self, step: Step) -> Result<bool, Refusal>
-        requires { IsWholeManager ⟦<TakenWindow as Defined>⟧.loan self.old.windows (⟦<WindowStock as Stocked>⟧.slots self.old.stock) }
-        ensures { IsWholeManager ⟦<TakenWindow as Defined>⟧.loan self.new.windows (⟦<WindowStock as Stocked>⟧.slots self.new.stock) }
+        requires { IsWholeManager ⟦<TakenWindow as Defined>⟧.loan self.old.windows
+            (⟦<WindowStock as Stocked>⟧.slots self.old.stock) }
+        ensures { IsWholeManager ⟦<TakenWindow as Defined>⟧.loan self.new.windows
+            (⟦<WindowStock as Stocked>⟧.slots self.new.stock) }
     {
         match step {
             Step::Update(window, kinds) => return self.update(window, kinds),
@@ -227,8 +234,10 @@ impl Desk {
 
     /// Whether the library refuses a step as out of range, and stays as it was.
     pub fn refuses(&mut self, step: Step) -> bool
-        requires { IsWholeManager ⟦<TakenWindow as Defined>⟧.loan self.old.windows (⟦<WindowStock as Stocked>⟧.slots self.old.stock) }
-        ensures { IsWholeManager ⟦<TakenWindow as Defined>⟧.loan self.new.windows (⟦<WindowStock as Stocked>⟧.slots self.new.stock) }
+        requires { IsWholeManager ⟦<TakenWindow as Defined>⟧.loan self.old.windows
+            (⟦<WindowStock as Stocked>⟧.slots self.old.stock) }
+        ensures { IsWholeManager ⟦<TakenWindow as Defined>⟧.loan self.new.windows
+            (⟦<WindowStock as Stocked>⟧.slots self.new.stock) }
     {
         let answer = self.perform(step);
         is_out_of_range(answer) && self.agrees()
@@ -236,8 +245,10 @@ impl Desk {
 
     /// Carries out a step that is no update by the library.
     fn perform(&mut self, step: Step) -> Result<(), Refusal>
-        requires { IsWholeManager ⟦<TakenWindow as Defined>⟧.loan self.old.windows (⟦<WindowStock as Stocked>⟧.slots self.old.stock) }
-        ensures { IsWholeManager ⟦<TakenWindow as Defined>⟧.loan self.new.windows (⟦<WindowStock as Stocked>⟧.slots self.new.stock) }
+        requires { IsWholeManager ⟦<TakenWindow as Defined>⟧.loan self.old.windows
+            (⟦<WindowStock as Stocked>⟧.slots self.old.stock) }
+        ensures { IsWholeManager ⟦<TakenWindow as Defined>⟧.loan self.new.windows
+            (⟦<WindowStock as Stocked>⟧.slots self.new.stock) }
     {
         match step {
             Step::Put(window, part, shown, rect) => {
@@ -253,16 +264,20 @@ impl Desk {
     }
 
     fn call(&mut self, call: &WindowCall<'_>) -> Result<(), Refusal>
-        requires { IsWholeManager ⟦<TakenWindow as Defined>⟧.loan self.old.windows (⟦<WindowStock as Stocked>⟧.slots self.old.stock) }
-        ensures { IsWholeManager ⟦<TakenWindow as Defined>⟧.loan self.new.windows (⟦<WindowStock as Stocked>⟧.slots self.new.stock) }
+        requires { IsWholeManager ⟦<TakenWindow as Defined>⟧.loan self.old.windows
+            (⟦<WindowStock as Stocked>⟧.slots self.old.stock) }
+        ensures { IsWholeManager ⟦<TakenWindow as Defined>⟧.loan self.new.windows
+            (⟦<WindowStock as Stocked>⟧.slots self.new.stock) }
     {
         let _done = self.windows.perform(call, &mut self.stock)?;
         Ok(())
     }
 
     fn replace(&mut self, window: u64, painting: Painting, origin: Point) -> Result<(), Refusal>
-        requires { IsWholeManager ⟦<TakenWindow as Defined>⟧.loan self.old.windows (⟦<WindowStock as Stocked>⟧.slots self.old.stock) }
-        ensures { IsWholeManager ⟦<TakenWindow as Defined>⟧.loan self.new.windows (⟦<WindowStock as Stocked>⟧.slots self.new.stock) }
+        requires { IsWholeManager ⟦<TakenWindow as Defined>⟧.loan self.old.windows
+            (⟦<WindowStock as Stocked>⟧.slots self.old.stock) }
+        ensures { IsWholeManager ⟦<TakenWindow as Defined>⟧.loan self.new.windows
+            (⟦<WindowStock as Stocked>⟧.slots self.new.stock) }
     {
         let picture = picture(self.alloc, painting)?;
         self.call(&WindowCall::SetPicture(NewPicture {
@@ -279,9 +294,11 @@ impl Desk {
         activity: &mut Activity,
         call: &UpdateCall<'_>,
     ) -> Result<(), Refusal>
-        requires whole { IsWholeManager ⟦<TakenWindow as Defined>⟧.loan self.old.windows (⟦<WindowStock as Stocked>⟧.slots self.old.stock) }
+        requires whole { IsWholeManager ⟦<TakenWindow as Defined>⟧.loan self.old.windows
+            (⟦<WindowStock as Stocked>⟧.slots self.old.stock) }
         requires updates { IsWholeUpdates ⟦<TakenWindow as Defined>⟧.loan activity.old self.old.windows updates.old }
-        ensures whole { IsWholeManager ⟦<TakenWindow as Defined>⟧.loan self.new.windows (⟦<WindowStock as Stocked>⟧.slots self.new.stock) }
+        ensures whole { IsWholeManager ⟦<TakenWindow as Defined>⟧.loan self.new.windows
+            (⟦<WindowStock as Stocked>⟧.slots self.new.stock) }
         ensures updates { IsWholeUpdates ⟦<TakenWindow as Defined>⟧.loan activity.new self.new.windows updates.new }
     {
         update(&mut self.windows, updates, activity, call)
@@ -289,8 +306,10 @@ impl Desk {
 
     /// Begins the update of a window, draws these kinds of layers, and ends it.
     fn update(&mut self, window: u64, kinds: &[Kind]) -> Result<bool, Refusal>
-        requires { IsWholeManager ⟦<TakenWindow as Defined>⟧.loan self.old.windows (⟦<WindowStock as Stocked>⟧.slots self.old.stock) }
-        ensures { IsWholeManager ⟦<TakenWindow as Defined>⟧.loan self.new.windows (⟦<WindowStock as Stocked>⟧.slots self.new.stock) }
+        requires { IsWholeManager ⟦<TakenWindow as Defined>⟧.loan self.old.windows
+            (⟦<WindowStock as Stocked>⟧.slots self.old.stock) }
+        ensures { IsWholeManager ⟦<TakenWindow as Defined>⟧.loan self.new.windows
+            (⟦<WindowStock as Stocked>⟧.slots self.new.stock) }
     {
         let mut updates = updates_for(self.alloc, &self.windows)?;
         let mut activity = Activity::Idle;
@@ -311,16 +330,20 @@ impl Desk {
 
     /// Performs a call on updates while none is open.
     fn update_at_once(&mut self, call: &UpdateCall<'_>) -> Result<(), Refusal>
-        requires { IsWholeManager ⟦<TakenWindow as Defined>⟧.loan self.old.windows (⟦<WindowStock as Stocked>⟧.slots self.old.stock) }
-        ensures { IsWholeManager ⟦<TakenWindow as Defined>⟧.loan self.new.windows (⟦<WindowStock as Stocked>⟧.slots self.new.stock) }
+        requires { IsWholeManager ⟦<TakenWindow as Defined>⟧.loan self.old.windows
+            (⟦<WindowStock as Stocked>⟧.slots self.old.stock) }
+        ensures { IsWholeManager ⟦<TakenWindow as Defined>⟧.loan self.new.windows
+            (⟦<WindowStock as Stocked>⟧.slots self.new.stock) }
     {
         update_at_once(self.alloc, &mut self.windows, call)
     }
 
     /// Serves a window.
     fn serve(&mut self, window: u64) -> Result<bool, Refusal>
-        requires { IsWholeManager ⟦<TakenWindow as Defined>⟧.loan self.old.windows (⟦<WindowStock as Stocked>⟧.slots self.old.stock) }
-        ensures { IsWholeManager ⟦<TakenWindow as Defined>⟧.loan self.new.windows (⟦<WindowStock as Stocked>⟧.slots self.new.stock) }
+        requires { IsWholeManager ⟦<TakenWindow as Defined>⟧.loan self.old.windows
+            (⟦<WindowStock as Stocked>⟧.slots self.old.stock) }
+        ensures { IsWholeManager ⟦<TakenWindow as Defined>⟧.loan self.new.windows
+            (⟦<WindowStock as Stocked>⟧.slots self.new.stock) }
     {
         self.update_at_once(&UpdateCall::Serve(window))?;
         self.plain = self.plain.served(self.alloc, window)?;

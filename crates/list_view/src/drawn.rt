@@ -22,7 +22,8 @@ pub trait DrawnList {
         ensures same_map { canvas.new.map.ghost_name ≡ canvas.old.map.ghost_name }
         ensures same_frame { SameFrame canvas.old canvas.new }
         ensures drawn { Draws (canvas_holds canvas.old)
-            (λ p _. cell_bit (Self.list_loan self.now).definition selected canvas.old.font.now bytes.now (canvas_point canvas.old p))
+            (λ p _. cell_bit (Self.list_loan self.now).definition selected canvas.old.font.now bytes.now
+            (canvas_point canvas.old p))
             canvas.old.map.now canvas.new.map.now };
 
     /// Inverts each pixel of the canvas, whose origin is the cell's 0 0, that the highlight of a cell of these bytes has in the
@@ -34,7 +35,8 @@ pub trait DrawnList {
         ensures same_map { canvas.new.map.ghost_name ≡ canvas.old.map.ghost_name }
         ensures same_frame { SameFrame canvas.old canvas.new }
         ensures drawn { Draws (canvas_holds canvas.old)
-            (λ p d. if (Self.list_loan self.now).definition.highlight no_list_news canvas.old.font.now bytes.now (canvas_point canvas.old p)
+            (λ p d. if (Self.list_loan self.now).definition.highlight no_list_news canvas.old.font.now bytes.now
+            (canvas_point canvas.old p)
             then not d else d)
             canvas.old.map.now canvas.new.map.now };
 }

@@ -24,7 +24,8 @@ impl Menus {
         requires outline { IsOutlineKept after }
         requires menu { PullsNone after }
         ensures list { self.new.list ≡ self.old.list }
-        ensures whole { (slots : List MenuSlot) → IsWholeMenus ⟦<TakenMenu as Defined>⟧.loan windows.now before self.old slots
+        ensures whole { (slots : List MenuSlot) → IsWholeMenus ⟦<TakenMenu as Defined>⟧.loan windows.now before self.old
+            slots
             → IsWholeMenus ⟦<TakenMenu as Defined>⟧.loan windows.now after self.new slots }
     {
         match after {

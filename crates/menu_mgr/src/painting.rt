@@ -36,7 +36,8 @@ impl Menus {
         requires place { is_menu_place pulled.place ≡ true }
         requires size { is_menu_size pulled.size ≡ true }
         ensures { IsShown font.now
-            (pulled_of (Pulling pulled) (menus_of ⟦<TakenMenu as Defined>⟧.loan self.now.list.menus.items)) map.old map.new }
+            (pulled_of (Pulling pulled) (menus_of ⟦<TakenMenu as Defined>⟧.loan self.now.list.menus.items)) map.old
+            map.new }
     {
         if let Some(at) = self.list.find(i32::from(pulled.menu)) {
             let listed = &self.list.menus[at];

@@ -1,5 +1,6 @@
 //! The menu that is pulled down.
-ghost use Rattle.std.specs.Prelude.{◌≡◌, ◌<◌, ◌≤◌, [], length, vec_capacity, Some, None, IfSome, true, List, ℕ, pos, ◌≤ℤ◌, slice_get, is_none, if◌then◌else◌};
+ghost use Rattle.std.specs.Prelude.{◌≡◌, ◌<◌, ◌≤◌, [], length, vec_capacity, Some, None, IfSome, true, List, ℕ, pos};
+ghost use Rattle.std.specs.Prelude.{◌≤ℤ◌, slice_get, is_none, if◌then◌else◌};
 ghost use Rattle.std.specs.Option.{option_map};
 ghost use Rattle.tb_geom.specs.Points.{PixelSet, minus};
 ghost use Rattle.tb_geom.specs.Rects.{in_plane};
@@ -173,7 +174,8 @@ impl Menus {
             (IsBarShown (titles_of (Some title.hit.menu) self.old.list.menus.items)) windows.old windows.new }
         ensures pulled { IfSome (slice_get self.old.list.menus.items title.at) (λ l.
             let listed = seen ⟦<TakenMenu as Defined>⟧.loan l in
-            (result ≡ pulled_below (desk_of ⟦<TakenWindow as Defined>⟧.loan windows.old []) (record { hit = title.hit; record_of = listed }))
+            (result ≡ pulled_below (desk_of ⟦<TakenWindow as Defined>⟧.loan windows.old [])
+            (record { hit = title.hit; record_of = listed }))
             × IsShown windows.new.font (Some (as_pulled result listed)) windows.new.screen self.new.overlay.front) }
         ensures placed { (is_menu_place result.place ≡ true) × (is_menu_size result.size ≡ true) }
     {
@@ -216,7 +218,8 @@ impl Menus {
         ensures list { self.new.list ≡ self.old.list }
         ensures alloc { self.new.alloc ≡ self.old.alloc }
         ensures front { IfSome (slice_get self.old.list.menus.items at) (λ l. IsShown windows.now.font
-            (Some (as_pulled pulled (seen ⟦<TakenMenu as Defined>⟧.loan l))) windows.now.screen self.new.overlay.front) }
+            (Some (as_pulled pulled (seen ⟦<TakenMenu as Defined>⟧.loan l))) windows.now.screen
+            self.new.overlay.front) }
     {
         self.overlay.show(windows.screen());
         let listed = &self.list.menus[at];
@@ -258,9 +261,11 @@ impl Menus {
         ensures room { vec_capacity self.old.list.menus ≤ vec_capacity self.new.list.menus }
         ensures alloc { self.new.alloc ≡ self.old.alloc }
         ensures front { (base : Bits)
-            → IsShown font.now (pulled_of (Pulling pulled) (menus_of ⟦<TakenMenu as Defined>⟧.loan self.old.list.menus.items))
+            → IsShown font.now (pulled_of (Pulling pulled)
+            (menus_of ⟦<TakenMenu as Defined>⟧.loan self.old.list.menus.items))
             base self.old.overlay.front
-            → IsShown font.now (pulled_of (Pulling pulled) (menus_of ⟦<TakenMenu as Defined>⟧.loan self.new.list.menus.items))
+            → IsShown font.now (pulled_of (Pulling pulled)
+            (menus_of ⟦<TakenMenu as Defined>⟧.loan self.new.list.menus.items))
             base self.new.overlay.front }
     {
         if let Some(at) = self.index_of(pulled.menu) {
@@ -282,9 +287,11 @@ impl Menus {
         ensures alloc { self.new.alloc ≡ self.old.alloc }
         ensures front { (base : Bits)
             → IsShown font.now (option_map (as_pulled pulled)
-            (slice_get (menus_of ⟦<TakenMenu as Defined>⟧.loan self.old.list.menus.items) at)) base self.old.overlay.front
+            (slice_get (menus_of ⟦<TakenMenu as Defined>⟧.loan self.old.list.menus.items) at)) base
+            self.old.overlay.front
             → IsShown font.now (option_map (as_pulled pulled)
-            (slice_get (menus_of ⟦<TakenMenu as Defined>⟧.loan self.new.list.menus.items) at)) base self.new.overlay.front }
+            (slice_get (menus_of ⟦<TakenMenu as Defined>⟧.loan self.new.list.menus.items) at)) base
+            self.new.overlay.front }
     {
         let listed = &mut self.list.menus[at];
         let damage = listed.definition.told(MenuChange::Highlighted(item));
@@ -318,7 +325,8 @@ impl Menus {
         point: Point,
     ) -> Result<MenuReply, Refusal>
         requires kept { IsKept ⟦<TakenWindow as Defined>⟧.loan windows.old }
-        requires menus { AreKeptMenus ⟦<TakenWindow as Defined>⟧.loan ⟦<TakenMenu as Defined>⟧.loan windows.old activity.old self.old }
+        requires menus { AreKeptMenus ⟦<TakenWindow as Defined>⟧.loan ⟦<TakenMenu as Defined>⟧.loan windows.old
+            activity.old self.old }
         requires idle { activity.old ≡ Idle }
         ensures { (begun : PixelSet) → LeavesMenus ⟦<TakenWindow as Defined>⟧.loan ⟦<TakenMenu as Defined>⟧.loan
             (IsMenuStep (asks.Down point) result)
@@ -345,7 +353,8 @@ impl Menus {
         point: Point,
     ) -> Result<MenuReply, Refusal>
         requires kept { IsKept ⟦<TakenWindow as Defined>⟧.loan windows.old }
-        requires menus { AreKeptMenus ⟦<TakenWindow as Defined>⟧.loan ⟦<TakenMenu as Defined>⟧.loan windows.old activity.old self.old }
+        requires menus { AreKeptMenus ⟦<TakenWindow as Defined>⟧.loan ⟦<TakenMenu as Defined>⟧.loan windows.old
+            activity.old self.old }
         requires pulling { activity.old ≡ Pulling pulled }
         ensures { (begun : PixelSet) → LeavesMenus ⟦<TakenWindow as Defined>⟧.loan ⟦<TakenMenu as Defined>⟧.loan
             (IsMenuStep (asks.Move point) result)
@@ -378,7 +387,8 @@ impl Menus {
         point: Point,
     ) -> Result<MenuReply, Refusal>
         requires kept { IsKept ⟦<TakenWindow as Defined>⟧.loan windows.old }
-        requires menus { AreKeptMenus ⟦<TakenWindow as Defined>⟧.loan ⟦<TakenMenu as Defined>⟧.loan windows.old activity.old self.old }
+        requires menus { AreKeptMenus ⟦<TakenWindow as Defined>⟧.loan ⟦<TakenMenu as Defined>⟧.loan windows.old
+            activity.old self.old }
         requires pulling { activity.old ≡ Pulling pulled }
         ensures { (begun : PixelSet) → LeavesMenus ⟦<TakenWindow as Defined>⟧.loan ⟦<TakenMenu as Defined>⟧.loan
             (IsMenuStep (asks.Up point) result)

@@ -26,7 +26,8 @@ pub(crate) fn draw_menu(
     requires live { (⟦<TakenMenu as Defined>⟧.loan taken.now).definition.stage ≡ Stage.Live }
     requires place { is_menu_place place ≡ true }
     ensures { Draws (rect_holds within)
-        (λ p _. (⟦<TakenMenu as Defined>⟧.loan taken.now).definition.picture no_menu_news font.now menu.now (minus p place))
+        (λ p _. (⟦<TakenMenu as Defined>⟧.loan taken.now).definition.picture no_menu_news font.now menu.now
+        (minus p place))
         map.old map.new }
 {
     let cut = Cut {
@@ -89,7 +90,8 @@ pub fn draw_pulled(
     requires place { is_menu_place place ≡ true }
     requires size { is_menu_size size ≡ true }
     ensures { Draws (rect_holds (pulled_rect place size))
-        (λ p _. (⟦<TakenMenu as Defined>⟧.loan taken.now).definition.picture no_menu_news font.now menu.now (minus p place))
+        (λ p _. (⟦<TakenMenu as Defined>⟧.loan taken.now).definition.picture no_menu_news font.now menu.now
+        (minus p place))
         map.old map.new }
 {
     draw_menu(map, pulled_rect(place, size), taken, menu, place, font);

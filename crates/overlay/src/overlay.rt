@@ -81,7 +81,8 @@ impl Overlay {
         requires screen { (self.old.front.width ≤ 1024) × (self.old.front.height ≤ 1024) }
         ensures { (base : Bits) (old : MenuDefinition)
             → IsMenuDamage damage old (⟦<TakenMenu as Defined>⟧.loan taken.now).definition
-            → IsShown font.now (Some (record { definition = old; menu = menu.now; place = place; size = size })) base self.old.front
+            → IsShown font.now (Some (record { definition = old; menu = menu.now; place = place; size = size })) base
+            self.old.front
             → IsShown font.now (Some (record {
               definition = (⟦<TakenMenu as Defined>⟧.loan taken.now).definition;
               menu = menu.now;

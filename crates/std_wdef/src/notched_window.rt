@@ -142,7 +142,8 @@ impl WindowDef for NotchedWindow {
     /// It keeps its size, and shows nothing else: the clause `kept`, over those of the trait.
     fn told(&mut self, change: WindowChange<'_>) -> Rect
         requires live { (notched_meaning self.old).stage ≡ Stage.Live }
-        requires fits { is_fitting (notched_meaning self.old) (size_after change (notched_meaning self.old).size) ≡ true }
+        requires fits { is_fitting (notched_meaning self.old) (size_after change (notched_meaning self.old).size)
+            ≡ true }
         ensures stays { (notched_meaning self.new).stage ≡ Stage.Live }
         ensures size { (notched_meaning self.new).size ≡ size_after change.entry (notched_meaning self.old).size }
         ensures regions { SameRegions (notched_meaning self.old) (notched_meaning self.new) }

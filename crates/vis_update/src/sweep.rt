@@ -58,7 +58,8 @@ pub fn plan_of(
     requires near { All IsNearSeat seats.now }
     requires near_changed { IsNear changed.now }
     requires losing { All (IsLosing touch (holds changed.now) (holds lost.now)) seats.now }
-    ensures plan { IfOk result (λ plan. (look : Look) (before : State) (after : LayeredDesk) (windows : List WindowRecord)
+    ensures plan { IfOk result (λ plan. (look : Look) (before : State) (after : LayeredDesk)
+        (windows : List WindowRecord)
         → IsArranged ⟦<TakenWindow as Defined>⟧.loan look before after windows changed.now seats.now
         → IsDesktop before.desk desktop.now
         → KeepsLayers touch before.desk after
@@ -95,7 +96,8 @@ fn with_copied(
     part: &Repaint,
     by: Option<Point>,
 ) -> Result<Region, AllocError>
-    ensures { IfOk result (λ region. (p : Point) → holds region p ≡ (holds copied p || arrives by area.now part.now p)) }
+    ensures { IfOk result
+        (λ region. (p : Point) → holds region p ≡ (holds copied p || arrives by area.now part.now p)) }
 {
     match (by, area) {
         (Some(_), Some(area)) => copied.joined(alloc, area.visible.diff(alloc, &part.erase)?),
@@ -174,7 +176,8 @@ impl Seat<'_> {
     /// The box of the window's structure on the screen.
     fn boxed(&self) -> Rect
         requires placed { IsPlacedSeat ⟦<TakenWindow as Defined>⟧.loan self.now }
-        ensures holds { (p : Point) → (seat_stand ⟦<TakenWindow as Defined>⟧.loan self.now).structure (minus p self.now.place) ≡ true
+        ensures holds { (p : Point) → (seat_stand ⟦<TakenWindow as Defined>⟧.loan self.now).structure
+            (minus p self.now.place) ≡ true
             → rect_holds result p ≡ true }
         ensures within { IsWithin (seat_stand ⟦<TakenWindow as Defined>⟧.loan self.now).content
             (seat_stand ⟦<TakenWindow as Defined>⟧.loan self.now).structure }
@@ -195,7 +198,8 @@ impl Seat<'_> {
     /// Whether nothing changes of the window.
     fn stays(&self, lost: &Region, rest: &Region, touch: Touch) -> bool
         requires placed { IsPlacedSeat ⟦<TakenWindow as Defined>⟧.loan self.now }
-        ensures { result ≡ true → IsLeftAlone ⟦<TakenWindow as Defined>⟧.loan touch (holds lost.now) (holds rest.now) self.now }
+        ensures { result ≡ true → IsLeftAlone ⟦<TakenWindow as Defined>⟧.loan touch (holds lost.now) (holds rest.now)
+            self.now }
     {
         if self.serial == touch.window {
             return false;
@@ -209,7 +213,8 @@ impl Seat<'_> {
     /// What the window takes of the rest of the changed area, and what it leaves.
     fn take(&self, alloc: Global, rest: Region) -> Result<Share, AllocError>
         requires placed { IsPlacedSeat ⟦<TakenWindow as Defined>⟧.loan self.now }
-        ensures { IfOk result (λ s. IsShare ⟦<TakenWindow as Defined>⟧.loan (holds rest) self.now s.taken s.around (holds s.left)) }
+        ensures { IfOk result (λ s. IsShare ⟦<TakenWindow as Defined>⟧.loan (holds rest) self.now s.taken s.around
+            (holds s.left)) }
     {
         if self.is_beside(&rest) {
             return Ok(Share {
@@ -244,7 +249,8 @@ impl Seat<'_> {
         requires near { IsNearSeat self.now }
         requires near_rest { IsNear rest }
         requires losing { IsLosing touch (holds changed.now) (holds lost.now) self.now }
-        ensures swept { IfOk result (λ s. IsSwept ⟦<TakenWindow as Defined>⟧.loan touch (holds changed.now) (holds rest) self.now
+        ensures swept { IfOk result (λ s. IsSwept ⟦<TakenWindow as Defined>⟧.loan touch (holds changed.now) (holds rest)
+            self.now
             (area_then self.now.area.now s.area) s.part (holds s.left)) }
         ensures still { IfOk result (λ s. s.area ≡ None → way_of touch self.now.serial ≡ None) }
     {

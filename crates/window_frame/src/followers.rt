@@ -18,9 +18,11 @@ use window_mgr::WindowManager;
 /// that asks none is told anything. Takes no memory.
 pub fn follow(windows: &mut WindowManager, outcome: Outcome)
     requires { IsKept ⟦<TakenWindow as Defined>⟧.loan windows.old }
-    ensures told { LeavesState ⟦<TakenWindow as Defined>⟧.loan (IsCaughtUpBy (standing_after outcome)) windows.old windows.new }
+    ensures told { LeavesState ⟦<TakenWindow as Defined>⟧.loan (IsCaughtUpBy (standing_after outcome)) windows.old
+        windows.new }
     ensures repainted { Repaints ⟦<TakenWindow as Defined>⟧.loan
-        (is_behind (map (record_of ⟦<TakenWindow as Defined>⟧.loan) windows.old.windows.records.items)) windows.old windows.new }
+        (is_behind (map (record_of ⟦<TakenWindow as Defined>⟧.loan) windows.old.windows.records.items)) windows.old
+        windows.new }
 {
     match outcome {
         Outcome::Asked => {}
@@ -33,7 +35,8 @@ fn inform_all(windows: &mut WindowManager)
     requires { IsKept ⟦<TakenWindow as Defined>⟧.loan windows.old }
     ensures told { LeavesState ⟦<TakenWindow as Defined>⟧.loan IsCaughtUp windows.old windows.new }
     ensures repainted { Repaints ⟦<TakenWindow as Defined>⟧.loan
-        (is_behind (map (record_of ⟦<TakenWindow as Defined>⟧.loan) windows.old.windows.records.items)) windows.old windows.new }
+        (is_behind (map (record_of ⟦<TakenWindow as Defined>⟧.loan) windows.old.windows.records.items)) windows.old
+        windows.new }
 {
     let count = windows.list().len();
     for at in 0..count {
@@ -49,7 +52,8 @@ fn notify_highlighting(windows: &mut WindowManager, at: usize)
     ensures told { (w : _) → IsWindowAt windows.old.windows.records.items at w
         → LeavesState ⟦<TakenWindow as Defined>⟧.loan (IsInformed Highlighting w.serial) windows.old windows.new }
     ensures repainted { (w : _) → IsWindowAt windows.old.windows.records.items at w
-        → Repaints ⟦<TakenWindow as Defined>⟧.loan (draws_told Highlighting (record_of ⟦<TakenWindow as Defined>⟧.loan w)) windows.old windows.new }
+        → Repaints ⟦<TakenWindow as Defined>⟧.loan (draws_told Highlighting
+        (record_of ⟦<TakenWindow as Defined>⟧.loan w)) windows.old windows.new }
 {
     let window = windows.list().at(at);
     let highlighted = window.highlighted;
@@ -65,7 +69,8 @@ fn notify_zooming(windows: &mut WindowManager, at: usize)
     ensures told { (w : _) → IsWindowAt windows.old.windows.records.items at w
         → LeavesState ⟦<TakenWindow as Defined>⟧.loan (IsInformed Zooming w.serial) windows.old windows.new }
     ensures repainted { (w : _) → IsWindowAt windows.old.windows.records.items at w
-        → Repaints ⟦<TakenWindow as Defined>⟧.loan (draws_told Zooming (record_of ⟦<TakenWindow as Defined>⟧.loan w)) windows.old windows.new }
+        → Repaints ⟦<TakenWindow as Defined>⟧.loan (draws_told Zooming (record_of ⟦<TakenWindow as Defined>⟧.loan w))
+        windows.old windows.new }
 {
     let window = windows.list().at(at);
     let is_zoomed = window.user_state.is_some();

@@ -28,7 +28,8 @@ pub fn perform(
     ensures width { windows.new.screen.width ≡ windows.old.screen.width }
     ensures height { windows.new.screen.height ≡ windows.old.screen.height }
     ensures step { (begun : PixelSet) → IsFrameStepOverAnySlots ⟦<TakenWindow as Defined>⟧.loan call.now result
-        windows.old (record { activity = activity.old; begun = begun }) windows.new (record { activity = activity.new; begun = begun }) }
+        windows.old (record { activity = activity.old; begun = begun }) windows.new
+        (record { activity = activity.new; begun = begun }) }
 {
     match (call, *activity) {
         (FrameCall::SetTitle(new), _) => set_title(windows, new),

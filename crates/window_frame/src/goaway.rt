@@ -24,8 +24,10 @@ pub(crate) fn track_go_away(
     requires kept { IsKept ⟦<TakenWindow as Defined>⟧.loan windows.old }
     ensures width { windows.new.screen.width ≡ windows.old.screen.width }
     ensures height { windows.new.screen.height ≡ windows.old.screen.height }
-    ensures step { (begun : PixelSet) → IsFrameStepOverAnySlots ⟦<TakenWindow as Defined>⟧.loan (asks.TrackGoAway pressed) result
-        windows.old (record { activity = activity.old; begun = begun }) windows.new (record { activity = activity.new; begun = begun }) }
+    ensures step { (begun : PixelSet) → IsFrameStepOverAnySlots ⟦<TakenWindow as Defined>⟧.loan
+        (asks.TrackGoAway pressed) result
+        windows.old (record { activity = activity.old; begun = begun }) windows.new
+        (record { activity = activity.new; begun = begun }) }
 {
     let Some(at) = windows.find(pressed.window) else {
         return Err(Refusal::NoSuchWindow);
@@ -50,8 +52,10 @@ pub(crate) fn step_go_away(
     requires kept { IsKept ⟦<TakenWindow as Defined>⟧.loan windows.old }
     ensures width { windows.new.screen.width ≡ windows.old.screen.width }
     ensures height { windows.new.screen.height ≡ windows.old.screen.height }
-    ensures step { (begun : PixelSet) → IsFrameStepOverAnySlots ⟦<TakenWindow as Defined>⟧.loan (asks.StepGoAway point) result
-        windows.old (record { activity = Tracking window; begun = begun }) windows.new (record { activity = Tracking window; begun = begun }) }
+    ensures step { (begun : PixelSet) → IsFrameStepOverAnySlots ⟦<TakenWindow as Defined>⟧.loan (asks.StepGoAway point)
+        result
+        windows.old (record { activity = Tracking window; begun = begun }) windows.new
+        (record { activity = Tracking window; begun = begun }) }
 {
     let inside = is_inside(windows, window, point)?;
     notify_tracked(windows, window, inside);
@@ -69,8 +73,10 @@ pub(crate) fn end_go_away(
     requires tracked { activity.old ≡ Tracking window }
     ensures width { windows.new.screen.width ≡ windows.old.screen.width }
     ensures height { windows.new.screen.height ≡ windows.old.screen.height }
-    ensures step { (begun : PixelSet) → IsFrameStepOverAnySlots ⟦<TakenWindow as Defined>⟧.loan (asks.EndGoAway point) result
-        windows.old (record { activity = activity.old; begun = begun }) windows.new (record { activity = activity.new; begun = begun }) }
+    ensures step { (begun : PixelSet) → IsFrameStepOverAnySlots ⟦<TakenWindow as Defined>⟧.loan (asks.EndGoAway point)
+        result
+        windows.old (record { activity = activity.old; begun = begun }) windows.new
+        (record { activity = activity.new; begun = begun }) }
 {
     let inside = is_inside(windows, window, point)?;
     notify_tracked(windows, window, false);
@@ -82,7 +88,8 @@ pub(crate) fn end_go_away(
 fn is_inside(windows: &WindowManager, window: u64, point: Point) -> Result<bool, Refusal>
     requires { IsKept ⟦<TakenWindow as Defined>⟧.loan windows.now }
     ensures { MatchResult result
-        (λ inside. (in_plane point ≡ true) × (inside ≡ in_go_away window (desk_of ⟦<TakenWindow as Defined>⟧.loan windows.now []) point))
+        (λ inside. (in_plane point ≡ true) × (inside ≡ in_go_away window
+        (desk_of ⟦<TakenWindow as Defined>⟧.loan windows.now []) point))
         (λ e. (in_plane point ≡ false) × (e ≡ Refusal.OutOfRange)) }
 {
     let found = windows.find_window(point)?;

@@ -166,7 +166,8 @@ impl Layers {
         shape: LayerShape,
     ) -> Result<Relaid, AllocError>
         requires at { at < length self.now.layers }
-        requires lies { (l : Layer) → l ≡ slice_index_or self.now.layers at l → IsLayerAt self.now.place (with_shape shape l) }
+        requires lies { (l : Layer) → l ≡ slice_index_or self.now.layers at l
+            → IsLayerAt self.now.place (with_shape shape l) }
         requires apart { ArePartsApart self.now.layers }
         ensures layers { IfOk result (λ r. r.layers ≡ record self.now { layers = reshaped shape at self.now.layers }) }
         ensures gained { IfOk result (λ r. (l : Layer) → l ≡ slice_index_or self.now.layers at l → (p : Point)

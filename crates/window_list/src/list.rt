@@ -1,5 +1,6 @@
 //! The windows of a desk, which of them is active, and the serial of the next.
-ghost use Rattle.std.specs.Prelude.{◌≡◌, true, ◌<◌, ◌≤◌, nat_lt, ◌==◌, [], ◌∷◌, length, map, if◌then◌else◌, position, slice_index_or, slice_get, Some, None, OnOk, OnErr, IfErr, IfNone, IfSome};
+ghost use Rattle.std.specs.Prelude.{◌≡◌, true, ◌<◌, ◌≤◌, nat_lt, ◌==◌, [], ◌∷◌, length, map, if◌then◌else◌, position};
+ghost use Rattle.std.specs.Prelude.{slice_index_or, slice_get, Some, None, OnOk, OnErr, IfErr, IfNone, IfSome};
 ghost use Rattle.std.specs.List.{remove, list_all, prefix_len};
 ghost use Rattle.std.specs.Option.{option_map};
 ghost use Rattle.tb_geom.specs.Rects.{in_plane};
@@ -7,7 +8,9 @@ ghost use Rattle.def_iface.specs.WindowMeaning.{is_fitting};
 ghost use Rattle.window_list.specs.Holders.{fits_at};
 ghost use Rattle.window_list.specs.Classes.{front_place, back_place};
 ghost use Rattle.window_list.specs.Ranks.{moved_item};
-ghost use Rattle.window_list.specs.Lists.{has_serial, floats, leads, first_leading, with_new, dimmed, relit, serial_after, map_ranked, edit_at, IsLastBox, with_stand, with_picture, with_layers, with_origin, with_operation, IsPlacedAt};
+ghost use Rattle.window_list.specs.Lists.{has_serial, floats, leads, first_leading, with_new, dimmed, relit};
+ghost use Rattle.window_list.specs.Lists.{serial_after, map_ranked, edit_at, IsLastBox, with_stand, with_picture};
+ghost use Rattle.window_list.specs.Lists.{with_layers, with_origin, with_operation, IsPlacedAt};
 ghost use Rattle.window_list.specs.Changes.{keeps_size, has_short_title, IsNotifiedAt};
 
 use crate::{Layers, Placement, Ranks, UserState, Window};
@@ -205,8 +208,10 @@ impl WindowList {
     pub fn set_stand(&mut self, at: usize, place: Point, shown: bool, user_state: Option<UserState>)
         requires within { at < length self.old.records.items }
         requires placed { in_plane place ≡ true }
-        requires fit { IfSome (slice_get self.old.records.items at) (λ w. list_all (fits_at place) w.layers.layers ≡ true) }
-        ensures { self.new ≡ record self.old { records = edit_at (with_stand place shown user_state) at self.old.records } }
+        requires fit { IfSome (slice_get self.old.records.items at)
+            (λ w. list_all (fits_at place) w.layers.layers ≡ true) }
+        ensures { self.new ≡ record self.old { records =
+            edit_at (with_stand place shown user_state) at self.old.records } }
     {
         let window = self.records.at_mut(at);
         window.layers.go_to(place);
@@ -272,7 +277,8 @@ impl WindowList {
     /// it leaves the list as it was.
     pub fn push_operation(&mut self, at: usize, operation: Op) -> Result<(), Refusal>
         requires { at < length self.old.records.items }
-        ensures added { OnOk result (self.new ≡ record self.old { records = edit_at (with_operation operation) at self.old.records }) }
+        ensures added { OnOk result
+            (self.new ≡ record self.old { records = edit_at (with_operation operation) at self.old.records }) }
         ensures kept { OnErr result (self.new ≡ self.old) }
         ensures refused { IfErr result (λ e. IfSome (slice_get self.old.records.items at) (λ w.
             e ≡ (if nat_lt (length w.picture) 1024 then Refusal.NoMemory else Refusal.TooMany))) }

@@ -4,7 +4,9 @@ ghost use Rattle.vis_update.specs.Records.{record_of};
 ghost use Rattle.window_list.specs.Ranks.{moved_item};
 ghost use Rattle.window_mgr.specs.AnySlots.{IsRearrangedOverAnySlots};
 ghost use Rattle.window_mgr.specs.Arrange.{activation_of, active_after, if_active};
-ghost use Rattle.window_mgr.specs.Edits.{IsWindowAt, relit_all, IsPutAnew, StandsAt, IsPlaceable, SameSize, IsOnItsWay, AreSeatsAfter, AreSettledAfter, IsActivation, IsPlanOfEdit, IsCommitted, stays_put};
+ghost use Rattle.window_mgr.specs.Edits.{IsWindowAt, relit_all, IsPutAnew, StandsAt, IsPlaceable, SameSize, IsOnItsWay};
+ghost use Rattle.window_mgr.specs.Edits.{AreSeatsAfter, AreSettledAfter, IsActivation, IsPlanOfEdit, IsCommitted};
+ghost use Rattle.window_mgr.specs.Edits.{stays_put};
 ghost use Rattle.window_mgr.specs.Finding.{record_with};
 ghost use Rattle.window_mgr.specs.Kept.{IsKept};
 ghost use Rattle.window_mgr.specs.Seats.{AreSeatsOf, first_seated};
@@ -134,7 +136,8 @@ impl WindowManager {
         requires placed { IsPlaceable ⟦<TakenWindow as Defined>⟧.loan edit self.old.windows.records.items }
         requires size { SameSize edit self.old.windows.records.items }
         requires way { IsOnItsWay edit.at edit.place by self.old.windows.records.items }
-        ensures step { IsRearrangedOverAnySlots ⟦<TakenWindow as Defined>⟧.loan edit activates by result self.old self.new }
+        ensures step { IsRearrangedOverAnySlots ⟦<TakenWindow as Defined>⟧.loan edit activates by result self.old
+            self.new }
         ensures sparing { (w : _) → IsWindowAt self.old.windows.records.items edit.at w
             → Spares ⟦<TakenWindow as Defined>⟧.loan w.serial by self.old self.new }
     {
@@ -164,7 +167,8 @@ impl WindowManager {
         requires placed { IsPlaceable ⟦<TakenWindow as Defined>⟧.loan edit self.now.windows.records.items }
         requires way { IsOnItsWay edit.at edit.place by self.now.windows.records.items }
         ensures plan { IfOk result (λ r. IsPlanOfEdit ⟦<TakenWindow as Defined>⟧.loan edit by whole self.now r.plan) }
-        ensures activation { IfOk result (λ r. IsActivation ⟦<TakenWindow as Defined>⟧.loan edit activates self.now r.activation) }
+        ensures activation { IfOk result (λ r. IsActivation ⟦<TakenWindow as Defined>⟧.loan edit activates self.now
+            r.activation) }
         ensures length { IfOk result (λ r. vec_len r.plan.parts ≡ length self.now.windows.records.items) }
     {
         let seats = self.seats_after(edit)?;
@@ -184,7 +188,8 @@ impl WindowManager {
         requires areas { length self.now.areas.items ≡ length self.now.windows.records.items }
         requires at { edit.at < length self.now.windows.records.items }
         requires to { edit.to < length self.now.windows.records.items }
-        ensures { IfOk result (λ seats. AreSeatsAfter edit self.now.windows.records.items self.now.areas.items seats.items) }
+        ensures { IfOk result (λ seats. AreSeatsAfter edit self.now.windows.records.items self.now.areas.items
+            seats.items) }
     {
         let mut seats = self.seats()?;
         let mut seat = seats.remove(edit.at);
@@ -198,7 +203,8 @@ impl WindowManager {
     /// The windows as they are, with room for one more.
     pub(crate) fn seats(&self) -> Result<Vec<Seat<'_>>, AllocError>
         requires { length self.now.areas.items ≡ length self.now.windows.records.items }
-        ensures seats { IfOk result (λ seats. AreSeatsOf self.now.windows.records.items self.now.areas.items seats.items) }
+        ensures seats { IfOk result (λ seats. AreSeatsOf self.now.windows.records.items self.now.areas.items
+            seats.items) }
         ensures length { IfOk result (λ seats. vec_len seats ≡ length self.now.windows.records.items) }
         ensures room { IfOk result (λ seats. vec_len seats < vec_capacity seats) }
     {

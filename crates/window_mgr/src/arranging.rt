@@ -44,7 +44,8 @@ impl WindowManager {
     #[tactic(auto, using(crate::proofs::Sparing::spares_same))]
     pub(crate) fn send_behind(&mut self, sent: SendBehind) -> Result<WindowReply, Refusal>
         requires { IsKept ⟦<TakenWindow as Defined>⟧.loan self.old }
-        ensures step { IsStepOverAnySlots ⟦<TakenWindow as Defined>⟧.loan (asks.SendBehind sent) result self.old self.new }
+        ensures step { IsStepOverAnySlots ⟦<TakenWindow as Defined>⟧.loan (asks.SendBehind sent) result self.old
+            self.new }
         ensures sparing { Spares ⟦<TakenWindow as Defined>⟧.loan sent.window None self.old self.new }
     {
         let Some(at) = self.find(sent.window) else {
@@ -142,7 +143,8 @@ fn if_so(holds: bool, activates: Activates) -> Activates
 
 /// What becomes active where a window becomes visible or hidden, or stays so.
 fn when_shown(was: bool, is: bool) -> Activates
-    ensures { result ≡ (if is then (if was then Nothing else ItselfIfFront) else (if was then FrontInItsPlace else Nothing)) }
+    ensures { result ≡ (if is then (if was then Nothing else ItselfIfFront)
+        else (if was then FrontInItsPlace else Nothing)) }
 {
     match (was, is) {
         (false, true) => Activates::ItselfIfFront,

@@ -14,7 +14,8 @@ impl WindowManager {
     /// slot, while every other slot stays as it was. Takes no memory, and refuses nothing.
     pub fn close(self, stock: &mut WindowStock)
         requires { IsWholeManager ⟦<TakenWindow as Defined>⟧.loan self (⟦<WindowStock as Stocked>⟧.slots stock.old) }
-        ensures { IsClosed (desk_of ⟦<TakenWindow as Defined>⟧.loan self (⟦<WindowStock as Stocked>⟧.slots stock.old)).windows
+        ensures { IsClosed (desk_of ⟦<TakenWindow as Defined>⟧.loan self
+            (⟦<WindowStock as Stocked>⟧.slots stock.old)).windows
             (⟦<WindowStock as Stocked>⟧.slots stock.old) (⟦<WindowStock as Stocked>⟧.slots stock.new) }
     {
         let WindowManager { windows, .. } = self;

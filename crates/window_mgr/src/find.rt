@@ -76,7 +76,8 @@ fn found(window: &Window, point: Point) -> Found
     requires settled { IsSettled (record_of ⟦<TakenWindow as Defined>⟧.loan window.now) }
     requires in_plane { in_plane point ≡ true }
     ensures { result ≡ record {
-      part = part_of_hit ((⟦<TakenWindow as Defined>⟧.loan window.now.taken).definition.hit no_news (minus point window.now.place));
+      part = part_of_hit ((⟦<TakenWindow as Defined>⟧.loan window.now.taken).definition.hit no_news
+          (minus point window.now.place));
       window = Some window.now.serial;
     } }
 {

@@ -22,7 +22,9 @@ impl WindowManager {
         requires size { keeps_size change ≡ true }
         requires title { has_short_title change ≡ true }
         ensures told { (w : _) → IsWindowAt self.old.windows.records.items at w
-            → LeavesState ⟦<TakenWindow as Defined>⟧.loan (IsFrameNotified w.serial (λ _. told_change change.entry) (notified_record change.entry)) self.old self.new }
+            → LeavesState ⟦<TakenWindow as Defined>⟧.loan
+            (IsFrameNotified w.serial (λ _. told_change change.entry) (notified_record change.entry)) self.old
+            self.new }
         ensures repainted { (w : _) → IsWindowAt self.old.windows.records.items at w
             → Repaints ⟦<TakenWindow as Defined>⟧.loan (λ n. n == w.serial) self.old self.new }
     {

@@ -1,5 +1,6 @@
 //! The call that makes a window.
-ghost use Rattle.std.specs.Prelude.{◌≡◌, ◌+◌, ◌++◌, ◌∷◌, [], true, map, if◌then◌else◌, Some, None, All, IfOk, IfErr, MatchResult, length, vec_len};
+ghost use Rattle.std.specs.Prelude.{◌≡◌, ◌+◌, ◌++◌, ◌∷◌, [], true, map, if◌then◌else◌, Some, None, All, IfOk, IfErr};
+ghost use Rattle.std.specs.Prelude.{MatchResult, length, vec_len};
 ghost use Rattle.tb_geom.specs.Rects.{in_plane};
 ghost use Rattle.def_iface.specs.WindowMeaning.{is_fitting};
 ghost use Rattle.desk_call.specs.declared.window.WindowCall.TheVariants.{New, NewFloating};
@@ -51,8 +52,10 @@ impl WindowManager {
         floating: bool,
         stock: &mut WindowStock,
     ) -> Result<WindowReply, Refusal>
-        requires { IsWholeManager ⟦<TakenWindow as Defined>⟧.loan self.old (⟦<WindowStock as Stocked>⟧.slots stock.old) }
-        ensures whole { IsWholeManager ⟦<TakenWindow as Defined>⟧.loan self.new (⟦<WindowStock as Stocked>⟧.slots stock.new) }
+        requires { IsWholeManager ⟦<TakenWindow as Defined>⟧.loan self.old
+            (⟦<WindowStock as Stocked>⟧.slots stock.old) }
+        ensures whole { IsWholeManager ⟦<TakenWindow as Defined>⟧.loan self.new
+            (⟦<WindowStock as Stocked>⟧.slots stock.new) }
         ensures step { IsWindowStep (if floating then NewFloating window.now else New window.now) result
             (state_of ⟦<TakenWindow as Defined>⟧.loan self.old (⟦<WindowStock as Stocked>⟧.slots stock.old))
             (state_of ⟦<TakenWindow as Defined>⟧.loan self.new (⟦<WindowStock as Stocked>⟧.slots stock.new)) }
@@ -195,11 +198,13 @@ impl WindowManager {
         requires fits { is_fitting (⟦<TakenWindow as Defined>⟧.loan taken).definition window.now.size ≡ true }
         requires may_stand { is_placed (Some (⟦<TakenWindow as Defined>⟧.loan taken).definition)
             window.now.place window.now.size ≡ true }
-        requires settled { All IsSettled (map (record_of ⟦<TakenWindow as Defined>⟧.loan) self.old.windows.records.items) }
+        requires settled { All IsSettled (map (record_of ⟦<TakenWindow as Defined>⟧.loan)
+            self.old.windows.records.items) }
         requires areas { length self.old.areas.items ≡ length self.old.windows.records.items }
         requires planned { IsPlanned ⟦<TakenWindow as Defined>⟧.loan floating window.now
             (⟦<TakenWindow as Defined>⟧.loan taken).definition self.old addition }
-        ensures { IsAdded ⟦<TakenWindow as Defined>⟧.loan floating window.now addition.ticket.serial (⟦<TakenWindow as Defined>⟧.loan taken)
+        ensures { IsAdded ⟦<TakenWindow as Defined>⟧.loan floating window.now addition.ticket.serial
+            (⟦<TakenWindow as Defined>⟧.loan taken)
             addition.touch addition.plan self.old self.new }
     {
         let Addition {

@@ -21,8 +21,10 @@ impl WindowManager {
         call: &WindowCall<'_>,
         stock: &mut WindowStock,
     ) -> Result<WindowReply, Refusal>
-        requires { IsWholeManager ⟦<TakenWindow as Defined>⟧.loan self.old (⟦<WindowStock as Stocked>⟧.slots stock.old) }
-        ensures whole { IsWholeManager ⟦<TakenWindow as Defined>⟧.loan self.new (⟦<WindowStock as Stocked>⟧.slots stock.new) }
+        requires { IsWholeManager ⟦<TakenWindow as Defined>⟧.loan self.old
+            (⟦<WindowStock as Stocked>⟧.slots stock.old) }
+        ensures whole { IsWholeManager ⟦<TakenWindow as Defined>⟧.loan self.new
+            (⟦<WindowStock as Stocked>⟧.slots stock.new) }
         ensures step { IsWindowStep call.now result
             (state_of ⟦<TakenWindow as Defined>⟧.loan self.old (⟦<WindowStock as Stocked>⟧.slots stock.old))
             (state_of ⟦<TakenWindow as Defined>⟧.loan self.new (⟦<WindowStock as Stocked>⟧.slots stock.new)) }

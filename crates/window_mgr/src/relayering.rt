@@ -10,7 +10,8 @@ ghost use Rattle.window_mgr.specs.Edits.{IsWindowAt};
 ghost use Rattle.window_mgr.specs.Kept.{IsKept};
 ghost use Rattle.window_mgr.specs.Records.{state_of, state_showing};
 ghost use Rattle.window_mgr.specs.Whole.{IsWholeManager};
-ghost use Rattle.window_mgr.specs.Relayered.{IsPartAt, MayHaveLayers, IsGainedAt, IsPlanOfLayers, AreLayersSet, AreLayersPut, HasUpdate, IsLayerDrawnWithin, IsLayerToggled};
+ghost use Rattle.window_mgr.specs.Relayered.{IsPartAt, MayHaveLayers, IsGainedAt, IsPlanOfLayers, AreLayersSet};
+ghost use Rattle.window_mgr.specs.Relayered.{AreLayersPut, HasUpdate, IsLayerDrawnWithin, IsLayerToggled};
 
 use crate::WindowManager;
 use bit_blit::fill;
@@ -65,7 +66,8 @@ impl WindowManager {
             → (was : List ℕ → Part → PixelSet) (slots : List SlotView)
             → IsWholeManager ⟦<TakenWindow as Defined>⟧.loan self.old slots
             → IsWholeManager ⟦<TakenWindow as Defined>⟧.loan self.new slots
-            × IsLayerDrawnWithin within w.serial l (state_showing was (state_of ⟦<TakenWindow as Defined>⟧.loan self.old slots))
+            × IsLayerDrawnWithin within w.serial l
+            (state_showing was (state_of ⟦<TakenWindow as Defined>⟧.loan self.old slots))
             (state_showing (S.shows showing.now) (state_of ⟦<TakenWindow as Defined>⟧.loan self.new slots)) }
     {
         let area = &self.areas[at];
@@ -131,7 +133,8 @@ impl WindowManager {
             → (was : List ℕ → Part → PixelSet) (slots : List SlotView)
             → IsWholeManager ⟦<TakenWindow as Defined>⟧.loan self.old slots
             → IsWholeManager ⟦<TakenWindow as Defined>⟧.loan self.new slots
-            × AreLayersSet w.serial layers.layers part (state_showing was (state_of ⟦<TakenWindow as Defined>⟧.loan self.old slots))
+            × AreLayersSet w.serial layers.layers part
+            (state_showing was (state_of ⟦<TakenWindow as Defined>⟧.loan self.old slots))
             (state_showing (S.shows showing.now) (state_of ⟦<TakenWindow as Defined>⟧.loan self.new slots)) }
     {
         self.windows.set_layers(at, layers);

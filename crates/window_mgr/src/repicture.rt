@@ -14,7 +14,8 @@ impl WindowManager {
     /// Gives a window another picture, all of which is to be redrawn where it shows.
     pub(crate) fn set_picture(&mut self, new: &NewPicture<'_>) -> Result<WindowReply, Refusal>
         requires { IsKept ⟦<TakenWindow as Defined>⟧.loan self.old }
-        ensures { IsStepOverAnySlots ⟦<TakenWindow as Defined>⟧.loan (asks.SetPicture new.now) result self.old self.new }
+        ensures { IsStepOverAnySlots ⟦<TakenWindow as Defined>⟧.loan (asks.SetPicture new.now) result self.old
+            self.new }
     {
         let Some(at) = self.find(new.window) else {
             return Err(Refusal::NoSuchWindow);

@@ -72,7 +72,8 @@ impl WindowManager {
     /// says.
     fn commit_placement(&mut self, at: usize, placement: Placement, plan: Plan, by: Option<Point>)
         requires at { at < length self.old.windows.records.items }
-        requires settled { All IsSettled (map (record_of ⟦<TakenWindow as Defined>⟧.loan) self.old.windows.records.items) }
+        requires settled { All IsSettled (map (record_of ⟦<TakenWindow as Defined>⟧.loan)
+            self.old.windows.records.items) }
         requires placeable { IsPlaceableAt ⟦<TakenWindow as Defined>⟧.loan at placement self.old.windows.records.items }
         requires parts { vec_len plan.parts ≡ length self.old.windows.records.items }
         ensures { IsPlacementCommitted ⟦<TakenWindow as Defined>⟧.loan at placement plan by self.old self.new }

@@ -55,7 +55,8 @@ fn area_bytes(
     origin: Point,
 ) -> Result<Vec<u8>, Refusal>
     requires origin { in_plane origin ≡ true }
-    requires there { (p : Point) → holds (kept_region told area.old) (plus p origin) ≡ true → is_pixel_in_range p ≡ true }
+    requires there { (p : Point) → holds (kept_region told area.old) (plus p origin) ≡ true
+        → is_pixel_in_range p ≡ true }
     requires here { (p : Point) → holds (kept_region told area.old) p ≡ true → is_pixel_in_range p ≡ true }
     ensures same { area.new ≡ area.old }
     ensures bytes { MatchResult result

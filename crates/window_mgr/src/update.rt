@@ -69,7 +69,8 @@ impl WindowManager {
             → (w : _) → IsWindowAt self.old.windows.records.items at w
             → (p : Point) → holds rest p ≡ (holds a.update p && not (is_kind_there kind w p)) }
         ensures { (w : _) → IsWindowAt self.old.windows.records.items at w
-            → LeavesShowing ⟦<TakenWindow as Defined>⟧.loan (S.shows layers.now) (IsRefreshed (is_of_kind kind w.serial)) self.old self.new }
+            → LeavesShowing ⟦<TakenWindow as Defined>⟧.loan (S.shows layers.now)
+            (IsRefreshed (is_of_kind kind w.serial)) self.old self.new }
     {
         paint_kind(
             &mut self.screen,
@@ -88,7 +89,8 @@ impl WindowManager {
         requires at { at < length self.old.windows.records.items }
         requires whole { S.is_whole layers.now }
         ensures { (w : _) → IsWindowAt self.old.windows.records.items at w
-            → LeavesShowing ⟦<TakenWindow as Defined>⟧.loan (S.shows layers.now) (IsRefreshed (is_content_of w.serial)) self.old self.new }
+            → LeavesShowing ⟦<TakenWindow as Defined>⟧.loan (S.shows layers.now) (IsRefreshed (is_content_of w.serial))
+            self.old self.new }
     {
         let stale = &self.areas[at].update;
         paint_content(

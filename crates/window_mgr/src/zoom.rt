@@ -40,7 +40,8 @@ impl WindowManager {
     /// How a window lies once it is zoomed, or None where it is zoomed so already.
     fn zoom_target(&self, direction: Zoom, window: &Window) -> Option<Placement>
         requires { IsKept ⟦<TakenWindow as Defined>⟧.loan self.now }
-        ensures { result ≡ zoom_target direction window.now.user_state (desk_of ⟦<TakenWindow as Defined>⟧.loan self.now [])
+        ensures { result ≡ zoom_target direction window.now.user_state
+            (desk_of ⟦<TakenWindow as Defined>⟧.loan self.now [])
             (record_of ⟦<TakenWindow as Defined>⟧.loan window.now) }
     {
         match (direction, window.user_state) {

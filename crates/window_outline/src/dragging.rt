@@ -54,7 +54,8 @@ pub(crate) fn begin_drag(
 ) -> Result<Outlining, Refusal>
     requires kept { IsKept ⟦<TakenWindow as Defined>⟧.loan windows.now }
     requires outline { IsOutlineKept activity }
-    ensures step { IsOutlining (asks.Drag pressed) activity result (desk_of ⟦<TakenWindow as Defined>⟧.loan windows.now []) }
+    ensures step { IsOutlining (asks.Drag pressed) activity result
+        (desk_of ⟦<TakenWindow as Defined>⟧.loan windows.now []) }
     ensures outline { IfOk result (λ o. IsOutlineKept o.activity) }
 {
     let Some(_) = window_of(windows, pressed.window) else {
@@ -109,7 +110,8 @@ pub(crate) fn end_drag(
     activity: Activity,
     point: Point,
 ) -> Result<Outlining, Refusal>
-    ensures step { IsOutlining (asks.EndDrag point) activity result (desk_of ⟦<TakenWindow as Defined>⟧.loan windows.now []) }
+    ensures step { IsOutlining (asks.EndDrag point) activity result
+        (desk_of ⟦<TakenWindow as Defined>⟧.loan windows.now []) }
     ensures outline { IfOk result (λ o. IsOutlineKept o.activity) }
 {
     if !point.is_in_range() {
@@ -126,7 +128,8 @@ pub(crate) fn end_drag(
 fn is_pressed(windows: &WindowManager, pressed: DragWindow) -> Result<bool, Refusal>
     requires { IsKept ⟦<TakenWindow as Defined>⟧.loan windows.now }
     ensures { MatchResult result
-        (λ is. (in_plane pressed.point ≡ true) × (is ≡ begins (asks.Drag pressed) (desk_of ⟦<TakenWindow as Defined>⟧.loan windows.now [])))
+        (λ is. (in_plane pressed.point ≡ true) × (is ≡ begins (asks.Drag pressed)
+        (desk_of ⟦<TakenWindow as Defined>⟧.loan windows.now [])))
         (λ e. (in_plane pressed.point ≡ false) × (e ≡ Refusal.OutOfRange)) }
 {
     let found = windows.find_window(pressed.point)?;

@@ -30,7 +30,8 @@ pub(crate) fn begin_grow(
 ) -> Result<Outlining, Refusal>
     requires kept { IsKept ⟦<TakenWindow as Defined>⟧.loan windows.now }
     requires outline { IsOutlineKept activity }
-    ensures step { IsOutlining (asks.Grow pressed) activity result (desk_of ⟦<TakenWindow as Defined>⟧.loan windows.now []) }
+    ensures step { IsOutlining (asks.Grow pressed) activity result
+        (desk_of ⟦<TakenWindow as Defined>⟧.loan windows.now []) }
     ensures outline { IfOk result (λ o. IsOutlineKept o.activity) }
 {
     let Some(_) = window_of(windows, pressed.window) else {

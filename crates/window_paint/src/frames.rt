@@ -22,11 +22,14 @@ use window_list::Window;
 /// Draws a window's frame on the pixels of a region of the screen that lie within a rectangle of the window. The region lies
 /// in the window's structure.
 pub fn paint_frame(map: &mut BitMap, region: &Region, window: &Window, within: Rect, font: &Font)
-    requires placed { IsPlaced window.now.place window.now.size (⟦<TakenWindow as Defined>⟧.loan window.now.taken).definition }
+    requires placed { IsPlaced window.now.place window.now.size
+        (⟦<TakenWindow as Defined>⟧.loan window.now.taken).definition }
     requires inside { (p : Point) → holds region.now p ≡ true
-        → (⟦<TakenWindow as Defined>⟧.loan window.now.taken).definition.structure window.now.size (minus p window.now.place) ≡ true }
+        → (⟦<TakenWindow as Defined>⟧.loan window.now.taken).definition.structure window.now.size
+        (minus p window.now.place) ≡ true }
     ensures drawn { Draws (λ p. holds region.now p && rect_holds within (minus p window.now.place))
-        (λ p _. (⟦<TakenWindow as Defined>⟧.loan window.now.taken).definition.picture no_news font.now (minus p window.now.place))
+        (λ p _. (⟦<TakenWindow as Defined>⟧.loan window.now.taken).definition.picture no_news font.now
+        (minus p window.now.place))
         map.old map.new }
     ensures written { IsWritten (holds region.now) map.old map.new }
     ensures near { (p : Point) → holds region.now p ≡ true → in_plane (minus p window.now.place) ≡ true }
@@ -42,7 +45,8 @@ pub fn paint_part(map: &mut BitMap, new: &Region, frame: &Region, window: &Windo
     requires live { (⟦<TakenWindow as Defined>⟧.loan window.now.taken).definition.stage ≡ Stage.Live }
     requires told { is_fitting (⟦<TakenWindow as Defined>⟧.loan window.now.taken).definition
         (⟦<TakenWindow as Defined>⟧.loan window.now.taken).definition.size ≡ true }
-    ensures painted { IsPainted font.now (⟦<TakenWindow as Defined>⟧.loan window.now.taken).definition window.now.place new.now frame.now
+    ensures painted { IsPainted font.now (⟦<TakenWindow as Defined>⟧.loan window.now.taken).definition window.now.place
+        new.now frame.now
         map.old map.new }
     ensures written { IsWrittenBy (λ p. one (holds new.now p)) (holds frame.now) map.old map.new }
 {
@@ -69,7 +73,8 @@ fn draw_clipped(map: &mut BitMap, region: &Region, clip: Rect, window: &Window, 
     requires told { is_fitting (⟦<TakenWindow as Defined>⟧.loan window.now.taken).definition
         (⟦<TakenWindow as Defined>⟧.loan window.now.taken).definition.size ≡ true }
     ensures drawn { Draws (λ p. rect_holds clip p && holds region.now p)
-        (λ p _. (⟦<TakenWindow as Defined>⟧.loan window.now.taken).definition.picture no_news font.now (minus p window.now.place))
+        (λ p _. (⟦<TakenWindow as Defined>⟧.loan window.now.taken).definition.picture no_news font.now
+        (minus p window.now.place))
         map.old map.new }
     ensures written { IsWritten (holds region.now) map.old map.new }
 {
@@ -91,7 +96,8 @@ fn draw_clipped(map: &mut BitMap, region: &Region, clip: Rect, window: &Window, 
 fn on_screen(window: &Window, rect: Rect) -> Rect
     requires { IsPlaced window.now.place window.now.size (⟦<TakenWindow as Defined>⟧.loan window.now.taken).definition }
     ensures pixels { (p : Point) → (⟦<TakenWindow as Defined>⟧.loan window.now.taken).definition.structure
-        window.now.size (minus p window.now.place) ≡ true → rect_holds result p ≡ rect_holds rect (minus p window.now.place) }
+        window.now.size (minus p window.now.place) ≡ true
+        → rect_holds result p ≡ rect_holds rect (minus p window.now.place) }
     ensures near { (p : Point) → (⟦<TakenWindow as Defined>⟧.loan window.now.taken).definition.structure
         window.now.size (minus p window.now.place) ≡ true → in_plane (minus p window.now.place) ≡ true }
 {

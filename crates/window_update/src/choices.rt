@@ -114,7 +114,8 @@ impl Choices {
     pub(crate) fn draw(&mut self, kind: LayerKind) -> Region
         ensures drawn { self.new.drawn ≡ with_kind kind self.old.drawn }
         ensures left { (p : Point) → holds result p ≡ left_for self.old (with_kind kind self.old.drawn) p }
-        ensures others { (k : Kinds) → IsFurther (with_kind kind self.old.drawn) k → left_for self.new k ≡ left_for self.old k }
+        ensures others { (k : Kinds) → IsFurther (with_kind kind self.old.drawn) k
+            → left_for self.new k ≡ left_for self.old k }
     {
         match kind {
             LayerKind::Picture => self.drawn.picture = true,

@@ -129,7 +129,8 @@ struct Target<'a> {
 fn target_of<'a>(windows: &WindowManager, marking: &WindowArea<'a>) -> Result<Target<'a>, Refusal>
     requires kept { IsKept ⟦<TakenWindow as Defined>⟧.loan windows.now }
     ensures { MatchResult result
-        (λ r. StandsAt windows.now.windows.records.items marking.now.window r.at × IsAreaOf marking.now.area (judged_set r.area)
+        (λ r. StandsAt windows.now.windows.records.items marking.now.window r.at
+        × IsAreaOf marking.now.area (judged_set r.area)
         × IsAreaRefusal marking.now (state_of ⟦<TakenWindow as Defined>⟧.loan windows.now []) None)
         (λ e. IsAreaRefusal marking.now (state_of ⟦<TakenWindow as Defined>⟧.loan windows.now []) (Some e)) }
 {

@@ -68,7 +68,8 @@ impl Updates {
         requires kept { IsKept ⟦<TakenWindow as Defined>⟧.loan windows.old }
         requires whole { IsWholeUpdates ⟦<TakenWindow as Defined>⟧.loan (Updating draw.window) windows.old self.old }
         requires layers { S.is_whole layers.now }
-        ensures step { (o : Opened) → IsUpdateStepOverAnySlots ⟦<TakenWindow as Defined>⟧.loan (S.shows layers.now) (asks.Draw draw)
+        ensures step { (o : Opened) → IsUpdateStepOverAnySlots ⟦<TakenWindow as Defined>⟧.loan (S.shows layers.now)
+            (asks.Draw draw)
             result windows.old o windows.new o }
         ensures whole { IsWholeUpdates ⟦<TakenWindow as Defined>⟧.loan (Updating draw.window) windows.new self.new }
         ensures same { self.new.begun ≡ self.old.begun }
@@ -110,7 +111,8 @@ pub(crate) fn serve<S: Showing>(
     requires layers { S.is_whole layers.now }
     ensures step { (begun : PixelSet)
         → IsUpdateStepOverAnySlots ⟦<TakenWindow as Defined>⟧.loan (S.shows layers.now) (asks.Serve window) result
-        windows.old (record { activity = activity.old; begun = begun }) windows.new (record { activity = activity.new; begun = begun }) }
+        windows.old (record { activity = activity.old; begun = begun }) windows.new
+        (record { activity = activity.new; begun = begun }) }
     ensures idle { activity.new ≡ Idle }
     ensures width { windows.new.screen.width ≡ windows.old.screen.width }
     ensures height { windows.new.screen.height ≡ windows.old.screen.height }

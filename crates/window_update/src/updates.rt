@@ -122,10 +122,12 @@ impl Updates {
         requires width { self.old.buffer.width ≡ windows.now.screen.width }
         requires height { self.old.buffer.height ≡ windows.now.screen.height }
         requires layers { S.is_whole layers.now }
-        ensures whole { (activity : Activity) → IsWholeUpdates ⟦<TakenWindow as Defined>⟧.loan activity windows.now self.old
+        ensures whole { (activity : Activity) → IsWholeUpdates ⟦<TakenWindow as Defined>⟧.loan activity windows.now
+            self.old
             → IsWholeUpdates ⟦<TakenWindow as Defined>⟧.loan activity windows.now self.new }
         ensures same { self.new.begun ≡ self.old.begun }
-        ensures right { let state = state_showing (S.shows layers.now) (state_of ⟦<TakenWindow as Defined>⟧.loan windows.now []) in
+        ensures right { let state = state_showing (S.shows layers.now) (state_of ⟦<TakenWindow as Defined>⟧.loan
+            windows.now []) in
             MatchResult result
             (λ right. (is_missing window state.desk.windows ≡ false) × IsJudgement window (rect_holds rect) state right)
             (λ e. (is_missing window state.desk.windows ≡ true) × (e ≡ Refusal.NoSuchWindow)) }

@@ -16,7 +16,8 @@ use window_mgr::WindowManager;
 pub fn first_to_update(windows: &WindowManager, activity: Activity) -> Option<u64>
     requires { IsKept ⟦<TakenWindow as Defined>⟧.loan windows.now }
     ensures { (begun : PixelSet) (slots : List SlotView) → IsFirstToUpdate
-        (desk_state ⟦<TakenWindow as Defined>⟧.loan windows.now (record { activity = activity; begun = begun }) slots) result }
+        (desk_state ⟦<TakenWindow as Defined>⟧.loan windows.now (record { activity = activity; begun = begun }) slots)
+        result }
 {
     let list = windows.list();
     for at in 0..list.len() {
@@ -31,8 +32,10 @@ pub fn first_to_update(windows: &WindowManager, activity: Activity) -> Option<u6
 fn is_waiting(windows: &WindowManager, activity: Activity, at: usize) -> bool
     requires kept { IsKept ⟦<TakenWindow as Defined>⟧.loan windows.now }
     requires at { at < length windows.now.windows.records.items }
-    ensures { (w : _) → IsWindowAt windows.now.windows.records.items at w → (begun : PixelSet) (slots : List SlotView) → IsWaiting w.serial
-        (desk_state ⟦<TakenWindow as Defined>⟧.loan windows.now (record { activity = activity; begun = begun }) slots) result }
+    ensures { (w : _) → IsWindowAt windows.now.windows.records.items at w → (begun : PixelSet) (slots : List SlotView)
+        → IsWaiting w.serial
+        (desk_state ⟦<TakenWindow as Defined>⟧.loan windows.now (record { activity = activity; begun = begun }) slots)
+        result }
 {
     if is_updating(activity, windows.list().at(at).serial) {
         return false;
