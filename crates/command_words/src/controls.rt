@@ -1,7 +1,8 @@
 //! The words of the commands for controls.
 ghost use Rattle.std.specs.Prelude.{◌≡◌};
 ghost use Rattle.line_words.specs.Shapes.{reading};
-ghost use Rattle.command_words.specs.ControlWords.{control_at, new_shape, alone_shape, move_shape, size_shape, number_shape, title_shape, find_shape, at_shape, control_shape};
+ghost use Rattle.command_words.specs.ControlWords.{control_at, new_shape, alone_shape, move_shape, size_shape};
+ghost use Rattle.command_words.specs.ControlWords.{number_shape, title_shape, find_shape, at_shape, control_shape};
 
 use def_iface::Size;
 use desk_call::{

@@ -5,7 +5,9 @@
 ghost use Rattle.std.specs.Prelude.{◌≡◌, Option};
 ghost use Rattle.line_words.specs.Shapes.{reading};
 ghost use Rattle.line_words.specs.Tables.{named};
-ghost use Rattle.command_words.specs.Drawings.{shade_shape, shaded_rect_shape, line_shape, run_shape, bits_shape, region_shape, operation_shape, operations, clipped_shape, clip_shape, drawing_shape};
+ghost use Rattle.command_words.specs.Drawings.{shade_shape, shaded_rect_shape, line_shape, run_shape};
+ghost use Rattle.command_words.specs.Drawings.{bits_shape, region_shape, operation_shape, operations};
+ghost use Rattle.command_words.specs.Drawings.{clipped_shape, clip_shape, drawing_shape};
 
 use crate::names::{shade_of, source_mode_of, text_mode_of};
 use crate::operation::{Operation, operation_of};

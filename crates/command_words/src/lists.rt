@@ -1,7 +1,9 @@
 //! The words of the commands for lists.
 ghost use Rattle.std.specs.Prelude.{◌≡◌};
 ghost use Rattle.line_words.specs.Shapes.{reading};
-ghost use Rattle.command_words.specs.ListWords.{list_at, size_at, cell_at, new_shape, alone_shape, lines_shape, cell_shape, text_shape, select_shape, click_shape, scroll_shape, drawing_shape, selection_shape, next_shape, list_shape};
+ghost use Rattle.command_words.specs.ListWords.{list_at, size_at, cell_at, new_shape, alone_shape, lines_shape};
+ghost use Rattle.command_words.specs.ListWords.{cell_shape, text_shape, select_shape, click_shape, scroll_shape};
+ghost use Rattle.command_words.specs.ListWords.{drawing_shape, selection_shape, next_shape, list_shape};
 
 use def_iface::Size;
 use desk_call::{

@@ -1,7 +1,8 @@
 //! The words of the commands for windows.
 ghost use Rattle.std.specs.Prelude.{◌≡◌};
 ghost use Rattle.line_words.specs.Shapes.{reading};
-ghost use Rattle.command_words.specs.WindowWords.{new_shape, behind_shape, move_shape, size_shape, zoom_shape, show_hide_shape, scroll_shape, other_window, no_picture, window_shape};
+ghost use Rattle.command_words.specs.WindowWords.{new_shape, behind_shape, move_shape, size_shape, zoom_shape};
+ghost use Rattle.command_words.specs.WindowWords.{show_hide_shape, scroll_shape, other_window, no_picture, window_shape};
 
 use crate::drawing::drawing;
 use def_iface::Size;
