@@ -210,8 +210,10 @@ impl WindowList {
         requires placed { in_plane place ≡ true }
         requires fit { IfSome (slice_get self.old.records.items at)
             (λ w. list_all (fits_at place) w.layers.layers ≡ true) }
-        ensures { self.new ≡ record self.old { records =
-            edit_at (with_stand place shown user_state) at self.old.records } }
+        ensures { self.new ≡ record self.old {
+          records =
+              edit_at (with_stand place shown user_state) at self.old.records;
+        } }
     {
         let window = self.records.at_mut(at);
         window.layers.go_to(place);
