@@ -1,5 +1,5 @@
 -- A control that is made: its layer behind those of the other controls of its window, and the plan.
-use Rattle.std.proofs.Common.{◌≡◌, ℕ, ◌<◌, ◌≤◌, Bool, true, false, ◌||◌, cond, List, [], ◌∷◌, length, Option, Some, refl, sym, ap, ◌∙◌, subst}
+use Rattle.std.proofs.Common.{◌≡◌, ℕ, ◌<◌, ◌≤◌, true, false, List, [], ◌∷◌, length, Option, Some, refl, sym, ap, ◌∙◌, subst}
 use Rattle.std.specs.Prelude.{All}
 use Rattle.std.specs.List.{insert, list_any}
 use Rattle.std.proofs.lemmas.List.Elements.{All-cons, All-weaker}
@@ -7,16 +7,15 @@ use Rattle.tb_geom.specs.declared.point.Point.{Point}
 use Rattle.tb_geom.specs.Points.{minus}
 use Rattle.tb_geom.specs.Pixels.{Pixels, holds}
 use Rattle.tb_geom.specs.Rects.{is_in_range, moved_rect}
-use Rattle.window_items.specs.Items.{are_before, items_of, has_serial, is_in}
+use Rattle.window_items.specs.Items.{are_before, items_of, has_serial}
 use Rattle.window_items.proofs.LawLemmas.{no_others}
 use Rattle.window_items.proofs.WindowLemmas.{count_of-length}
-use Rattle.def_iface.specs.declared.part.Part.{Part}
-use Rattle.def_iface.specs.declared.part.Part.TheVariants as part
-use Rattle.def_iface.specs.declared.taken.Taken.{Taken}
-use Rattle.def_iface.specs.declared.taken_control.TakenControl.{TakenControl}
+use Rattle.desk_layers.specs.declared.part.Part.{Part}
+use Rattle.desk_layers.specs.declared.part.Part.TheVariants as part
+use Rattle.def_iface.specs.Slots.{TakenBox}
 use Rattle.def_iface.specs.ControlMeaning.{ControlDefinition, ControlLoan}
-use Rattle.def_iface.specs.Desk.{same_part}
-use Rattle.def_iface.specs.Meaning.{Loan}
+use Rattle.desk_layers.specs.Desk.{same_part}
+use Rattle.def_iface.specs.WindowMeaning.{WindowLoan}
 use Rattle.window_list.specs.declared.layer.Layer.{Layer}
 use Rattle.window_list.specs.declared.layer.LayerShape.{LayerShape}
 use Rattle.window_list.specs.declared.layers.Relaid.{Relaid}
@@ -32,6 +31,7 @@ use Rattle.window_mgr.specs.Edits.{IsWindowAt}
 use Rattle.window_mgr.specs.Kept.{IsKept}
 use Rattle.window_mgr.specs.Relayered.{HasUpdate, IsGainedAt, IsPartAt, IsPlanOfLayers, MayHaveLayers}
 use Rattle.window_mgr.proofs.Contents as contents
+use Rattle.window_items.proofs.SerialLemmas.{none_in_window, or_parts}
 use Rattle.control_mgr.specs.declared.controls.Controls.{Controls}
 use Rattle.control_mgr.specs.declared.laying.Lie.{Lie}
 use Rattle.control_mgr.specs.declared.making.Ticket.{Ticket}
@@ -48,23 +48,7 @@ use Rattle.control_mgr.proofs.Places.{at_window, there_is, read_is}
 
 -- ---- one more layer
 
-pub or_parts : (a b : Bool) → (a || b) ≡ false → (a ≡ false) × (b ≡ false)
-or_parts true b e = absurd (cc)
-or_parts false b e = (refl, e)
-
--- a serial that no control has, no control of a window has
-pub none_in_window : (n window : ℕ) (cs : List ControlRecord) → list_any (has_serial n) cs ≡ false → list_any (has_serial n) (items_of window cs) ≡ false
-none_in_window n window [] e = refl
-none_in_window n window (c ∷ cs) e =
-    let both = or_parts (has_serial n c) (list_any (has_serial n) cs) e in
-    by_test (is_in window c) both.0 (none_in_window n window cs both.1)
-  where
-    by_test : (b : Bool) → has_serial n c ≡ false → list_any (has_serial n) (items_of window cs) ≡ false
-        → list_any (has_serial n) (cond b (c ∷ items_of window cs) (items_of window cs)) ≡ false
-    by_test true f rest = λ i. f i || rest i
-    by_test false f rest = rest
-
--- and no layer of these is its
+-- where no control of these has a serial, no layer of theirs is its
 pub others_named : (n : ℕ) (cs : List ControlRecord) (ls : List Layer) → AreLayersOf cs ls → list_any (has_serial n) cs ≡ false → All (λ l. same_part l.part (part.Control n) ≡ false) ls
 others_named n [] ls h e = All-weaker (λ (l : Layer). is_of kinds.Controls l.part ≡ false) (λ (l : Layer). same_part l.part (part.Control n) ≡ false) (λ l its. no_control l.part n its) ls h
 others_named n (c ∷ cs) [] h e = absurd h
@@ -113,8 +97,8 @@ module _ (n : NewControl) (d : ControlDefinition) (k : Ticket) (ls : PlacedLayer
       grown r = record { ticket = refl; layer = own; is = own_is; layers = layers_are; apart = new_apart }
 
       -- the windows and controls to which it is added
-      module _ {V : Type 0} {H : V → Type 0} (loan : Taken V H → Loan) {W : Type 0} {K : W → Type 0} (control_loan : TakenControl W K → ControlLoan) (update : Pixels) (t u : WindowManager V H)
-          (m : Controls (TakenControl W K)) (ready : IsReadyToAdd loan control_loan n d k ls update t u m) where
+      module _ {V : Type 0} {H : V → Type 0} (loan : TakenBox V H → WindowLoan) {W : Type 0} {K : W → Type 0} (control_loan : TakenBox W K → ControlLoan) (update : Pixels) (t u : WindowManager V H)
+          (m : Controls (TakenBox W K)) (ready : IsReadyToAdd loan control_loan n d k ls update t u m) where
         -- the plan of it
         pub added_is : ((p : Point) → holds relaid.gained p ≡ is_gained (Some (part.Control k.serial)) ls.layers relaid.layers.layers (minus p ls.place)) → (r : Relaying)
             → ((v : WindowManager V H) → HasUpdate loan k.window update t v → MayHaveLayers k.window v relaid.layers
@@ -133,8 +117,8 @@ module _ (n : NewControl) (d : ControlDefinition) (k : Ticket) (ls : PlacedLayer
 
 -- ---- a control that may be planned
 
-module _ {V : Type 0} {H : V → Type 0} (loan : Taken V H → Loan) {W : Type 0} {K : W → Type 0} (control_loan : TakenControl W K → ControlLoan)
-    (n : NewControl) (d : ControlDefinition) (t : WindowManager V H) (m : Controls (TakenControl W K)) (k : Ticket)
+module _ {V : Type 0} {H : V → Type 0} (loan : TakenBox V H → WindowLoan) {W : Type 0} {K : W → Type 0} (control_loan : TakenBox W K → ControlLoan)
+    (n : NewControl) (d : ControlDefinition) (t : WindowManager V H) (m : Controls (TakenBox W K)) (k : Ticket)
     (kept : IsKept loan t) (beside : AreBeside control_loan loan t m) (ticket : IsTicket control_loan n (Some d) t m k) where
   abbrev cs : List ControlRecord
   cs = records_of control_loan m

@@ -8,7 +8,7 @@ use Rattle.tb_geom.specs.declared.refusal.Refusal.TheVariants.{NoSuchControl, No
 use Rattle.tb_geom.specs.Refusals.{first_refusal}
 use Rattle.control_values.specs.declared.part.ControlPart.{ControlPart}
 use Rattle.window_items.specs.Items.{serial_after}
-use Rattle.def_iface.specs.declared.part.Part.{Part}
+use Rattle.desk_layers.specs.declared.part.Part.{Part}
 use Rattle.def_iface.specs.ControlMeaning.{ControlDefinition, ControlLoan}
 use Rattle.def_iface.specs.Slots.{IsTaken, holding}
 use Rattle.desk_call.specs.declared.activity.Activity.{Activity}

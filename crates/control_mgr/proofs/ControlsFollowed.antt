@@ -9,11 +9,11 @@ use Rattle.tb_geom.specs.declared.point.Point.{Point}
 use Rattle.tb_geom.specs.Points.{PixelSet}
 use Rattle.window_items.specs.Items.{are_before, items_of, count_of, has_serial, is_before, is_in}
 use Rattle.window_items.proofs.WindowLemmas.{count_of-length}
-use Rattle.def_iface.specs.declared.part.Part.{Part}
-use Rattle.def_iface.specs.Desk.{IsDesk}
-use Rattle.def_iface.specs.Owner.{Owner, is_content, owner, own_bit}
-use Rattle.def_iface.specs.Scratch.{scratch}
-use Rattle.def_iface.proofs.Painting.{scratch_is_owners}
+use Rattle.desk_layers.specs.declared.part.Part.{Part}
+use Rattle.desk_layers.specs.Desk.{IsDesk}
+use Rattle.desk_layers.specs.Owner.{Owner, is_content, owner, own_bit}
+use Rattle.desk_layers.specs.Scratch.{scratch}
+use Rattle.desk_layers.proofs.Painting.{scratch_is_owners}
 use Rattle.vis_update.specs.Records.{WindowRecord}
 use Rattle.window_mgr.specs.Finding.{record_with}
 use Rattle.window_mgr.specs.FullDesk.{FullDesk, FullState, IsRightState, layered_desk}
@@ -28,7 +28,8 @@ use Rattle.control_mgr.specs.Settled.{AreSettled, IsSettledControl}
 use Rattle.control_mgr.specs.WholeControls.{AreControlsApart, AreWholeControls}
 use Rattle.control_mgr.proofs.Settled.{AreJoined}
 use Rattle.control_mgr.proofs.ControlBits.{same_own}
-use Rattle.control_mgr.proofs.SerialsFound.{StayControls, with_among}
+use Rattle.window_items.proofs.SerialLemmas.{with_among}
+use Rattle.control_mgr.proofs.SerialsFound.{StayControls}
 
 -- ---- lists
 

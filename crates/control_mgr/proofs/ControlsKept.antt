@@ -6,11 +6,11 @@ use Rattle.std.proofs.lemmas.Bool.{false≢true}
 use Rattle.std.proofs.lemmas.List.Elements.{All-head, All-tail}
 use Rattle.tb_geom.specs.declared.refusal.Refusal.{Refusal}
 use Rattle.tb_geom.specs.Points.{PixelSet}
-use Rattle.window_items.specs.Items.{items_of, has_serial, is_in}
-use Rattle.def_iface.specs.declared.part.Part.{Part}
-use Rattle.def_iface.specs.declared.part.Part.TheVariants as part
-use Rattle.def_iface.specs.Desk as layers
-use Rattle.def_iface.proofs.Owning.{not_first}
+use Rattle.window_items.specs.Items.{items_of, has_serial}
+use Rattle.desk_layers.specs.declared.part.Part.{Part}
+use Rattle.desk_layers.specs.declared.part.Part.TheVariants as part
+use Rattle.desk_layers.specs.Desk as layers
+use Rattle.desk_layers.proofs.Owning.{not_first}
 use Rattle.window_list.specs.declared.layer.Layer.{Layer}
 use Rattle.desk_call.specs.declared.control.ControlCall.{ControlCall}
 use Rattle.desk_call.specs.declared.control.ControlReply.{ControlReply}
@@ -22,10 +22,10 @@ use Rattle.window_mgr.specs.Finding.{record_with}
 use Rattle.window_mgr.specs.FullDesk.{FullDesk, IsRightState, layered_desk, look_of}
 use Rattle.window_mgr.specs.Refused.{is_missing}
 use Rattle.window_mgr.proofs.LayerParts.{layers_with, parts_alike}
+use Rattle.window_items.proofs.SerialLemmas.{apart_among, or_parts}
 use Rattle.control_mgr.specs.ControlDesks.{ControlDesk, ControlRecord, ShowsControls}
 use Rattle.control_mgr.specs.ControlSteps.{AreLayersOf, IsControlStep, behind_controls}
 use Rattle.control_mgr.specs.WholeControls.{AreControlsApart, AreWholeControls}
-use Rattle.control_mgr.proofs.Added.{none_in_window, or_parts}
 use Rattle.control_mgr.proofs.ControlBits.{bare, missing_alike}
 use Rattle.control_mgr.proofs.ControlFacts.{control_facts}
 use Rattle.control_mgr.proofs.ControlsRight.{control_right, control_shows, step_leaves}
@@ -93,15 +93,6 @@ parts_of look content w (c ∷ cs) (l ∷ ls) h apart behind = (
   parts_of look content w cs ls h.1 apart.1
       (subst (λ b. layers.AreParts (layers_with look content (cond (not b) (l ∷ behind_controls ls) (behind_controls ls)) w)) (ap (is_of Controls) h.0.part) behind),
 )
-
--- the controls of one window are apart where all are
-pub apart_among : (window : ℕ) (cs : List ControlRecord) → AreControlsApart cs → AreControlsApart (items_of window cs)
-apart_among window [] apart = tt
-apart_among window (c ∷ cs) apart = by_test (is_in window c) (apart_among window cs apart.1)
-  where
-    by_test : (b : Bool) → AreControlsApart (items_of window cs) → AreControlsApart (cond b (c ∷ items_of window cs) (items_of window cs))
-    by_test true rest = (none_in_window c.serial window cs apart.0, rest)
-    by_test false rest = rest
 
 -- ---- desks whose windows are the same but for their layers
 

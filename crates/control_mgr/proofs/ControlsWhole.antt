@@ -13,6 +13,7 @@ use Rattle.control_values.specs.Highlights.{is_highlight}
 use Rattle.control_values.specs.Parts.{number_of}
 use Rattle.control_values.specs.Settings.{Setting}
 use Rattle.window_items.specs.Items.{are_before, items_of, count_of}
+use Rattle.window_items.proofs.SerialLemmas.{or_parts}
 use Rattle.control_mgr.specs.Fields.{with_highlight, with_place, with_shown, with_size, with_title}
 use Rattle.window_items.proofs.LawLemmas.{no_others}
 use Rattle.window_items.proofs.WindowLemmas.{items_of-push, found_in}
@@ -37,7 +38,6 @@ use Rattle.control_mgr.specs.Judged.{may_be_in, may_get_size, may_go_to}
 use Rattle.control_mgr.specs.Settled.{IsSettledControl, MayHaveSetting}
 use Rattle.control_mgr.specs.Spots.{with_lie, with_state}
 use Rattle.control_mgr.specs.WholeControls.{AreWholeControls}
-use Rattle.control_mgr.proofs.Added.{or_parts}
 use Rattle.control_mgr.proofs.Disposed.{whole_ended}
 use Rattle.control_mgr.proofs.Lays.{lie_parts}
 use Rattle.control_mgr.proofs.Made.{whole_made}

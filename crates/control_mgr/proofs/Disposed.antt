@@ -1,22 +1,20 @@
 -- A control that is disposed of: its layer taken out, the controls without it, and the step.
-use Rattle.std.proofs.Common.{◌≡◌, ℕ, zero, suc, ◌<◌, ◌≤◌, Bool, true, false, ◌||◌, List, [], ◌∷◌, length, Option, Some, None, Ok, refl, sym, ap, ◌∙◌, subst, arith}
+use Rattle.std.proofs.Common.{◌≡◌, ℕ, zero, suc, ◌<◌, ◌≤◌, Bool, true, false, List, [], ◌∷◌, length, Option, Some, None, Ok, refl, sym, ap, ◌∙◌, subst, arith}
 use Rattle.std.specs.Prelude.{map, slice_get}
-use Rattle.std.specs.List.{list_any, remove}
+use Rattle.std.specs.List.{remove}
 use Rattle.std.specs.Option.{option_map}
 use Rattle.tb_geom.specs.Points.{PixelSet}
 use Rattle.window_items.specs.declared.item.Item.{Item}
 use Rattle.control_mgr.specs.declared.control.Control.{Control}
-use Rattle.window_items.specs.Items.{items_of, count_of, has_serial, is_before, is_in_at, place_among}
+use Rattle.window_items.specs.Items.{items_of, count_of, is_before, is_in_at, place_among}
 use Rattle.control_mgr.specs.Seen.{all_seen, kept_seen, seen}
 use Rattle.window_items.proofs.SeenLemmas.{place_among-seen, remove-seen, slice_get-seen}
 use Rattle.window_items.proofs.WindowLemmas.{items_of-remove, items_of-remove_other, count_of-remove, count_of-remove_other, is_in_at-other, slice_get-items_of}
-use Rattle.def_iface.specs.declared.part.Part.{Part}
-use Rattle.def_iface.specs.declared.taken.Taken.{Taken}
-use Rattle.def_iface.specs.declared.taken_control.TakenControl.{TakenControl}
+use Rattle.desk_layers.specs.declared.part.Part.{Part}
 use Rattle.def_iface.specs.declared.window_def.Stage.TheVariants.{Live}
 use Rattle.def_iface.specs.ControlMeaning.{ControlDefinition, ControlLoan}
-use Rattle.def_iface.specs.Meaning.{Loan}
-use Rattle.def_iface.specs.Slots.{is_left}
+use Rattle.def_iface.specs.WindowMeaning.{WindowLoan}
+use Rattle.def_iface.specs.Slots.{is_left, TakenBox}
 use Rattle.def_iface.specs.Stocked.{SlotView}
 use Rattle.window_list.specs.declared.layer.Layer.{Layer}
 use Rattle.window_list.specs.Holders.{PlacedLayers}
@@ -47,8 +45,7 @@ use Rattle.control_mgr.specs.Ending.{IsEnding, IsPlannedEnd}
 use Rattle.control_mgr.specs.InUse.{AreStocked}
 use Rattle.control_mgr.specs.Settled.{AreSettled, IsSettledControl}
 use Rattle.control_mgr.specs.Spots.{IsSpotOf}
-use Rattle.control_mgr.specs.WholeControls.{AreControlsApart, AreWholeControls, LeavesOver, control_desk, controls_state, records_of, slots_of}
-use Rattle.control_mgr.proofs.Added.{or_parts}
+use Rattle.control_mgr.specs.WholeControls.{AreWholeControls, LeavesOver, control_desk, controls_state, records_of, slots_of}
 use Rattle.control_mgr.proofs.Edited.{AreNoControls, begin_remove, behind_removed}
 use Rattle.control_mgr.proofs.LayerOut.{all-remove}
 use Rattle.control_mgr.proofs.Places.{at_window, in_its_window, layer_there, layers_named, read_is, record_there, there_is, within}
@@ -56,23 +53,10 @@ use Rattle.control_mgr.proofs.Reshown.{alone, set_among}
 use Rattle.control_mgr.proofs.Settled.{AreJoined, joined_laid, somewhere_laid}
 use Rattle.control_mgr.proofs.Steps.{nothing_missing}
 use Rattle.control_mgr.proofs.Stocks.{slot_is_left, slot_of, stocked_without}
+use Rattle.window_items.proofs.SerialLemmas.{apart-remove}
 use Rattle.window_items.proofs.EditLemmas.{All-remove, All-there, map-remove}
 
 -- ---- one taken out
-
-none-remove : (n i : ℕ) (cs : List ControlRecord) → list_any (has_serial n) cs ≡ false → list_any (has_serial n) (remove cs i) ≡ false
-none-remove n zero [] h = refl
-none-remove n (suc i) [] h = refl
-none-remove n zero (c ∷ cs) h = (or_parts (has_serial n c) (list_any (has_serial n) cs) h).1
-none-remove n (suc i) (c ∷ cs) h =
-    let parts = or_parts (has_serial n c) (list_any (has_serial n) cs) h in
-    let rest = none-remove n i cs parts.1 in (λ t. parts.0 t || rest t)
-
-apart-remove : (i : ℕ) (cs : List ControlRecord) → AreControlsApart cs → AreControlsApart (remove cs i)
-apart-remove zero [] h = tt
-apart-remove (suc i) [] h = tt
-apart-remove zero (c ∷ cs) h = h.1
-apart-remove (suc i) (c ∷ cs) h = (none-remove c.serial i cs h.0, apart-remove i cs h.1)
 
 slot_at : (cs : List ControlRecord) (i : ℕ) (c : ControlRecord) → slice_get cs i ≡ Some c → slice_get (slots_of cs) i ≡ Some c.kept.definition.slot
 slot_at [] i c e = absurd (cc)
@@ -112,23 +96,23 @@ whole_ended at window c ls ws state back whole there here shut joined = record {
       (slot_at state.controls at c there) shut.closed shut.back whole.stocked);
 }
 
-module _ {W : Type 0} {K : W → Type 0} (control_loan : TakenControl W K → ControlLoan) (m : Controls (TakenControl W K)) where
+module _ {W : Type 0} {K : W → Type 0} (control_loan : TakenBox W K → ControlLoan) (m : Controls (TakenBox W K)) where
   -- a control that was read at a place
-  pub seen_at : (at : ℕ) (x : Item (Control (TakenControl W K))) → slice_get m.list.items.items at ≡ Some x → slice_get (records_of control_loan m) at ≡ Some (seen control_loan x)
+  pub seen_at : (at : ℕ) (x : Item (Control (TakenBox W K))) → slice_get m.list.items.items at ≡ Some x → slice_get (records_of control_loan m) at ≡ Some (seen control_loan x)
   seen_at at x e = slice_get-seen (kept_seen control_loan) m.list.items.items at ∙ ap (λ o. option_map (seen control_loan) o) e
 
-  pub ended_live : (at : ℕ) (x : Item (Control (TakenControl W K))) → slice_get m.list.items.items at ≡ Some x → AreSettled (records_of control_loan m) → (control_loan x.kept.definition).definition.stage ≡ Live
+  pub ended_live : (at : ℕ) (x : Item (Control (TakenBox W K))) → slice_get m.list.items.items at ≡ Some x → AreSettled (records_of control_loan m) → (control_loan x.kept.definition).definition.stage ≡ Live
   ended_live at x e settled = (All-there IsSettledControl at (records_of control_loan m) (seen control_loan x) (seen_at at x e) settled).live
 
-  pub ended_left : (at : ℕ) (x : Item (Control (TakenControl W K))) (slots : List ControlSlot) → slice_get m.list.items.items at ≡ Some x
+  pub ended_left : (at : ℕ) (x : Item (Control (TakenBox W K))) (slots : List ControlSlot) → slice_get m.list.items.items at ≡ Some x
       → AreStocked (λ (d : ControlDefinition). d.stage) (slots_of (records_of control_loan m)) slots → is_left (control_loan x.kept.definition).slot slots ≡ true
   ended_left at x slots e stocked = slot_left at (records_of control_loan m) (seen control_loan x) slots (seen_at at x e) stocked
 
-  pub settled_left : (at : ℕ) (xs : List (Item (Control (TakenControl W K)))) → xs ≡ remove m.list.items.items at → AreSettled (records_of control_loan m) → AreSettled (all_seen control_loan xs)
+  pub settled_left : (at : ℕ) (xs : List (Item (Control (TakenBox W K)))) → xs ≡ remove m.list.items.items at → AreSettled (records_of control_loan m) → AreSettled (all_seen control_loan xs)
   settled_left at xs is settled = subst AreSettled (sym (ap (all_seen control_loan) is ∙ remove-seen (kept_seen control_loan) m.list.items.items at)) (All-remove IsSettledControl at (records_of control_loan m) settled)
 
-module _ {V : Type 0} {H : V → Type 0} (loan : Taken V H → Loan) {W : Type 0} {K : W → Type 0} (control_loan : TakenControl W K → ControlLoan)
-    (c : ControlOf) (t : WindowManager V H) (m : Controls (TakenControl W K)) (s : ControlAt) (is : IsSpotOf loan control_loan c t m s) where
+module _ {V : Type 0} {H : V → Type 0} (loan : TakenBox V H → WindowLoan) {W : Type 0} {K : W → Type 0} (control_loan : TakenBox W K → ControlLoan)
+    (c : ControlOf) (t : WindowManager V H) (m : Controls (TakenBox W K)) (s : ControlAt) (is : IsSpotOf loan control_loan c t m s) where
   abbrev cs : List ControlRecord
   cs = records_of control_loan m
 
@@ -169,7 +153,7 @@ module _ {V : Type 0} {H : V → Type 0} (loan : Taken V H → Loan) {W : Type 0
   -- the control was disposed of
   pub ended : (kept : IsKept loan t) → (index : ℕ) → index ≡ place_among s.control m.list.items.items
       → (layers : PlacedLayers) → ((w : Window V H) → IsWindowAt t.windows.records.items s.window w → layers ≡ record w.layers { layers = remove w.layers.layers index })
-      → (u : WindowManager V H) (n : Controls (TakenControl W K)) (x : Item (Control (TakenControl W K))) → slice_get m.list.items.items s.control ≡ Some x
+      → (u : WindowManager V H) (n : Controls (TakenBox W K)) (x : Item (Control (TakenBox W K))) → slice_get m.list.items.items s.control ≡ Some x
       → n.list.items.items ≡ remove m.list.items.items s.control → n.list.next ≡ m.list.next
       → (before back : List ControlSlot) → IsControlShut (control_loan x.kept.definition) before back
       → AreLeftFor s.window layers.layers (alone (records_of control_loan n)) t u
@@ -213,7 +197,7 @@ module _ {V : Type 0} {H : V → Type 0} (loan : Taken V H → Loan) {W : Type 0
       )
 
   -- so the call made its step
-  pub disposed_step : (u : WindowManager V H) (n : Controls (TakenControl W K)) (before back : List ControlSlot) → ((o : Opened) → LeavesOver control_loan loan before back (IsEndedIfThere c) t o m u o n)
+  pub disposed_step : (u : WindowManager V H) (n : Controls (TakenBox W K)) (before back : List ControlSlot) → ((o : Opened) → LeavesOver control_loan loan before back (IsEndedIfThere c) t o m u o n)
       → (o : Opened) → LeavesOver control_loan loan before back (IsControlStep (Dispose c) (Ok Done)) t o m u o n
   disposed_step u n before back ended o others slots whole controls =
       let leaves = ended o others slots whole controls in (
@@ -225,13 +209,13 @@ module _ {V : Type 0} {H : V → Type 0} (loan : Taken V H → Loan) {W : Type 0
         ),
       )
 
-module _ {V : Type 0} {H : V → Type 0} (loan : Taken V H → Loan) {W : Type 0} {K : W → Type 0} (control_loan : TakenControl W K → ControlLoan)
-    (c : ControlOf) (t : WindowManager V H) (m : Controls (TakenControl W K)) (planned : Option Ending) (its : IsPlannedEnd loan control_loan c t m planned) where
+module _ {V : Type 0} {H : V → Type 0} (loan : TakenBox V H → WindowLoan) {W : Type 0} {K : W → Type 0} (control_loan : TakenBox W K → ControlLoan)
+    (c : ControlOf) (t : WindowManager V H) (m : Controls (TakenBox W K)) (planned : Option Ending) (its : IsPlannedEnd loan control_loan c t m planned) where
   -- the end of a control that is there
   pub planned_there : (e : Ending) → planned ≡ Some e → IsEnding loan control_loan c t m e
   planned_there e is = subst (IsPlannedEnd loan control_loan c t m) is its
 
-  pub ended_there : (e : Ending) → planned ≡ Some e → (u : WindowManager V H) (n : Controls (TakenControl W K)) (before back : List ControlSlot) → ((o : Opened) → LeavesOver control_loan loan before back (IsControlDisposed c) t o m u o n)
+  pub ended_there : (e : Ending) → planned ≡ Some e → (u : WindowManager V H) (n : Controls (TakenBox W K)) (before back : List ControlSlot) → ((o : Opened) → LeavesOver control_loan loan before back (IsControlDisposed c) t o m u o n)
       → (o : Opened) → LeavesOver control_loan loan before back (IsEndedIfThere c) t o m u o n
   ended_there e is u n before back ended o others slots whole controls =
       let leaves = ended o others slots whole controls in

@@ -5,9 +5,9 @@ use Rattle.std.specs.List.{insert, remove}
 use Rattle.std.proofs.lemmas.Bool.{true≢false}
 use Rattle.window_items.specs.declared.item.Item.{Item}
 use Rattle.window_items.specs.Items.{edit_at}
-use Rattle.def_iface.specs.declared.part.Part.{Part}
-use Rattle.def_iface.specs.declared.part.Part.TheVariants as part
-use Rattle.def_iface.specs.Desk.{same_part}
+use Rattle.desk_layers.specs.declared.part.Part.{Part}
+use Rattle.desk_layers.specs.declared.part.Part.TheVariants as part
+use Rattle.desk_layers.specs.Desk.{same_part}
 use Rattle.window_list.specs.LayerChanges.{reshaped, with_shape}
 use Rattle.window_list.specs.declared.layer.Layer.{Layer}
 use Rattle.window_list.specs.declared.layer.LayerShape.{LayerShape}

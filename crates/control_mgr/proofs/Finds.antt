@@ -16,17 +16,16 @@ use Rattle.control_mgr.specs.declared.control.Control.{Control}
 use Rattle.window_items.specs.Items.{item_index}
 use Rattle.control_mgr.specs.Seen.{all_seen, kept_seen, seen}
 use Rattle.window_items.proofs.SeenLemmas.{item_index-seen}
-use Rattle.def_iface.specs.declared.part.Part.{Part}
-use Rattle.def_iface.specs.declared.part.Part.TheVariants as part
-use Rattle.def_iface.specs.declared.taken.Taken.{Taken}
-use Rattle.def_iface.specs.declared.taken_control.TakenControl.{TakenControl}
+use Rattle.desk_layers.specs.declared.part.Part.{Part}
+use Rattle.desk_layers.specs.declared.part.Part.TheVariants as part
+use Rattle.def_iface.specs.Slots.{TakenBox}
 use Rattle.def_iface.specs.ControlMeaning.{ControlLoan}
-use Rattle.def_iface.specs.Desk.{LayeredDesk, on_screen}
-use Rattle.def_iface.specs.Meaning.{Loan}
-use Rattle.def_iface.specs.Owner.{Owner, owner}
-use Rattle.def_iface.specs.Owner.Owner.{Desktop, Bar, Frame, Content}
+use Rattle.desk_layers.specs.Desk.{LayeredDesk, on_screen}
+use Rattle.def_iface.specs.WindowMeaning.{WindowLoan}
+use Rattle.desk_layers.specs.Owner.{Owner, owner}
+use Rattle.desk_layers.specs.Owner.Owner.{Desktop, Bar, Frame, Content}
 use Rattle.def_iface.specs.Stocked.{SlotView}
-use Rattle.def_iface.proofs.Owning.{same_number}
+use Rattle.desk_layers.proofs.Owning.{same_number}
 use Rattle.window_list.specs.Holders.{part_at}
 use Rattle.desk_call.specs.declared.control.ControlCall.TheVariants as asks
 use Rattle.desk_call.specs.declared.control.ControlOf.{ControlOf}
@@ -99,13 +98,13 @@ control_here c cs at x found there = ap (option_and_then (slice_get cs)) found �
 control_nowhere : (c : ControlOf) (cs : List ControlRecord) → index_of c cs ≡ None → control_of c cs ≡ None
 control_nowhere c cs none = ap (option_and_then (slice_get cs)) none
 
-module _ {W : Type 0} {K : W → Type 0} (control_loan : TakenControl W K → ControlLoan) where
+module _ {W : Type 0} {K : W → Type 0} (control_loan : TakenBox W K → ControlLoan) where
   -- the control at a place is settled
-  pub settled_at : (xs : List (Item (Control (TakenControl W K)))) (at : ℕ) (x : Item (Control (TakenControl W K))) → at < length xs → x ≡ get_or xs at x
+  pub settled_at : (xs : List (Item (Control (TakenBox W K)))) (at : ℕ) (x : Item (Control (TakenBox W K))) → at < length xs → x ≡ get_or xs at x
       → AreSettled (all_seen control_loan xs) → IsSettledControl (seen control_loan x)
   settled_at xs at x low read settled = All-there IsSettledControl at (all_seen control_loan xs) (seen control_loan x) (record_read control_loan xs at x low read) settled
 
-  module _ {V : Type 0} {H : V → Type 0} (loan : Taken V H → Loan) (t : WindowManager V H) (kept : IsKept loan t) (m : Controls (TakenControl W K))
+  module _ {V : Type 0} {H : V → Type 0} (loan : TakenBox V H → WindowLoan) (t : WindowManager V H) (kept : IsKept loan t) (m : Controls (TakenBox W K))
       (at : ℕ) (low : at < length t.windows.records.items) (p : Point) (w : Window V H) (there : IsWindowAt t.windows.records.items at w) where
     abbrev cs : List ControlRecord
     cs = records_of control_loan m
@@ -165,7 +164,7 @@ module _ {W : Type 0} {K : W → Type 0} (control_loan : TakenControl W K → Co
     missing_control a n read shown is none =
         sym (its_control a n read shown is ∙ ap (option_and_then (λ c. found_in c p)) (control_nowhere (record { window = w.serial; control = n }) cs (index_seen n None none)))
 
-    pub control_found : (a : Area) (n i : ℕ) (x : Item (Control (TakenControl W K))) → a ≡ get_or t.areas.items at a → holds a.visible pixel ≡ true → part_at w.layers.layers p ≡ part.Control n
+    pub control_found : (a : Area) (n i : ℕ) (x : Item (Control (TakenBox W K))) → a ≡ get_or t.areas.items at a → holds a.visible pixel ≡ true → part_at w.layers.layers p ≡ part.Control n
         → Some i ≡ item_index w.serial n m.list.items.items → i < length m.list.items.items → x ≡ get_or m.list.items.items i x
         → (answer : Option FoundControl) → answer ≡ found_in (seen control_loan x) p → answer ≡ found
     control_found a n i x read shown is index within x_is answer answers =
@@ -176,8 +175,8 @@ module _ {W : Type 0} {K : W → Type 0} (control_loan : TakenControl W K → Co
 
 -- ---- steps
 
-module _ {V : Type 0} {H : V → Type 0} (loan : Taken V H → Loan) {W : Type 0} {K : W → Type 0} (control_loan : TakenControl W K → ControlLoan)
-    (t : WindowManager V H) (m : Controls (TakenControl W K)) where
+module _ {V : Type 0} {H : V → Type 0} (loan : TakenBox V H → WindowLoan) {W : Type 0} {K : W → Type 0} (control_loan : TakenBox W K → ControlLoan)
+    (t : WindowManager V H) (m : Controls (TakenBox W K)) where
   -- a point that is none of the range, where nothing is missing
   pub test_refused : (asked : PointAtControl) (s : ControlAt) (o : Opened) → IsSpotOf loan control_loan asked.control t m s → in_plane asked.point ≡ false
       → LeavesControls control_loan loan (IsControlStep (asks.Test asked) (Err OutOfRange)) t o m t o m
@@ -186,7 +185,7 @@ module _ {V : Type 0} {H : V → Type 0} (loan : Taken V H → Loan) {W : Type 0
       (λ others slots kept. other_reasons loan control_loan asked.control t m s is ((not (in_plane asked.point), OutOfRange) ∷ []) ∙ one_holds (not (in_plane asked.point)) OutOfRange (ap not out))
 
   -- the part of a control that the point lies in
-  pub test_told : (asked : PointAtControl) (s : ControlAt) (o : Opened) (x : Item (Control (TakenControl W K))) (answer : Option ControlPart) → IsSpotOf loan control_loan asked.control t m s
+  pub test_told : (asked : PointAtControl) (s : ControlAt) (o : Opened) (x : Item (Control (TakenBox W K))) (answer : Option ControlPart) → IsSpotOf loan control_loan asked.control t m s
       → x ≡ get_or m.list.items.items s.control x → in_plane asked.point ≡ true → answer ≡ part_tested (seen control_loan x) asked.point
       → LeavesControls control_loan loan (IsControlStep (asks.Test asked) (Ok (reply.Part answer))) t o m t o m
   test_told asked s o x answer is read within answers =

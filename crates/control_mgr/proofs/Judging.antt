@@ -7,10 +7,9 @@ use Rattle.tb_geom.specs.declared.refusal.Refusal.TheVariants.{NoDefinition, NoS
 use Rattle.tb_geom.specs.Refusals.{first_refusal}
 use Rattle.window_items.specs.Items.{count_of}
 use Rattle.window_items.proofs.SeenLemmas.{count_of-seen}
-use Rattle.def_iface.specs.declared.taken.Taken.{Taken}
-use Rattle.def_iface.specs.declared.taken_control.TakenControl.{TakenControl}
+use Rattle.def_iface.specs.Slots.{TakenBox}
 use Rattle.def_iface.specs.ControlMeaning.{ControlDefinition, ControlLoan}
-use Rattle.def_iface.specs.Meaning.{Loan}
+use Rattle.def_iface.specs.WindowMeaning.{WindowLoan}
 use Rattle.desk_call.specs.declared.control.NewControl.{NewControl}
 use Rattle.vis_update.specs.Records.{WindowRecord, record_of}
 use Rattle.window_list.specs.declared.window.Window.{Window}
@@ -31,14 +30,14 @@ use Rattle.control_mgr.proofs.Lays.{one_item}
 use Rattle.control_mgr.proofs.Steps.{first_behind, first_of}
 use Rattle.control_mgr.specs.Seen.{kept_seen}
 
-module _ {V : Type 0} {H : V → Type 0} {W : Type 0} {K : W → Type 0} (control_loan : TakenControl W K → ControlLoan) (n : NewControl) (d : Option ControlDefinition) (t : WindowManager V H) where
+module _ {V : Type 0} {H : V → Type 0} {W : Type 0} {K : W → Type 0} (control_loan : TakenBox W K → ControlLoan) (n : NewControl) (d : Option ControlDefinition) (t : WindowManager V H) where
   -- whichever window stands there, the control may be placed in it
   pub placed_where : (at : ℕ) → StandsAt t.windows.records.items n.window at → (w : Window V H) → IsWindowAt t.windows.records.items at w → may_be_placed d n.place n.size w.place ≡ true
       → (v : Window V H) → IsWindowAt t.windows.records.items at v → may_be_placed d n.place n.size v.place ≡ true
   placed_where at stands w lies may v is = subst (λ (x : Window V H). may_be_placed d n.place n.size x.place ≡ true) (one_item t.windows.records.items at w v stands.0 lies is) may
 
-module _ {V : Type 0} {H : V → Type 0} (loan : Taken V H → Loan) {W : Type 0} {K : W → Type 0} (control_loan : TakenControl W K → ControlLoan)
-    (n : NewControl) (d : Option ControlDefinition) (t : WindowManager V H) (m : Controls (TakenControl W K)) where
+module _ {V : Type 0} {H : V → Type 0} (loan : TakenBox V H → WindowLoan) {W : Type 0} {K : W → Type 0} (control_loan : TakenBox W K → ControlLoan)
+    (n : NewControl) (d : Option ControlDefinition) (t : WindowManager V H) (m : Controls (TakenBox W K)) where
   -- an answer that is a refusal
   pub refused_so : (r : Result Ticket Refusal) (e : Refusal) → r ≡ Err e → judged_by loan control_loan n d t m ≡ Some e
       → MatchResult r (λ k. (judged_by loan control_loan n d t m ≡ None) × IsTicket control_loan n d t m k) (λ why. judged_by loan control_loan n d t m ≡ Some why)

@@ -2,8 +2,8 @@
 use Rattle.std.proofs.Common.{◌≡◌, ℕ, ◌<◌, length, get_or, set, sym, ap, ◌∙◌, subst}
 use Rattle.std.proofs.lemmas.List.{get_or-set_same, length-set}
 use Rattle.tb_geom.specs.Pixels.{Pixels, holds}
-use Rattle.def_iface.specs.declared.taken.Taken.{Taken}
-use Rattle.def_iface.specs.Meaning.{Loan}
+use Rattle.def_iface.specs.Slots.{TakenBox}
+use Rattle.def_iface.specs.WindowMeaning.{WindowLoan}
 use Rattle.window_list.specs.Holders.{PlacedLayers}
 use Rattle.vis_update.specs.declared.area.Area.{Area}
 use Rattle.window_list.specs.declared.window.Window.{Window}
@@ -20,7 +20,7 @@ use Rattle.control_mgr.proofs.Places.{read_is, there_is}
 
 -- ---- the window as it is
 
-module _ {V : Type 0} {H : V → Type 0} (loan : Taken V H → Loan) (t : WindowManager V H) (kept : IsKept loan t) (at : ℕ) (low : at < length t.windows.records.items) (a : Area) (read : a ≡ get_or t.areas.items at a) where
+module _ {V : Type 0} {H : V → Type 0} (loan : TakenBox V H → WindowLoan) (t : WindowManager V H) (kept : IsKept loan t) (at : ℕ) (low : at < length t.windows.records.items) (a : Area) (read : a ≡ get_or t.areas.items at a) where
   -- of the window as it is this is to be redrawn
   pub has_now : HasUpdate loan at a.update t t
   has_now =
@@ -72,7 +72,7 @@ module _ {V : Type 0} {H : V → Type 0} (at : ℕ) (layers : PlacedLayers) (upd
       ap (λ (y : Window V H). y.layers) (window_put w.item x (read_is u.windows.records.items at w.item w.there) is)
 
 -- a window that had planned layers has those that were put
-pub laid_put : {V : Type 0} {H : V → Type 0} (loan : Taken V H → Loan) (at : ℕ) (was layers : PlacedLayers) (before update : Pixels) (t u v : WindowManager V H)
+pub laid_put : {V : Type 0} {H : V → Type 0} (loan : TakenBox V H → WindowLoan) (at : ℕ) (was layers : PlacedLayers) (before update : Pixels) (t u v : WindowManager V H)
     → IsLaidSo loan at was before t u → AreLayersPut at layers update u v → IsKept loan v → IsLaidSo loan at layers update t v
 laid_put {V} {H} loan at was layers before update t u v laid put kept = record {
   has = record {

@@ -9,11 +9,11 @@ use Rattle.std.proofs.lemmas.List.Kept.{AllPairs-cons}
 use Rattle.tb_geom.specs.declared.point.Point.{Point}
 use Rattle.tb_geom.specs.Points.{minus}
 use Rattle.tb_geom.specs.Pixels.{Pixels, holds}
-use Rattle.def_iface.specs.declared.part.Part.{Part}
-use Rattle.def_iface.specs.declared.part.Part.TheVariants as part
-use Rattle.def_iface.specs.declared.taken.Taken.{Taken}
-use Rattle.def_iface.specs.Desk.{same_part}
-use Rattle.def_iface.specs.Meaning.{Loan}
+use Rattle.desk_layers.specs.declared.part.Part.{Part}
+use Rattle.desk_layers.specs.declared.part.Part.TheVariants as part
+use Rattle.def_iface.specs.Slots.{TakenBox}
+use Rattle.desk_layers.specs.Desk.{same_part}
+use Rattle.def_iface.specs.WindowMeaning.{WindowLoan}
 use Rattle.window_list.specs.declared.layer.Layer.{Layer}
 use Rattle.window_list.specs.declared.layers.Relaid.{Relaid}
 use Rattle.window_list.specs.LayerChanges.{is_gained}
@@ -95,7 +95,7 @@ module _ (ls : PlacedLayers) (i : ℕ) (own : Layer) (index : i ≤ length ls.la
 
   -- ---- where the window has the layers without it
 
-  module _ {V : Type 0} {H : V → Type 0} (loan : Taken V H → Loan) (at : ℕ) (update : Pixels) (t u : WindowManager V H) (laid : IsLaidSo loan at ls update t u) (apart : ArePartsApart new) (fits : fits_at ls.place own ≡ true) where
+  module _ {V : Type 0} {H : V → Type 0} (loan : TakenBox V H → WindowLoan) (at : ℕ) (update : Pixels) (t u : WindowManager V H) (laid : IsLaidSo loan at ls update t u) (apart : ArePartsApart new) (fits : fits_at ls.place own ≡ true) where
     abbrev kept : IsKept loan u
     kept = laid.has.kept
 

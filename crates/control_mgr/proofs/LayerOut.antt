@@ -5,9 +5,9 @@ use Rattle.std.proofs.lemmas.Bool.{and_parts}
 use Rattle.tb_geom.specs.declared.point.Point.{Point}
 use Rattle.tb_geom.specs.Points.{minus}
 use Rattle.tb_geom.specs.Pixels.{Pixels, holds}
-use Rattle.def_iface.specs.declared.part.Part.{Part}
-use Rattle.def_iface.specs.declared.taken.Taken.{Taken}
-use Rattle.def_iface.specs.Meaning.{Loan}
+use Rattle.desk_layers.specs.declared.part.Part.{Part}
+use Rattle.def_iface.specs.Slots.{TakenBox}
+use Rattle.def_iface.specs.WindowMeaning.{WindowLoan}
 use Rattle.window_list.specs.LayerChanges.{is_gained}
 use Rattle.window_list.specs.Holders.{ArePartsApart, PlacedLayers, fits_at}
 use Rattle.window_list.proofs.Parts.{remove_apart}
@@ -40,7 +40,7 @@ module _ (ls : PlacedLayers) (i : ℕ) (low : i < length ls.layers) (apart : Are
 
   -- ---- where the window has the layers with it
 
-  module _ {V : Type 0} {H : V → Type 0} (loan : Taken V H → Loan) (at : ℕ) (update : Pixels) (t u : WindowManager V H) (laid : IsLaidSo loan at ls update t u) where
+  module _ {V : Type 0} {H : V → Type 0} (loan : TakenBox V H → WindowLoan) (at : ℕ) (update : Pixels) (t u : WindowManager V H) (laid : IsLaidSo loan at ls update t u) where
     abbrev kept : IsKept loan u
     kept = laid.has.kept
 

@@ -13,12 +13,11 @@ use Rattle.window_items.specs.Items.{items_of, edit_at, is_in_at, place_among, w
 use Rattle.control_mgr.specs.Seen.{all_seen, kept_seen, seen}
 use Rattle.window_items.proofs.SeenLemmas.{edit_at-seen, length-seen, place_among-seen}
 use Rattle.window_items.proofs.WindowLemmas.{items_of-edit_at, slice_get-items_of}
-use Rattle.def_iface.specs.declared.part.Part.{Part}
-use Rattle.def_iface.specs.declared.part.Part.TheVariants as part
-use Rattle.def_iface.specs.declared.taken.Taken.{Taken}
-use Rattle.def_iface.specs.declared.taken_control.TakenControl.{TakenControl}
+use Rattle.desk_layers.specs.declared.part.Part.{Part}
+use Rattle.desk_layers.specs.declared.part.Part.TheVariants as part
+use Rattle.def_iface.specs.Slots.{TakenBox}
 use Rattle.def_iface.specs.ControlMeaning.{ControlDefinition, ControlLoan, SameControlRegions, is_control_size}
-use Rattle.def_iface.specs.Meaning.{Loan}
+use Rattle.def_iface.specs.WindowMeaning.{WindowLoan}
 use Rattle.def_iface.specs.Stocked.{SlotView}
 use Rattle.window_list.specs.declared.layer.Layer.{Layer}
 use Rattle.window_list.specs.declared.layer.LayerShape.{LayerShape}
@@ -107,13 +106,13 @@ same_part_at shape i ls new l afresh low read is part_is =
     same_read (x ∷ xs) zero d l low e = sym e
     same_read (x ∷ xs) (suc i) d l low e = same_read xs i d l (omega arith) e
 
-module _ {W : Type 0} {K : W → Type 0} (control_loan : TakenControl W K → ControlLoan) where
+module _ {W : Type 0} {K : W → Type 0} (control_loan : TakenBox W K → ControlLoan) where
   -- what is kept of a control that lies so
-  abbrev lying : Lie → Control (TakenControl W K) → Control (TakenControl W K)
+  abbrev lying : Lie → Control (TakenBox W K) → Control (TakenBox W K)
   lying l k = record k { place = l.place; size = l.size; shown = l.shown }
 
   -- a control that was lent is laid so
-  pub lie_set : (l : Lie) (at : ℕ) (s : Items (Control (TakenControl W K))) (k : Control (TakenControl W K)) → IfSome (slice_get s.items.items at) (λ c. k ≡ c.kept)
+  pub lie_set : (l : Lie) (at : ℕ) (s : Items (Control (TakenBox W K))) (k : Control (TakenBox W K)) → IfSome (slice_get s.items.items at) (λ c. k ≡ c.kept)
       → all_seen control_loan (with_value s at (lying l k)).items.items ≡ edit_at (with_lie l) at (all_seen control_loan s.items.items)
   lie_set l at s k lent =
       ap (all_seen control_loan) (lent_and_written (lying l) s at k lent)
@@ -126,15 +125,15 @@ module _ {W : Type 0} {K : W → Type 0} (control_loan : TakenControl W K → Co
       subst (λ o. IfSome o IsTellable) (sym (ap (λ cs. slice_get cs at) set ∙ there_edited (with_lie k) at xs was.item was.there))
       (subst (λ o. IfSome o (λ c. IsTellable (with_lie k c))) was.there may)
 
-  pub lie_changed : (k : Lie) (at : ℕ) (m n : Controls (TakenControl W K)) (ds : List (Item (Control (TakenControl W K)))) → at < length m.list.items.items
+  pub lie_changed : (k : Lie) (at : ℕ) (m n : Controls (TakenBox W K)) (ds : List (Item (Control (TakenBox W K)))) → at < length m.list.items.items
       → all_seen control_loan ds ≡ edit_at (with_lie k) at (records_of control_loan m) → IsChangedAt (λ c. c) at (all_seen control_loan ds) (records_of control_loan n)
       → IsChangedAt (with_lie k) at (records_of control_loan m) (records_of control_loan n)
   lie_changed k at m n ds low set told =
       changed_then_told (with_lie k) (λ c. refl) at (records_of control_loan m) (all_seen control_loan ds) (records_of control_loan n)
       (there_is (records_of control_loan m) at (subst (λ k. at < k) (sym (length-seen (kept_seen control_loan) m.list.items.items)) low)) set told
 
-module _ {V : Type 0} {H : V → Type 0} (loan : Taken V H → Loan) {W : Type 0} {K : W → Type 0} (control_loan : TakenControl W K → ControlLoan) where
-  module _ (c : ControlOf) (t : WindowManager V H) (m : Controls (TakenControl W K)) (s : ControlAt) (is : IsSpotOf loan control_loan c t m s)
+module _ {V : Type 0} {H : V → Type 0} (loan : TakenBox V H → WindowLoan) {W : Type 0} {K : W → Type 0} (control_loan : TakenBox W K → ControlLoan) where
+  module _ (c : ControlOf) (t : WindowManager V H) (m : Controls (TakenBox W K)) (s : ControlAt) (is : IsSpotOf loan control_loan c t m s)
       (l : Lie) (may : MayLie control_loan t m s l) (w : Window V H) (lies : IsWindowAt t.windows.records.items s.window w) (index : ℕ) (index_is : index ≡ place_among s.control m.list.items.items) where
     abbrev low : s.window < length t.windows.records.items
     low = is.window.0
@@ -248,7 +247,7 @@ module _ {V : Type 0} {H : V → Type 0} (loan : Taken V H → Loan) {W : Type 0
       → (was : List ℕ → Part → PixelSet) (slots : List SlotView) → IsWholeManager loan t slots
       → IsWholeManager loan u slots × AreLayersSet w.serial ls afresh (state_showing was (state_of loan t slots)) (state_showing shows (state_of loan u slots))
 
-  pub laid : (c : ControlOf) (t u : WindowManager V H) (m n : Controls (TakenControl W K)) (s : ControlAt) → (is : IsSpotOf loan control_loan c t m s) → (l : Lie) → MayLie control_loan t m s l
+  pub laid : (c : ControlOf) (t u : WindowManager V H) (m n : Controls (TakenBox W K)) (s : ControlAt) → (is : IsSpotOf loan control_loan c t m s) → (l : Lie) → MayLie control_loan t m s l
       → (shape : LayerShape) → IsShapeOf (record_there loan control_loan c t m s is).item.kept.definition.definition l shape
       → (index : ℕ) → index ≡ place_among s.control m.list.items.items
       → (relaid : Relaid) → ((w : Window V H) → IsWindowAt t.windows.records.items s.window w → relaid.layers ≡ record w.layers { layers = reshaped shape index w.layers.layers })
@@ -318,8 +317,8 @@ module _ {V : Type 0} {H : V → Type 0} (loan : Taken V H → Loan) {W : Type 0
     pub may : MayHaveLayers s.window t relaid.layers
     pub gained : (afresh : Option Part) → IsPartAt relaid.layers.layers (Some index) afresh → IsGainedAt s.window afresh t relaid
 
-  module _ (t : WindowManager V H) (m : Controls (TakenControl W K)) (s : ControlAt) (spot : IsSpot loan control_loan t m s) (l : Lie) (may : MayLie control_loan t m s l)
-      (x : Item (Control (TakenControl W K))) (read : x ≡ get_or m.list.items.items s.control x) where
+  module _ (t : WindowManager V H) (m : Controls (TakenBox W K)) (s : ControlAt) (spot : IsSpot loan control_loan t m s) (l : Lie) (may : MayLie control_loan t m s l)
+      (x : Item (Control (TakenBox W K))) (read : x ≡ get_or m.list.items.items s.control x) where
     -- the control that was read is the one that stands there
     same_control : slice_get (records_of control_loan m) s.control ≡ Some (seen control_loan x)
     same_control = record_read control_loan m.list.items.items s.control x spot.is.low read
@@ -341,7 +340,7 @@ module _ {V : Type 0} {H : V → Type 0} (loan : Taken V H → Loan) {W : Type 0
         (record { live = (All-there IsSettledControl s.control (records_of control_loan m) (seen control_loan x) same_control settled).live; fits = may_so.fits })
 
     -- and then all are settled
-    pub settled_laid : (n : Controls (TakenControl W K)) → AreSettled (records_of control_loan m) → IsChangedAt (with_lie l) s.control (records_of control_loan m) (records_of control_loan n) → AreSettled (records_of control_loan n)
+    pub settled_laid : (n : Controls (TakenBox W K)) → AreSettled (records_of control_loan m) → IsChangedAt (with_lie l) s.control (records_of control_loan m) (records_of control_loan n) → AreSettled (records_of control_loan n)
     settled_laid n settled changed =
         let was : IsSettledControl (seen control_loan x) = All-there IsSettledControl s.control (records_of control_loan m) (seen control_loan x) same_control settled in
         changed_settled (with_lie l) s.control (records_of control_loan m) (records_of control_loan n) settled

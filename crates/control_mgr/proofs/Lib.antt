@@ -32,7 +32,6 @@ pub mod TakenOut
 pub mod Presses
 pub mod SettingsPut
 pub mod Performed
-pub mod Serials
 pub mod SerialsFound
 pub mod ControlBits
 pub mod ControlsRight

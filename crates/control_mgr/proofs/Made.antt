@@ -1,15 +1,15 @@
 -- A control that is made: the controls with it, and the step.
-use Rattle.std.proofs.Common.{◌≡◌, ℕ, ◌<◌, ◌≤◌, Bool, true, false, ◌||◌, ◌==◌, List, [], ◌∷◌, ◌++◌, get_or, Option, Some, refl, sym, ap, ◌∙◌, subst, arith, eqb-true}
+use Rattle.std.proofs.Common.{◌≡◌, ℕ, ◌<◌, ◌≤◌, Bool, true, false, ◌==◌, List, [], ◌∷◌, ◌++◌, get_or, Option, Some, refl, sym, ap, ◌∙◌, subst, arith, eqb-true}
 use Rattle.std.specs.Prelude.{All, is_none, map}
 use Rattle.std.specs.List.{insert, list_any}
 use Rattle.std.proofs.lemmas.Bool.Decides.{nat_tests}
 use Rattle.std.proofs.lemmas.List.Elements.{All-append, All-cons, All-nil}
-use Rattle.std.proofs.lemmas.List.Folds.{list_any-append}
 use Rattle.std.proofs.lemmas.List.Edits.{get_or-insert_at}
 use Rattle.tb_geom.specs.declared.rect.Rect.{Rect}
 use Rattle.tb_geom.specs.Points.{PixelSet, minus}
 use Rattle.tb_geom.specs.Rects.{moved_rect}
 use Rattle.window_items.specs.declared.item.Item.{Item}
+use Rattle.window_items.proofs.SerialLemmas.{apart_more}
 use Rattle.control_mgr.specs.declared.control.Control.{Control}
 use Rattle.window_items.specs.Items.{are_before, items_of, count_of, has_serial, serial_after}
 use Rattle.control_mgr.specs.Seen.{all_seen, kept_seen, seen}
@@ -17,15 +17,13 @@ use Rattle.window_items.proofs.LawLemmas.{still_before}
 use Rattle.window_items.proofs.SeenLemmas.{append-seen}
 use Rattle.window_items.proofs.WindowLemmas.{items_of-push, items_of-push_other, count_of-length, count_of-push, count_of-push_other}
 use Rattle.control_values.specs.Settings.{Setting, settled}
-use Rattle.def_iface.specs.declared.part.Part.{Part}
-use Rattle.def_iface.specs.declared.part.Part.TheVariants as part
-use Rattle.def_iface.specs.declared.taken.Taken.{Taken}
-use Rattle.def_iface.specs.declared.taken_control.TakenControl.{TakenControl}
+use Rattle.desk_layers.specs.declared.part.Part.{Part}
+use Rattle.desk_layers.specs.declared.part.Part.TheVariants as part
 use Rattle.def_iface.specs.ControlMeaning.{ControlDefinition, ControlLoan, IsControlBegun, is_fitting_control}
 use Rattle.def_iface.specs.ControlNews.{new_control_news}
 use Rattle.def_iface.specs.declared.size.Size.{Size}
-use Rattle.def_iface.specs.Meaning.{Loan}
-use Rattle.def_iface.specs.Slots.{IsTaken}
+use Rattle.def_iface.specs.WindowMeaning.{WindowLoan}
+use Rattle.def_iface.specs.Slots.{IsTaken, TakenBox}
 use Rattle.window_list.specs.declared.layer.Layer.{Layer}
 use Rattle.desk_call.specs.declared.control.NewControl.{NewControl}
 use Rattle.desk_call.specs.declared.update.LayerKind.TheVariants as kinds
@@ -50,8 +48,8 @@ use Rattle.control_mgr.specs.ControlSteps.{AreLayersOf, IsControlMade, IsLayerOf
 use Rattle.control_mgr.specs.InUse.{AreStocked}
 use Rattle.control_mgr.specs.Making.{IsAddition}
 use Rattle.control_mgr.specs.Settled.{AreSettled, IsSettledControl, MayHaveSetting}
-use Rattle.control_mgr.specs.WholeControls.{AreControlsApart, AreBeside, AreWholeControls, LeavesOver, controls_state, records_of, slots_of}
-use Rattle.control_mgr.proofs.Added.{its, may_grow, may_lie_so, or_parts, unused}
+use Rattle.control_mgr.specs.WholeControls.{AreBeside, AreWholeControls, LeavesOver, controls_state, records_of, slots_of}
+use Rattle.control_mgr.proofs.Added.{its, may_grow, may_lie_so, unused}
 use Rattle.control_mgr.proofs.Edited.{AreNoControls, begin_behind, behind_inserted}
 use Rattle.control_mgr.proofs.Judging.{window_is}
 use Rattle.control_mgr.proofs.LayerIn.{one_read}
@@ -63,20 +61,11 @@ use Rattle.control_mgr.proofs.Stocks.{stocked_with}
 
 -- ---- controls with one more behind
 
-other_way : (a b : ℕ) → (a == b) ≡ false → (b == a) ≡ false
-other_way a b e = grind (arith, nat_tests)
-
 same_number : (a b : ℕ) → a ≡ b → (a == b) ≡ true
 same_number a b e = grind (arith, nat_tests)
 
 other_number : (a b : ℕ) → (b ≡ a → ⊥) → (a == b) ≡ false
 other_number a b e = grind (arith, nat_tests)
-
-apart_more : (c : ControlRecord) (cs : List ControlRecord) → list_any (has_serial c.serial) cs ≡ false → AreControlsApart cs → AreControlsApart (cs ++ c ∷ [])
-apart_more c [] e h = (refl, tt)
-apart_more c (x ∷ xs) e h =
-    let both = or_parts (x.serial == c.serial) (list_any (has_serial c.serial) xs) e in
-    (list_any-append (has_serial x.serial) xs (c ∷ []) ∙ (λ i. h.0 i || (other_way x.serial c.serial both.0 i || false)), apart_more c xs both.1 h.1)
 
 slots_more : (c : ControlRecord) (cs : List ControlRecord) → slots_of (cs ++ c ∷ []) ≡ slots_of cs ++ c.kept.definition.slot ∷ []
 slots_more c [] = refl
@@ -119,8 +108,8 @@ whole_made c old kind ls ws state left whole next unused settled there room took
 
 -- ---- the code's new control
 
-module _ {W : Type 0} {K : W → Type 0} (control_loan : TakenControl W K → ControlLoan) where
-  pub new_seen : (n : NewControl) (k : Ticket) (h : ℕ) (taken : TakenControl W K) (slot : ℕ) → k.values ≡ settled n.minimum n.maximum n.value → k.title ≡ n.title → h ≡ 0
+module _ {W : Type 0} {K : W → Type 0} (control_loan : TakenBox W K → ControlLoan) where
+  pub new_seen : (n : NewControl) (k : Ticket) (h : ℕ) (taken : TakenBox W K) (slot : ℕ) → k.values ≡ settled n.minimum n.maximum n.value → k.title ≡ n.title → h ≡ 0
       → (control_loan taken).slot ≡ slot
       → seen control_loan (record { serial = k.serial; window = n.window; kept = record { place = n.place; size = n.size; shown = n.shown; values = k.values; highlight = h; title = k.title; definition = taken } })
       ≡ new_control n k.serial slot (control_loan taken).definition
@@ -139,7 +128,7 @@ module _ {W : Type 0} {K : W → Type 0} (control_loan : TakenControl W K → Co
   }
 
   -- what is left of the list where it was put behind the others
-  pub pushed : (m : Controls (TakenControl W K)) (xs : List (Item (Control (TakenControl W K)))) (x : Item (Control (TakenControl W K))) (c : ControlRecord) → xs ≡ m.list.items.items ++ x ∷ []
+  pub pushed : (m : Controls (TakenBox W K)) (xs : List (Item (Control (TakenBox W K)))) (x : Item (Control (TakenBox W K))) (c : ControlRecord) → xs ≡ m.list.items.items ++ x ∷ []
       → seen control_loan x ≡ c → all_seen control_loan xs ≡ records_of control_loan m ++ c ∷ []
   pushed m xs x c is same = ap (all_seen control_loan) is ∙ append-seen (kept_seen control_loan) m.list.items.items (x ∷ []) ∙ ap (λ y. records_of control_loan m ++ y ∷ []) same
 
@@ -147,8 +136,8 @@ begun_with : (n : NewControl) (values : Setting) (old new : ControlDefinition) �
     → IsControlBegun (new_control_news n.size n.title (settled n.minimum n.maximum n.value)) old new
 begun_with n values old new is begun = subst (λ v. IsControlBegun (new_control_news n.size n.title v) old new) is begun
 
-module _ {V : Type 0} {H : V → Type 0} (loan : Taken V H → Loan) {W : Type 0} {K : W → Type 0} (control_loan : TakenControl W K → ControlLoan)
-    (n : NewControl) (d : ControlDefinition) (t : WindowManager V H) (m : Controls (TakenControl W K)) (a : Addition)
+module _ {V : Type 0} {H : V → Type 0} (loan : TakenBox V H → WindowLoan) {W : Type 0} {K : W → Type 0} (control_loan : TakenBox W K → ControlLoan)
+    (n : NewControl) (d : ControlDefinition) (t : WindowManager V H) (m : Controls (TakenBox W K)) (a : Addition)
     (kept : IsKept loan t) (beside : AreBeside control_loan loan t m) (addition : IsAddition loan control_loan n d t m a) where
   -- the part that is drawn afresh
   pub afresh_is : (q : Option Part) → IsPartAt a.layers.layers (Some a.ticket.layer) q → q ≡ Some (part.Control a.ticket.serial)
@@ -198,7 +187,7 @@ module _ {V : Type 0} {H : V → Type 0} (loan : Taken V H → Loan) {W : Type 0
           bounds = was.bounds ∙ ap (λ (b : Size → Rect). moved_rect (b n.size) n.place.h n.place.v) (sym live.regions.bounds);
         }
 
-    module _ (u : WindowManager V H) (m' : Controls (TakenControl W K)) (controls_are : records_of control_loan m' ≡ records_of control_loan m ++ made ∷ [])
+    module _ (u : WindowManager V H) (m' : Controls (TakenBox W K)) (controls_are : records_of control_loan m' ≡ records_of control_loan m ++ made ∷ [])
         (next_is : m'.list.next ≡ serial_after a.ticket.serial)
         (set : AreSetFor loan control_loan a.ticket.window a.layers.layers a.ticket.layer (alone (records_of control_loan m')) t u) where
       pub made_over : (before left : List ControlSlot) → IsTaken (λ (d : ControlDefinition). d.stage) n.kind (record { definition = d; slot = slot }) before left

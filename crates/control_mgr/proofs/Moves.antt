@@ -9,12 +9,11 @@ use Rattle.tb_geom.specs.Points.{PixelSet}
 use Rattle.tb_geom.specs.Rects.{is_in_range, moved_rect}
 use Rattle.tb_geom.specs.Refusals.{first_refusal}
 use Rattle.control_mgr.specs.Fields.{with_place, with_shown, with_size}
-use Rattle.def_iface.specs.declared.part.Part.{Part}
+use Rattle.desk_layers.specs.declared.part.Part.{Part}
 use Rattle.def_iface.specs.declared.size.Size.{Size}
-use Rattle.def_iface.specs.declared.taken.Taken.{Taken}
-use Rattle.def_iface.specs.declared.taken_control.TakenControl.{TakenControl}
+use Rattle.def_iface.specs.Slots.{TakenBox}
 use Rattle.def_iface.specs.ControlMeaning.{ControlLoan, is_control_size}
-use Rattle.def_iface.specs.Meaning.{Loan}
+use Rattle.def_iface.specs.WindowMeaning.{WindowLoan}
 use Rattle.def_iface.specs.Stocked.{SlotView}
 use Rattle.window_list.specs.declared.layer.Layer.{Layer}
 use Rattle.window_list.specs.Holders.{fits_at}
@@ -60,8 +59,8 @@ all_at f [] i l e h = absurd (cc)
 all_at f (k ∷ ks) zero l e h = let same : k ≡ l = cc in ap f (sym same) ∙ (and_parts (f k) (list_all f ks) h).0
 all_at f (k ∷ ks) (suc i) l e h = all_at f ks i l e (and_parts (f k) (list_all f ks) h).1
 
-module _ {V : Type 0} {H : V → Type 0} (loan : Taken V H → Loan) {W : Type 0} {K : W → Type 0} (control_loan : TakenControl W K → ControlLoan) where
-  module _ (c : ControlOf) (t : WindowManager V H) (m : Controls (TakenControl W K)) (s : ControlAt) (is : IsSpotOf loan control_loan c t m s) where
+module _ {V : Type 0} {H : V → Type 0} (loan : TakenBox V H → WindowLoan) {W : Type 0} {K : W → Type 0} (control_loan : TakenBox W K → ControlLoan) where
+  module _ (c : ControlOf) (t : WindowManager V H) (m : Controls (TakenBox W K)) (s : ControlAt) (is : IsSpotOf loan control_loan c t m s) where
     abbrev item : ControlRecord
     item = (record_there loan control_loan c t m s is).item
 
@@ -138,7 +137,7 @@ module _ {V : Type 0} {H : V → Type 0} (loan : Taken V H → Loan) {W : Type 0
         one_place i j e = cc
 
     -- a call that lays a control so, where nothing but memory refuses it
-    pub laid_step : (call : ControlCall) (f g : ControlRecord → ControlRecord) (result : Result ControlReply Refusal) (u : WindowManager V H) (n : Controls (TakenControl W K)) (o : Opened) → may_control_grow call ≡ true
+    pub laid_step : (call : ControlCall) (f g : ControlRecord → ControlRecord) (result : Result ControlReply Refusal) (u : WindowManager V H) (n : Controls (TakenBox W K)) (o : Opened) → may_control_grow call ≡ true
         → ((others : List ℕ → Part → PixelSet) (slots : List SlotView) (kept : List ControlSlot) → first_refusal (control_refusals call (desk_seen loan control_loan others t slots m) (controls_state control_loan m kept)) ≡ None)
         → ((x : ControlRecord) → slice_get (records_of control_loan m) s.control ≡ Some x → f x ≡ g x)
         → ((answer : ControlReply) (before after : ControlDesk) → answer ≡ Done → IsControlLaid c g before after → IsControlEffect call answer before after)
@@ -153,7 +152,7 @@ module _ {V : Type 0} {H : V → Type 0} (loan : Taken V H → Loan) {W : Type 0
         (l.0, l.1, (inr (none others slots kept, (grows, l.2.0)), l.2.1))
 
     -- one that shows it or hides it
-    pub show_step : (shown : Bool) (f : ControlRecord → ControlRecord) (result : Result ControlReply Refusal) (u : WindowManager V H) (n : Controls (TakenControl W K)) (o : Opened)
+    pub show_step : (shown : Bool) (f : ControlRecord → ControlRecord) (result : Result ControlReply Refusal) (u : WindowManager V H) (n : Controls (TakenBox W K)) (o : Opened)
         → ((x : ControlRecord) → slice_get (records_of control_loan m) s.control ≡ Some x → f x ≡ with_shown shown x)
         → LeavesControls control_loan loan (IsLaidOrShort c f result) t o m u o n → LeavesControls control_loan loan (IsControlStep (shown_call shown c) result) t o m u o n
     show_step true f result u n o agrees leaves = laid_step (Show c) f (with_shown true) result u n o refl (λ others slots kept. nothing_missing loan control_loan c t m s is) agrees (λ answer before after e h. (e, h)) leaves

@@ -7,13 +7,11 @@ use Rattle.tb_geom.specs.declared.refusal.Refusal.{Refusal}
 use Rattle.tb_geom.specs.declared.refusal.Refusal.TheVariants.{NoDefinition, NoSuchName}
 use Rattle.tb_geom.specs.Points.{PixelSet}
 use Rattle.tb_geom.specs.Refusals.{first_refusal}
-use Rattle.def_iface.specs.declared.part.Part.{Part}
-use Rattle.def_iface.specs.declared.taken.Taken.{Taken}
-use Rattle.def_iface.specs.declared.taken_control.TakenControl.{TakenControl}
+use Rattle.desk_layers.specs.declared.part.Part.{Part}
 use Rattle.def_iface.specs.declared.window_def.Stage.{Stage}
 use Rattle.def_iface.specs.ControlMeaning.{ControlDefinition, ControlLoan}
-use Rattle.def_iface.specs.Meaning.{Loan}
-use Rattle.def_iface.specs.Slots.{IsNotTaken, IsPutBack, IsTaken, LoanOf, SlotOf, has_kind, holding, is_kind, offered}
+use Rattle.def_iface.specs.WindowMeaning.{WindowLoan}
+use Rattle.def_iface.specs.Slots.{IsNotTaken, IsPutBack, IsTaken, LoanOf, SlotOf, has_kind, holding, is_kind, offered, TakenBox}
 use Rattle.def_iface.specs.Stocked.{SlotView}
 use Rattle.desk_call.specs.declared.control.ControlCall.TheVariants.{New}
 use Rattle.desk_call.specs.declared.control.ControlReply.TheVariants as reply
@@ -98,12 +96,12 @@ module _ (n : NewControl) (desk : FullDesk) (s : ControlsState) (has : has_kind 
 
 -- ---- steps
 
-module _ {V : Type 0} {H : V → Type 0} (loan : Taken V H → Loan) {W : Type 0} {K : W → Type 0} (control_loan : TakenControl W K → ControlLoan) where
+module _ {V : Type 0} {H : V → Type 0} (loan : TakenBox V H → WindowLoan) {W : Type 0} {K : W → Type 0} (control_loan : TakenBox W K → ControlLoan) where
   -- where nothing but the room for controls changed, the controls are the same, and the desk
-  pub state_same : (m planned : Controls (TakenControl W K)) → IsRoomier m planned → (kept left : List ControlSlot) → left ≡ kept → controls_state control_loan planned left ≡ controls_state control_loan m kept
+  pub state_same : (m planned : Controls (TakenBox W K)) → IsRoomier m planned → (kept left : List ControlSlot) → left ≡ kept → controls_state control_loan planned left ≡ controls_state control_loan m kept
   state_same m planned same kept left e = λ i. record { controls = all_seen control_loan (same.controls i); next = same.next i; stock = e i }
 
-  pub desk_same : (others : List ℕ → Part → PixelSet) (t : WindowManager V H) (o : Opened) (slots : List SlotView) (m planned : Controls (TakenControl W K)) → IsRoomier m planned → (kept left : List ControlSlot) → left ≡ kept
+  pub desk_same : (others : List ℕ → Part → PixelSet) (t : WindowManager V H) (o : Opened) (slots : List SlotView) (m planned : Controls (TakenBox W K)) → IsRoomier m planned → (kept left : List ControlSlot) → left ≡ kept
       → control_desk control_loan loan others t o slots planned left ≡ control_desk control_loan loan others t o slots m kept
   desk_same others t o slots m planned same kept left e = λ i. record {
     desk = desk_with o (state_showing (controls_show others (all_seen control_loan (same.controls i))) (state_of loan t slots));
@@ -111,13 +109,13 @@ module _ {V : Type 0} {H : V → Type 0} (loan : Taken V H → Loan) {W : Type 0
     others = others;
   }
 
-  pub beside_planned : (t : WindowManager V H) (m planned : Controls (TakenControl W K)) (kept : List ControlSlot) → IsRoomier m planned
+  pub beside_planned : (t : WindowManager V H) (m planned : Controls (TakenBox W K)) (kept : List ControlSlot) → IsRoomier m planned
       → AreWholeControls (desk_of loan t []).windows (controls_state control_loan m kept) → AreBeside control_loan loan t planned
   beside_planned t m planned kept same whole = record { slots = kept; whole = subst (AreWholeControls (desk_of loan t []).windows) (sym (state_same m planned same kept kept refl)) whole }
 
-  module _ (n : NewControl) (t : WindowManager V H) (m planned : Controls (TakenControl W K)) (same : IsRoomier m planned) where
+  module _ (n : NewControl) (t : WindowManager V H) (m planned : Controls (TakenBox W K)) (same : IsRoomier m planned) where
     -- the control was made
-    pub made_step : (u : WindowManager V H) (made : Controls (TakenControl W K)) (taken : ControlLoan) (before left : List ControlSlot) (serial : ℕ)
+    pub made_step : (u : WindowManager V H) (made : Controls (TakenBox W K)) (taken : ControlLoan) (before left : List ControlSlot) (serial : ℕ)
         → IsTaken (λ (d : ControlDefinition). d.stage) n.kind taken before left → judged_by loan control_loan n (Some taken.definition) t m ≡ None
         → ((o : Opened) → LeavesOver control_loan loan before left (IsControlMade n serial) t o planned u o made)
         → (o : Opened) → LeavesOver control_loan loan before left (IsControlStep (New n) (Ok (reply.Made serial))) t o m u o made
@@ -149,11 +147,11 @@ module _ {V : Type 0} {H : V → Type 0} (loan : Taken V H → Loan) {W : Type 0
           ),
         )
 
-  same_self : (m : Controls (TakenControl W K)) → IsRoomier m m
+  same_self : (m : Controls (TakenBox W K)) → IsRoomier m m
   same_self m = record { controls = refl; next = refl; alloc = refl; room = omega arith }
 
   -- no definition of its kind was left
-  pub not_given_step : (n : NewControl) (t : WindowManager V H) (m : Controls (TakenControl W K)) (bytes : List ℕ) (before back : List ControlSlot) (why e : Refusal) → bytes ≡ n.kind → why ≡ NoDefinition
+  pub not_given_step : (n : NewControl) (t : WindowManager V H) (m : Controls (TakenBox W K)) (bytes : List ℕ) (before back : List ControlSlot) (why e : Refusal) → bytes ≡ n.kind → why ≡ NoDefinition
       → IsNotTaken (λ (d : ControlDefinition). d.stage) bytes before why
       → first_refusal (judged_refusals n None (desk_of loan t []) (records_of control_loan m) m.list.next ++ (true, NoDefinition) ∷ []) ≡ Some e → back ≡ before
       → (o : Opened) → LeavesOver control_loan loan before back (IsControlStep (New n) (Err e)) t o m t o m

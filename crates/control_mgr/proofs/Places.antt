@@ -10,10 +10,9 @@ use Rattle.control_mgr.specs.declared.control.Control.{Control}
 use Rattle.control_mgr.specs.Seen.{all_seen, kept_seen, seen}
 use Rattle.window_items.proofs.SeenLemmas.{length-seen, slice_get-seen}
 use Rattle.window_items.proofs.WindowLemmas.{found_in, position_there, slice_get-items_of}
-use Rattle.def_iface.specs.declared.taken.Taken.{Taken}
-use Rattle.def_iface.specs.declared.taken_control.TakenControl.{TakenControl}
+use Rattle.def_iface.specs.Slots.{TakenBox}
 use Rattle.def_iface.specs.ControlMeaning.{ControlLoan}
-use Rattle.def_iface.specs.Meaning.{Loan}
+use Rattle.def_iface.specs.WindowMeaning.{WindowLoan}
 use Rattle.def_iface.specs.Stocked.{SlotView}
 use Rattle.window_list.specs.declared.layer.Layer.{Layer}
 use Rattle.desk_call.specs.declared.control.ControlOf.{ControlOf}
@@ -62,7 +61,7 @@ get_is (y ∷ ys) (suc i) x low e = get_is ys i x (omega arith) e
 
 -- ---- windows
 
-module _ {V : Type 0} {H : V → Type 0} (loan : Taken V H → Loan) where
+module _ {V : Type 0} {H : V → Type 0} (loan : TakenBox V H → WindowLoan) where
   -- what holds of each window's record holds of that of the window at a place
   pub at_window : (P : WindowRecord → Type 0) (ws : List (Window V H)) (i : ℕ) (w : Window V H) → i < length ws → IsWindowAt ws i w → All P (map (record_of loan) ws) → P (record_of loan w)
   at_window P [] i w low e h = absurd (omega arith)
@@ -92,13 +91,13 @@ found_names window serial at cs c found there =
 
 -- ---- a control as the code reads it
 
-module _ {W : Type 0} {K : W → Type 0} (control_loan : TakenControl W K → ControlLoan) where
-  pub record_read : (xs : List (Item (Control (TakenControl W K)))) (at : ℕ) (x : Item (Control (TakenControl W K))) → at < length xs → x ≡ get_or xs at x → slice_get (all_seen control_loan xs) at ≡ Some (seen control_loan x)
+module _ {W : Type 0} {K : W → Type 0} (control_loan : TakenBox W K → ControlLoan) where
+  pub record_read : (xs : List (Item (Control (TakenBox W K)))) (at : ℕ) (x : Item (Control (TakenBox W K))) → at < length xs → x ≡ get_or xs at x → slice_get (all_seen control_loan xs) at ≡ Some (seen control_loan x)
   record_read xs at x low e = slice_get-seen (kept_seen control_loan) xs at ∙ ap (λ o. option_map (seen control_loan) o) (get_is xs at x low e)
 
 -- what is known of a control that stands here
-module _ {V : Type 0} {H : V → Type 0} (loan : Taken V H → Loan) {W : Type 0} {K : W → Type 0} (control_loan : TakenControl W K → ControlLoan)
-    (c : ControlOf) (t : WindowManager V H) (m : Controls (TakenControl W K)) (s : ControlAt) (is : IsSpotOf loan control_loan c t m s) where
+module _ {V : Type 0} {H : V → Type 0} (loan : TakenBox V H → WindowLoan) {W : Type 0} {K : W → Type 0} (control_loan : TakenBox W K → ControlLoan)
+    (c : ControlOf) (t : WindowManager V H) (m : Controls (TakenBox W K)) (s : ControlAt) (is : IsSpotOf loan control_loan c t m s) where
   abbrev cs : List ControlRecord
   cs = records_of control_loan m
 

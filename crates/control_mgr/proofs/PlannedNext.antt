@@ -10,13 +10,12 @@ use Rattle.tb_geom.specs.Pixels.{Pixels}
 use Rattle.window_items.specs.Items.{are_before, items_of, count_of, has_serial, serial_after}
 use Rattle.window_items.proofs.SeenLemmas.{length-seen}
 use Rattle.window_items.proofs.WindowLemmas.{count_of-push}
-use Rattle.def_iface.specs.declared.part.Part.{Part}
-use Rattle.def_iface.specs.declared.part.Part.TheVariants as part
-use Rattle.def_iface.specs.declared.taken.Taken.{Taken}
-use Rattle.def_iface.specs.declared.taken_control.TakenControl.{TakenControl}
+use Rattle.desk_layers.specs.declared.part.Part.{Part}
+use Rattle.desk_layers.specs.declared.part.Part.TheVariants as part
+use Rattle.def_iface.specs.Slots.{TakenBox}
 use Rattle.def_iface.specs.ControlMeaning.{ControlDefinition, ControlLoan}
-use Rattle.def_iface.specs.Desk.{same_part}
-use Rattle.def_iface.specs.Meaning.{Loan}
+use Rattle.desk_layers.specs.Desk.{same_part}
+use Rattle.def_iface.specs.WindowMeaning.{WindowLoan}
 use Rattle.window_list.specs.declared.layer.Layer.{Layer}
 use Rattle.window_list.specs.Holders.{ArePartsApart, PlacedLayers}
 use Rattle.desk_call.specs.declared.control.ControlOf.{ControlOf}
@@ -30,6 +29,7 @@ use Rattle.window_mgr.specs.Records.{desk_of}
 use Rattle.window_mgr.specs.Relayered.{AreLayersPut}
 use Rattle.window_paint.specs.White.{all_white}
 use Rattle.window_mgr.proofs.Contents as contents
+use Rattle.window_items.proofs.SerialLemmas.{none_in_window}
 use Rattle.control_mgr.specs.declared.controls.Controls.{Controls}
 use Rattle.control_mgr.specs.declared.ending.Ending.{Ending}
 use Rattle.control_mgr.specs.declared.making.Addition.{Addition}
@@ -41,7 +41,7 @@ use Rattle.control_mgr.specs.Judged.{may_be_placed}
 use Rattle.control_mgr.specs.Making.{IsGrown, IsReadyToAdd, IsTicket, IsTicketAfter, MayGrow}
 use Rattle.control_mgr.specs.Planned.{IsLaidSo}
 use Rattle.control_mgr.specs.WholeControls.{AreBeside, AreWholeControls, LeavesOver, control_desk, controls_state, records_of}
-use Rattle.control_mgr.proofs.Added.{its, may_grow, none_in_window, others_named}
+use Rattle.control_mgr.proofs.Added.{its, may_grow, others_named}
 use Rattle.control_mgr.proofs.LaidSo.{laid_put, stands_put}
 use Rattle.control_mgr.proofs.LayerIn.{all_with}
 use Rattle.control_mgr.specs.Seen.{kept_seen}
@@ -67,8 +67,8 @@ none_later n s (c ∷ cs) e le =
 
 -- ---- what a step leaves
 
-module _ {V : Type 0} {H : V → Type 0} (loan : Taken V H → Loan) {W : Type 0} {K : W → Type 0} (control_loan : TakenControl W K → ControlLoan) where
-  module _ (step : ControlDesk → ControlDesk → Type 0) (stock left : List ControlSlot) (t u : WindowManager V H) (o r : Opened) (m n : Controls (TakenControl W K))
+module _ {V : Type 0} {H : V → Type 0} (loan : TakenBox V H → WindowLoan) {W : Type 0} {K : W → Type 0} (control_loan : TakenBox W K → ControlLoan) where
+  module _ (step : ControlDesk → ControlDesk → Type 0) (stock left : List ControlSlot) (t u : WindowManager V H) (o r : Opened) (m n : Controls (TakenBox W K))
       (leaves : LeavesOver control_loan loan stock left step t o m u r n) (kept : IsKept loan t) (whole : AreWholeControls (desk_of loan t []).windows (controls_state control_loan m stock)) where
     -- the windows are whole still, and the controls beside them
     pub left_kept : IsKept loan u
@@ -87,7 +87,7 @@ module _ {V : Type 0} {H : V → Type 0} (loan : Taken V H → Loan) {W : Type 0
   -- ---- a control behind one that is to be added
 
   -- it may be planned over the layers that the plan of that one leaves
-  pub may_grow_after : (n : NewControl) (d : ControlDefinition) (t : WindowManager V H) (m : Controls (TakenControl W K)) (k : Ticket) → IsKept loan t → AreBeside control_loan loan t m → IsTicket control_loan n (Some d) t m k
+  pub may_grow_after : (n : NewControl) (d : ControlDefinition) (t : WindowManager V H) (m : Controls (TakenBox W K)) (k : Ticket) → IsKept loan t → AreBeside control_loan loan t m → IsTicket control_loan n (Some d) t m k
       → (w : Window V H) → IsWindowAt t.windows.records.items k.window w → (a : Addition) → IsGrown n d k w.layers a
       → (next : NewControl) (e : ControlDefinition) (l : Ticket) → IsTicketAfter k w.layers.place next (Some e) l → MayGrow next e l a.layers
   may_grow_after n d t m k kept beside ticket w lies a grown next e l after =
@@ -108,8 +108,8 @@ module _ {V : Type 0} {H : V → Type 0} (loan : Taken V H → Loan) {W : Type 0
         placed = ap (λ (x : PlacedLayers). may_be_placed (Some e) next.place next.size x.place) grown.layers ∙ after.placed;
       }
 
-  module _ (n : NewControl) (d : ControlDefinition) (k : Ticket) (ls : PlacedLayers) (update : Pixels) (t u : WindowManager V H) (m : Controls (TakenControl W K)) (ready : IsReadyToAdd loan control_loan n d k ls update t u m)
-      (a : Addition) (grown : IsGrown n d k ls a) (stock left : List ControlSlot) (o r : Opened) (v : WindowManager V H) (m' : Controls (TakenControl W K))
+  module _ (n : NewControl) (d : ControlDefinition) (k : Ticket) (ls : PlacedLayers) (update : Pixels) (t u : WindowManager V H) (m : Controls (TakenBox W K)) (ready : IsReadyToAdd loan control_loan n d k ls update t u m)
+      (a : Addition) (grown : IsGrown n d k ls a) (stock left : List ControlSlot) (o r : Opened) (v : WindowManager V H) (m' : Controls (TakenBox W K))
       (made : LeavesOver control_loan loan stock left (IsControlMade n a.ticket.serial) u o m v r m') (whole : AreWholeControls (desk_of loan u []).windows (controls_state control_loan m stock))
       (put : AreLayersPut a.ticket.window a.layers a.relaying.update u v) where
     abbrev kept : IsKept loan u
@@ -166,7 +166,7 @@ module _ {V : Type 0} {H : V → Type 0} (loan : Taken V H → Loan) {W : Type 0
 
   -- ---- a control that is to be ended after another change of its window's layers
 
-  pub ending_after : (c : ControlOf) (at : ℕ) (was layers : PlacedLayers) (before update : Pixels) (t u v : WindowManager V H) (m : Controls (TakenControl W K)) → IsLaidSo loan at was before t u → AreLayersPut at layers update u v
+  pub ending_after : (c : ControlOf) (at : ℕ) (was layers : PlacedLayers) (before update : Pixels) (t u v : WindowManager V H) (m : Controls (TakenBox W K)) → IsLaidSo loan at was before t u → AreLayersPut at layers update u v
       → IsKept loan v → AreBeside control_loan loan v m → StandsAt u.windows.records.items c.window at → IsReadyToEnd loan control_loan c at layers update t v m
   ending_after c at was layers before update t u v m laid put held beside stands = record {
     laid = laid_put loan at was layers before update t u v laid put held;
@@ -175,7 +175,7 @@ module _ {V : Type 0} {H : V → Type 0} (loan : Taken V H → Loan) {W : Type 0
   }
 
   -- after another control was ended that had to, if it was there
-  pub ending_left : (c : ControlOf) (at n : ℕ) (ls : PlacedLayers) (update : Pixels) (t u v : WindowManager V H) (m m' : Controls (TakenControl W K)) (planned : Option Ending) → IsReadyToEnd loan control_loan c at ls update t u m
+  pub ending_left : (c : ControlOf) (at n : ℕ) (ls : PlacedLayers) (update : Pixels) (t u v : WindowManager V H) (m m' : Controls (TakenBox W K)) (planned : Option Ending) → IsReadyToEnd loan control_loan c at ls update t u m
       → IfSome planned (IsTakenOut at n ls) → IsPutIfPlanned planned u v → IsKept loan v → AreBeside control_loan loan v m' → IsReadyToEnd loan control_loan c at (layers_left planned ls) (update_left planned update) t v m'
   ending_left c at n ls update t u v m m' None ready out put held beside = record {
     laid = subst (IsLaidSo loan at ls update t) (sym put) ready.laid;

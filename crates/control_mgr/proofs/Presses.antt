@@ -14,10 +14,9 @@ use Rattle.control_values.specs.Parts.{number_of}
 use Rattle.window_items.specs.Items.{is_item, with_kept}
 use Rattle.control_mgr.specs.Fields.{with_highlight}
 use Rattle.window_items.proofs.WindowLemmas.{item_index-edit_at, position_there}
-use Rattle.def_iface.specs.declared.taken.Taken.{Taken}
-use Rattle.def_iface.specs.declared.taken_control.TakenControl.{TakenControl}
+use Rattle.def_iface.specs.Slots.{TakenBox}
 use Rattle.def_iface.specs.ControlMeaning.{ControlLoan}
-use Rattle.def_iface.specs.Meaning.{Loan}
+use Rattle.def_iface.specs.WindowMeaning.{WindowLoan}
 use Rattle.desk_call.specs.declared.activity.Activity.{Activity}
 use Rattle.desk_call.specs.declared.activity.Activity.TheVariants.{Idle, TrackingControl}
 use Rattle.desk_call.specs.declared.activity.TrackedControl.{TrackedControl}
@@ -59,12 +58,12 @@ near p e = one_fails (not (in_plane p)) OutOfRange (ap not e)
 pub released_agrees : (k : TrackedControl) (p : Point) (part : Option ControlPart) (was is : State) (x : ControlRecord) → was ≡ state_of_control x → is.values ≡ released_setting k p part x → is.highlight ≡ highlight_after k.part was.highlight → is.title ≡ was.title → with_state is x ≡ released k p part x
 released_agrees tracked p part was is x e v h t = λ i. with_kept (λ k. record k { values = v i; highlight = (h ∙ ap (λ (y : State). highlight_after tracked.part y.highlight) e) i; title = (t ∙ ap (λ (y : State). y.title) e) i }) x
 
-module _ {V : Type 0} {H : V → Type 0} (loan : Taken V H → Loan) {W : Type 0} {K : W → Type 0} (control_loan : TakenControl W K → ControlLoan) where
+module _ {V : Type 0} {H : V → Type 0} (loan : TakenBox V H → WindowLoan) {W : Type 0} {K : W → Type 0} (control_loan : TakenBox W K → ControlLoan) where
   -- ---- controls shown anew
 
-  module _ (c : ControlOf) (t : WindowManager V H) (m : Controls (TakenControl W K)) (s : ControlAt) (is : IsSpotOf loan control_loan c t m s) where
+  module _ (c : ControlOf) (t : WindowManager V H) (m : Controls (TakenBox W K)) (s : ControlAt) (is : IsSpotOf loan control_loan c t m s) where
     -- by another change that agrees where it is made
-    pub leaves_alike : (f g : ControlRecord → ControlRecord) (u : WindowManager V H) (n : Controls (TakenControl W K)) (o r : Opened)
+    pub leaves_alike : (f g : ControlRecord → ControlRecord) (u : WindowManager V H) (n : Controls (TakenBox W K)) (o r : Opened)
         → ((x : ControlRecord) → slice_get (records_of control_loan m) s.control ≡ Some x → f x ≡ g x)
         → LeavesControls control_loan loan (IsPut c f) t o m u r n → LeavesControls control_loan loan (IsPut c g) t o m u r n
     leaves_alike f g u n o r agrees leaves kept others slots whole controls =
@@ -72,7 +71,7 @@ module _ {V : Type 0} {H : V → Type 0} (loan : Taken V H → Loan) {W : Type 0
         (l.0, l.1, put_alike c f g (control_desk control_loan loan others t o slots m kept) (control_desk control_loan loan others u r slots n kept) s.control is.control agrees l.2)
 
     -- the state with another highlighting
-    pub highlighted : (h : ℕ) (was now : State) (u : WindowManager V H) (n : Controls (TakenControl W K)) (o r : Opened) → IfSome (slice_get (records_of control_loan m) s.control) (λ x. was ≡ state_of_control x)
+    pub highlighted : (h : ℕ) (was now : State) (u : WindowManager V H) (n : Controls (TakenBox W K)) (o r : Opened) → IfSome (slice_get (records_of control_loan m) s.control) (λ x. was ≡ state_of_control x)
         → now ≡ record was { highlight = h } → LeavesControls control_loan loan (IsPut c (with_state now)) t o m u r n → LeavesControls control_loan loan (IsPut c (with_highlight h)) t o m u r n
     highlighted h was now u n o r read is_now leaves =
         leaves_alike (with_state now) (with_highlight h) u n o r
@@ -95,24 +94,24 @@ module _ {V : Type 0} {H : V → Type 0} (loan : Taken V H → Loan) {W : Type 0
       ∙ item_index-edit_at (retold f put.changed.changed.definition) windows serials k.window k.control put.changed.at before.controls.controls
 
   -- so over a step of windows and controls that are whole
-  pub index_left : (c k : ControlOf) (h : ℕ) (t u : WindowManager V H) (m n : Controls (TakenControl W K)) (o r : Opened) → IsKept loan t → AreBeside control_loan loan t m
+  pub index_left : (c k : ControlOf) (h : ℕ) (t u : WindowManager V H) (m n : Controls (TakenBox W K)) (o r : Opened) → IsKept loan t → AreBeside control_loan loan t m
       → LeavesControls control_loan loan (IsPut c (with_highlight h)) t o m u r n → index_of k (records_of control_loan n) ≡ index_of k (records_of control_loan m)
   index_left c k h t u m n o r kept beside leaves =
       index_kept c k (with_highlight h) (λ x. refl) (λ x. refl) (control_desk control_loan loan (λ font. all_white) t o kept.slots m beside.slots) (control_desk control_loan loan (λ font. all_white) u r kept.slots n beside.slots)
       (leaves beside.slots (λ font. all_white) kept.slots kept.whole beside.whole).2
 
   -- a control of which a thumb is tracked is left alone, and another is highlighted
-  pub left_alone : (c : ControlOf) (h : ℕ) (t : WindowManager V H) (m : Controls (TakenControl W K)) (o r : Opened) (b : Bool) → b ≡ true → (thumb : Bool) → thumb ≡ b → LeavesControls control_loan loan (IsWhereRight (IsHighlighted thumb c h)) t o m t r m
+  pub left_alone : (c : ControlOf) (h : ℕ) (t : WindowManager V H) (m : Controls (TakenBox W K)) (o r : Opened) (b : Bool) → b ≡ true → (thumb : Bool) → thumb ≡ b → LeavesControls control_loan loan (IsWhereRight (IsHighlighted thumb c h)) t o m t r m
   left_alone c h t m o r b is thumb e = subst (λ x. LeavesControls control_loan loan (IsWhereRight (IsHighlighted x c h)) t o m t r m) (sym (e ∙ is)) (λ kept others slots whole controls. (whole, controls, λ right. record { windows = refl; controls = refl; others = refl }))
 
-  pub shown_so : (c : ControlOf) (h : ℕ) (t u : WindowManager V H) (m n : Controls (TakenControl W K)) (o r : Opened) (b : Bool) → b ≡ false → (thumb : Bool) → thumb ≡ b → LeavesControls control_loan loan (IsPut c (with_highlight h)) t o m u r n
+  pub shown_so : (c : ControlOf) (h : ℕ) (t u : WindowManager V H) (m n : Controls (TakenBox W K)) (o r : Opened) (b : Bool) → b ≡ false → (thumb : Bool) → thumb ≡ b → LeavesControls control_loan loan (IsPut c (with_highlight h)) t o m u r n
       → LeavesControls control_loan loan (IsWhereRight (IsHighlighted thumb c h)) t o m u r n
   shown_so c h t u m n o r b is thumb e leaves = subst (λ x. LeavesControls control_loan loan (IsWhereRight (IsHighlighted x c h)) t o m u r n) (sym (e ∙ is))
       (λ kept others slots whole controls. let l = leaves kept others slots whole controls in (l.0, l.1, l.2.shown))
 
   -- ---- the button is pressed
 
-  pub tracked_step : (p : PointAtControl) (part : Option ControlPart) (t u : WindowManager V H) (m n : Controls (TakenControl W K)) (s : ControlAt) (o r : Opened) → IsSpotOf loan control_loan p.control t m s → in_plane p.point ≡ true
+  pub tracked_step : (p : PointAtControl) (part : Option ControlPart) (t u : WindowManager V H) (m n : Controls (TakenBox W K)) (s : ControlAt) (o r : Opened) → IsSpotOf loan control_loan p.control t m s → in_plane p.point ≡ true
       → tested p.control (records_of control_loan m) p.point ≡ part → LeavesControls control_loan loan (IsWhereRight (IsTracked p part)) t o m u r n → LeavesControls control_loan loan (IsWhereRight (IsControlStep (Track p) (Ok (Part part)))) t o m u r n
   tracked_step p part t u m n s o r is on is_part leaves kept others slots whole controls =
       let l = leaves kept others slots whole controls in (
@@ -125,11 +124,11 @@ module _ {V : Type 0} {H : V → Type 0} (loan : Taken V H → Loan) {W : Type 0
       )
 
   -- on no part
-  pub pressed_on_none : (p : PointAtControl) (t : WindowManager V H) (m : Controls (TakenControl W K)) (o : Opened) → LeavesControls control_loan loan (IsWhereRight (IsTracked p None)) t o m t o m
+  pub pressed_on_none : (p : PointAtControl) (t : WindowManager V H) (m : Controls (TakenBox W K)) (o : Opened) → LeavesControls control_loan loan (IsWhereRight (IsTracked p None)) t o m t o m
   pressed_on_none p t m o kept others slots whole controls = (whole, controls, λ right. unchanged loan control_loan others t o slots m kept)
 
   -- on a part, which is tracked then
-  pub pressed_on : (p : PointAtControl) (part : ControlPart) (t u : WindowManager V H) (m n : Controls (TakenControl W K)) (was : Activity) (begun : PixelSet) (h : ℕ) → h ≡ number_of part
+  pub pressed_on : (p : PointAtControl) (part : ControlPart) (t u : WindowManager V H) (m n : Controls (TakenBox W K)) (was : Activity) (begun : PixelSet) (h : ℕ) → h ≡ number_of part
       → ((o r : Opened) → LeavesControls control_loan loan (IsWhereRight (IsHighlighted (is_thumb part) p.control h)) t o m u r n)
       → LeavesControls control_loan loan (IsWhereRight (IsTracked p (Some part))) t (opened was begun) m u (opened (TrackingControl (record { control = p.control; part = part; from = p.point })) begun) n
   pressed_on p part t u m n was begun h is leaves kept others slots whole controls =
@@ -147,7 +146,7 @@ module _ {V : Type 0} {H : V → Type 0} (loan : Taken V H → Loan) {W : Type 0
   -- ---- a control that is there, as one that is tracked
 
   -- its window is there
-  pub window_there : (c : ControlOf) (t : WindowManager V H) (m : Controls (TakenControl W K)) (o : Option ℕ) → index_of c (records_of control_loan m) ≡ o → is_none o ≡ false → AreBeside control_loan loan t m → is_missing c.window (desk_of loan t []).windows ≡ false
+  pub window_there : (c : ControlOf) (t : WindowManager V H) (m : Controls (TakenBox W K)) (o : Option ℕ) → index_of c (records_of control_loan m) ≡ o → is_none o ≡ false → AreBeside control_loan loan t m → is_missing c.window (desk_of loan t []).windows ≡ false
   window_there c t m None e there beside = absurd (false≢true (sym there))
   window_there c t m (Some at) e there beside = by_item (slice_get (records_of control_loan m) at) refl
     where
@@ -161,7 +160,7 @@ module _ {V : Type 0} {H : V → Type 0} (loan : Taken V H → Loan) {W : Type 0
           none_there h r = false≢true (sym (ap (λ q. option_map_or (is_item c.window c.control) q false) r) ∙ subst (λ q. IfSome q (λ i. option_map_or (is_item c.window c.control) (slice_get (records_of control_loan m) i) false ≡ true)) e h)
 
   -- so one that is tracked is not missing
-  pub not_missing : (k : TrackedControl) (t : WindowManager V H) (m : Controls (TakenControl W K)) (e : Refusal) → IsTrackable (TrackingControl k) (records_of control_loan m) → AreBeside control_loan loan t m
+  pub not_missing : (k : TrackedControl) (t : WindowManager V H) (m : Controls (TakenBox W K)) (e : Refusal) → IsTrackable (TrackingControl k) (records_of control_loan m) → AreBeside control_loan loan t m
       → first_refusal (missing_refusals k.control (desk_of loan t []) (records_of control_loan m)) ≡ Some e → ⊥
   not_missing k t m e trackable beside why =
       no (sym (none_missing k.control (desk_of loan t []) (records_of control_loan m) (is_missing k.control.window (desk_of loan t []).windows) (is_none (index_of k.control (records_of control_loan m)))
@@ -172,7 +171,7 @@ module _ {V : Type 0} {H : V → Type 0} (loan : Taken V H → Loan) {W : Type 0
 
   -- ---- the mouse moves, and the button is released
 
-  pub stepped : (k : TrackedControl) (p : Point) (part : Option ControlPart) (t u : WindowManager V H) (m n : Controls (TakenControl W K)) (begun : PixelSet) (h : ℕ) → in_plane p ≡ true
+  pub stepped : (k : TrackedControl) (p : Point) (part : Option ControlPart) (t u : WindowManager V H) (m n : Controls (TakenBox W K)) (begun : PixelSet) (h : ℕ) → in_plane p ≡ true
       → part ≡ tracked_part k (control_of k.control (records_of control_loan m)) p → h ≡ highlight_of part
       → ((o r : Opened) → LeavesControls control_loan loan (IsWhereRight (IsHighlighted (is_thumb k.part) k.control h)) t o m u r n)
       → LeavesControls control_loan loan (IsWhereRight (IsControlStep (Step p) (Ok (Part part)))) t (opened (TrackingControl k) begun) m u (opened (TrackingControl k) begun) n
@@ -195,7 +194,7 @@ module _ {V : Type 0} {H : V → Type 0} (loan : Taken V H → Loan) {W : Type 0
         ),
       )
 
-  let_go : (k : TrackedControl) (p : Point) (part : Option ControlPart) (t u : WindowManager V H) (m n : Controls (TakenControl W K)) (begun : PixelSet) → in_plane p ≡ true
+  let_go : (k : TrackedControl) (p : Point) (part : Option ControlPart) (t u : WindowManager V H) (m n : Controls (TakenBox W K)) (begun : PixelSet) → in_plane p ≡ true
       → part ≡ tracked_part k (control_of k.control (records_of control_loan m)) p
       → LeavesControls control_loan loan (IsPut k.control (released k p part)) t (opened (TrackingControl k) begun) m u (opened Idle begun) n
       → LeavesControls control_loan loan (IsWhereRight (IsControlStep (End p) (Ok (Part part)))) t (opened (TrackingControl k) begun) m u (opened Idle begun) n
@@ -203,7 +202,7 @@ module _ {V : Type 0} {H : V → Type 0} (loan : Taken V H → Loan) {W : Type 0
       let l = leaves kept others slots whole controls in
       (l.0, l.1, λ right. (near p on, (part, refl, (is, record { activity = refl; begun = refl }, l.2.shown right))))
 
-  pub let_go_of : (k : TrackedControl) (p : Point) (part : Option ControlPart) (t u : WindowManager V H) (m n : Controls (TakenControl W K)) (begun : PixelSet) (was : Activity) → was ≡ TrackingControl k → in_plane p ≡ true
+  pub let_go_of : (k : TrackedControl) (p : Point) (part : Option ControlPart) (t u : WindowManager V H) (m n : Controls (TakenBox W K)) (begun : PixelSet) (was : Activity) → was ≡ TrackingControl k → in_plane p ≡ true
       → part ≡ tracked_part k (control_of k.control (records_of control_loan m)) p
       → ((o r : Opened) → LeavesControls control_loan loan (IsPut k.control (released k p part)) t o m u r n)
       → LeavesControls control_loan loan (IsWhereRight (IsControlStep (End p) (Ok (Part part)))) t (opened was begun) m u (opened Idle begun) n

@@ -8,14 +8,13 @@ use Rattle.control_mgr.specs.declared.control.Control.{Control}
 use Rattle.window_items.specs.Items.{edit_at, place_among, with_kept}
 use Rattle.control_mgr.specs.Seen.{all_seen, kept_seen}
 use Rattle.window_items.proofs.SeenLemmas.{edit_at-seen, length-seen, place_among-seen}
-use Rattle.def_iface.specs.declared.part.Part.{Part}
-use Rattle.def_iface.specs.declared.part.Part.TheVariants as part
-use Rattle.def_iface.specs.declared.taken.Taken.{Taken}
-use Rattle.def_iface.specs.declared.taken_control.TakenControl.{TakenControl}
+use Rattle.desk_layers.specs.declared.part.Part.{Part}
+use Rattle.desk_layers.specs.declared.part.Part.TheVariants as part
+use Rattle.def_iface.specs.Slots.{TakenBox}
 use Rattle.def_iface.specs.ControlMeaning.{ControlLoan, IsControlBegun}
-use Rattle.def_iface.specs.Meaning.{Loan}
+use Rattle.def_iface.specs.WindowMeaning.{WindowLoan}
 use Rattle.def_iface.specs.Stocked.{SlotView}
-use Rattle.def_iface.proofs.Owning.{same_number}
+use Rattle.desk_layers.proofs.Owning.{same_number}
 use Rattle.window_list.specs.declared.layer.Layer.{Layer}
 use Rattle.desk_call.specs.declared.control.ControlOf.{ControlOf}
 use Rattle.window_list.specs.declared.window.Window.{Window}
@@ -39,7 +38,7 @@ use Rattle.control_mgr.proofs.Settled.{changed_settled, retold, whole_put}
 use Rattle.control_mgr.proofs.Sound.{MayHave}
 use Rattle.control_mgr.proofs.Places.{IsThere, ItsLayer, layer_there, names, read_is, record_there, there_is, within}
 use Rattle.control_mgr.proofs.Reshown.{alone, redrawn_among}
-use Rattle.control_mgr.proofs.Serials.{with_there}
+use Rattle.window_items.proofs.SerialLemmas.{with_there}
 use Rattle.window_items.specs.declared.items.Items.{Items}
 use Rattle.window_items.specs.Lends.{with_value}
 use Rattle.window_items.proofs.LentLemmas.{lent_and_written}
@@ -68,20 +67,20 @@ changed_then_told f keeps at xs ys zs is changed told = record {
     there : told.control ≡ f is.item
     there = same_item ys at (f is.item) told.control (ap (λ cs. slice_get cs at) changed ∙ there_edited f at xs is.item is.there) told.there
 
-module _ {W : Type 0} {K : W → Type 0} (control_loan : TakenControl W K → ControlLoan) where
+module _ {W : Type 0} {K : W → Type 0} (control_loan : TakenBox W K → ControlLoan) where
   -- what is kept of a control of this state
-  abbrev of_state : State → Control (TakenControl W K) → Control (TakenControl W K)
+  abbrev of_state : State → Control (TakenBox W K) → Control (TakenBox W K)
   of_state s k = record k { values = s.values; highlight = s.highlight; title = s.title }
 
   -- a control that was lent is given a state
-  pub state_set : (s : State) (at : ℕ) (cs : Items (Control (TakenControl W K))) (k : Control (TakenControl W K)) → IfSome (slice_get cs.items.items at) (λ c. k ≡ c.kept)
+  pub state_set : (s : State) (at : ℕ) (cs : Items (Control (TakenBox W K))) (k : Control (TakenBox W K)) → IfSome (slice_get cs.items.items at) (λ c. k ≡ c.kept)
       → all_seen control_loan (with_value cs at (of_state s k)).items.items ≡ edit_at (with_state s) at (all_seen control_loan cs.items.items)
   state_set s at cs k lent =
       ap (all_seen control_loan) (lent_and_written (of_state s) cs at k lent)
       ∙ edit_at-seen (kept_seen control_loan) (with_kept (of_state s)) (with_state s) (λ c. refl) at cs.items.items
 
   -- a control that was given a state, and its definition told of it
-  pub state_changed : (s : State) (at : ℕ) (m n : Controls (TakenControl W K)) (ds : List (Item (Control (TakenControl W K)))) → at < length m.list.items.items
+  pub state_changed : (s : State) (at : ℕ) (m n : Controls (TakenBox W K)) (ds : List (Item (Control (TakenBox W K)))) → at < length m.list.items.items
       → all_seen control_loan ds ≡ edit_at (with_state s) at (records_of control_loan m) → IsChangedAt (λ c. c) at (all_seen control_loan ds) (records_of control_loan n)
       → IsChangedAt (with_state s) at (records_of control_loan m) (records_of control_loan n)
   state_changed s at m n ds low set told =
@@ -89,7 +88,7 @@ module _ {W : Type 0} {K : W → Type 0} (control_loan : TakenControl W K → Co
       (there_is (records_of control_loan m) at (subst (λ k. at < k) (sym (length-seen (kept_seen control_loan) m.list.items.items)) low)) set told
 
   -- its definition can be told of it
-  pub state_tellable : (s : State) (at : ℕ) (m : Controls (TakenControl W K)) (ds : List (Item (Control (TakenControl W K)))) → at < length m.list.items.items → AreSettled (records_of control_loan m)
+  pub state_tellable : (s : State) (at : ℕ) (m : Controls (TakenBox W K)) (ds : List (Item (Control (TakenBox W K)))) → at < length m.list.items.items → AreSettled (records_of control_loan m)
       → all_seen control_loan ds ≡ edit_at (with_state s) at (records_of control_loan m) → IfSome (slice_get (all_seen control_loan ds) at) IsTellable
   state_tellable s at m ds low settled set =
       let was = there_is (records_of control_loan m) at (subst (λ k. at < k) (sym (length-seen (kept_seen control_loan) m.list.items.items)) low) in
@@ -98,7 +97,7 @@ module _ {W : Type 0} {K : W → Type 0} (control_loan : TakenControl W K → Co
       (record { live = its.live; fits = its.fits })
 
   -- the damage that it answers is that of the change
-  pub state_damaged : (s : State) (at : ℕ) (m n : Controls (TakenControl W K)) (ds : List (Item (Control (TakenControl W K)))) (damage : Rect)
+  pub state_damaged : (s : State) (at : ℕ) (m n : Controls (TakenBox W K)) (ds : List (Item (Control (TakenBox W K)))) (damage : Rect)
       → all_seen control_loan ds ≡ edit_at (with_state s) at (records_of control_loan m) → IsDamageAt damage at (all_seen control_loan ds) (records_of control_loan n)
       → (c d : ControlRecord) → slice_get (records_of control_loan m) at ≡ Some c → slice_get (records_of control_loan n) at ≡ Some d → IsDamageOf damage c d
   state_damaged s at m n ds damage set damaged c d there then =
@@ -107,15 +106,15 @@ module _ {W : Type 0} {K : W → Type 0} (control_loan : TakenControl W K → Co
       (ap (λ cs. slice_get cs at) set ∙ there_edited (with_state s) at (records_of control_loan m) c there) damaged)
 
   -- and then all are settled
-  pub state_settled : (s : State) → MayHave s → (at : ℕ) (m n : Controls (TakenControl W K)) → AreSettled (records_of control_loan m)
+  pub state_settled : (s : State) → MayHave s → (at : ℕ) (m n : Controls (TakenBox W K)) → AreSettled (records_of control_loan m)
       → IsChangedAt (with_state s) at (records_of control_loan m) (records_of control_loan n) → AreSettled (records_of control_loan n)
   state_settled s may at m n settled changed =
       changed_settled (with_state s) at (records_of control_loan m) (records_of control_loan n) settled
       (λ c e. let its : IsSettledControl c = All-there IsSettledControl at (records_of control_loan m) c e settled in record { placed = its.placed; fits = its.fits; inside = its.inside; setting = may.setting; highlight = may.highlight }) changed
 
-  module _ {V : Type 0} {H : V → Type 0} (loan : Taken V H → Loan) where
+  module _ {V : Type 0} {H : V → Type 0} (loan : TakenBox V H → WindowLoan) where
     -- its layer is there
-    pub layer_low : (t : WindowManager V H) (m : Controls (TakenControl W K)) (spot : ControlAt) → IsSpot loan control_loan t m spot → AreBeside control_loan loan t m
+    pub layer_low : (t : WindowManager V H) (m : Controls (TakenBox W K)) (spot : ControlAt) → IsSpot loan control_loan t m spot → AreBeside control_loan loan t m
         → (w : Window V H) → IsWindowAt t.windows.records.items spot.window w → place_among spot.control m.list.items.items < length w.layers.layers
     layer_low t m spot is beside w lies =
         let its = layer_there loan control_loan is.of t m spot is.is w lies beside.whole.joined in
@@ -127,7 +126,7 @@ module _ {W : Type 0} {K : W → Type 0} (control_loan : TakenControl W K → Co
         → (was : List ℕ → Part → PixelSet) (slots : List SlotView) → IsWholeManager loan t slots
         → IsWholeManager loan u slots × IsLayerDrawnWithin damage w.serial l (state_showing was (state_of loan t slots)) (state_showing shows (state_of loan u slots))
 
-    pub put_shown : (c : ControlOf) (s : State) → MayHave s → (t u : WindowManager V H) (m n : Controls (TakenControl W K)) (spot : ControlAt) → IsSpotOf loan control_loan c t m spot
+    pub put_shown : (c : ControlOf) (s : State) → MayHave s → (t u : WindowManager V H) (m n : Controls (TakenBox W K)) (spot : ControlAt) → IsSpotOf loan control_loan c t m spot
         → IsChangedAt (with_state s) spot.control (records_of control_loan m) (records_of control_loan n) → n.list.next ≡ m.list.next
         → (index : ℕ) → index ≡ place_among spot.control m.list.items.items → (damage : Rect) → ((x y : ControlRecord) → slice_get (records_of control_loan m) spot.control ≡ Some x → slice_get (records_of control_loan n) spot.control ≡ Some y → IsDamageOf damage x y)
         → IsDrawnFor damage spot.window index (alone (records_of control_loan n)) t u

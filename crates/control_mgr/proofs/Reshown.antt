@@ -3,15 +3,15 @@ use Rattle.std.proofs.Common.{◌≡◌, ℕ, ◌==◌, Bool, true, false, not, 
 use Rattle.std.proofs.lemmas.Bool.{false≢true}
 use Rattle.tb_geom.specs.declared.point.Point.{Point}
 use Rattle.tb_geom.specs.Points.{PixelSet, minus}
-use Rattle.def_iface.specs.declared.part.Part.{Part}
-use Rattle.def_iface.specs.declared.part.Part.TheVariants as part
-use Rattle.def_iface.specs.Change as plain
-use Rattle.def_iface.specs.Desk as layers
-use Rattle.def_iface.specs.Owner.{Owner, content_bit, is_content, layer_bit, owner, own_bit}
-use Rattle.def_iface.specs.Owner.Owner.{Content}
-use Rattle.def_iface.specs.Scratch.{scratch}
-use Rattle.def_iface.proofs.Owning.{same_owner-true, same_part-true}
-use Rattle.def_iface.proofs.Painting.{scratch_is_owners}
+use Rattle.desk_layers.specs.declared.part.Part.{Part}
+use Rattle.desk_layers.specs.declared.part.Part.TheVariants as part
+use Rattle.desk_layers.specs.Change as plain
+use Rattle.desk_layers.specs.Desk as layers
+use Rattle.desk_layers.specs.Owner.{Owner, content_bit, is_content, layer_bit, owner, own_bit}
+use Rattle.desk_layers.specs.Owner.Owner.{Content}
+use Rattle.desk_layers.specs.Scratch.{scratch}
+use Rattle.desk_layers.proofs.Owning.{same_owner-true, same_part-true}
+use Rattle.desk_layers.proofs.Painting.{scratch_is_owners}
 use Rattle.window_list.specs.declared.layer.Layer.{Layer}
 use Rattle.desk_call.specs.declared.update.LayerKind.TheVariants.{Controls}
 use Rattle.vis_update.specs.Records.{Look, WindowRecord, content_layer, layered_window, picture_layer}

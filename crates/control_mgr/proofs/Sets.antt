@@ -7,11 +7,10 @@ use Rattle.tb_geom.specs.Points.{PixelSet}
 use Rattle.tb_geom.specs.Refusals.{first_refusal}
 use Rattle.control_values.specs.Settings.{Setting, is_in_range}
 use Rattle.control_mgr.specs.Fields.{with_highlight, with_title, with_values}
-use Rattle.def_iface.specs.declared.part.Part.{Part}
-use Rattle.def_iface.specs.declared.taken.Taken.{Taken}
-use Rattle.def_iface.specs.declared.taken_control.TakenControl.{TakenControl}
+use Rattle.desk_layers.specs.declared.part.Part.{Part}
+use Rattle.def_iface.specs.Slots.{TakenBox}
 use Rattle.def_iface.specs.ControlMeaning.{ControlLoan}
-use Rattle.def_iface.specs.Meaning.{Loan}
+use Rattle.def_iface.specs.WindowMeaning.{WindowLoan}
 use Rattle.def_iface.specs.Stocked.{SlotView}
 use Rattle.desk_call.specs.declared.control.ControlCall.{ControlCall}
 use Rattle.desk_call.specs.declared.control.ControlOf.{ControlOf}
@@ -64,7 +63,7 @@ title_agrees n was is c e v h t = λ i. with_kept (λ k. record k {
 pub chosen : {X : Type 0} (b : Bool) (x y z : X) → z ≡ cond b x y → b ≡ true → z ≡ x
 chosen b x y z e h = e ∙ ap (λ t. cond t x y) h
 
-module _ {V : Type 0} {H : V → Type 0} (loan : Taken V H → Loan) {W : Type 0} {K : W → Type 0} (control_loan : TakenControl W K → ControlLoan) (c : ControlOf) (t : WindowManager V H) (m : Controls (TakenControl W K)) (s : ControlAt) (is : IsSpotOf loan control_loan c t m s) where
+module _ {V : Type 0} {H : V → Type 0} (loan : TakenBox V H → WindowLoan) {W : Type 0} {K : W → Type 0} (control_loan : TakenBox W K → ControlLoan) (c : ControlOf) (t : WindowManager V H) (m : Controls (TakenBox W K)) (s : ControlAt) (is : IsSpotOf loan control_loan c t m s) where
   -- the control that is named is the one that stands here
   pub named_here : control_of c (records_of control_loan m) ≡ Some (record_there loan control_loan c t m s is).item
   named_here = ap (λ o. option_and_then (slice_get (records_of control_loan m)) o) is.control ∙ (record_there loan control_loan c t m s is).there
@@ -97,7 +96,7 @@ module _ {V : Type 0} {H : V → Type 0} (loan : Taken V H → Loan) {W : Type 0
       ∙ ap (λ (x : State). is_in_range k && int_le x.values.minimum k) (sym (state_read was read (record_there loan control_loan c t m s is).item (record_there loan control_loan c t m s is).there))
 
   -- a control that was given a state was set so, where the state agrees
-  pub set_done : (u : WindowManager V H) (n : Controls (TakenControl W K)) (call : ControlCall) (f g : ControlRecord → ControlRecord) (o : Opened)
+  pub set_done : (u : WindowManager V H) (n : Controls (TakenBox W K)) (call : ControlCall) (f g : ControlRecord → ControlRecord) (o : Opened)
       → ((others : List ℕ → Part → PixelSet) (slots : List SlotView) (kept : List ControlSlot) → first_refusal (control_refusals call (desk_seen loan control_loan others t slots m) (controls_state control_loan m kept)) ≡ None)
       → ((x : ControlRecord) → slice_get (records_of control_loan m) s.control ≡ Some x → f x ≡ g x)
       → ((before after : ControlDesk) → IsSet c g Done before after → IsControlEffect call Done before after)

@@ -5,10 +5,9 @@ use Rattle.tb_geom.specs.declared.refusal.Refusal.{Refusal}
 use Rattle.tb_geom.specs.Refusals.{first_refusal}
 use Rattle.control_mgr.specs.Fields.{with_values}
 use Rattle.control_values.specs.Settings.{Setting}
-use Rattle.def_iface.specs.declared.taken.Taken.{Taken}
-use Rattle.def_iface.specs.declared.taken_control.TakenControl.{TakenControl}
+use Rattle.def_iface.specs.Slots.{TakenBox}
 use Rattle.def_iface.specs.ControlMeaning.{ControlLoan}
-use Rattle.def_iface.specs.Meaning.{Loan}
+use Rattle.def_iface.specs.WindowMeaning.{WindowLoan}
 use Rattle.desk_call.specs.declared.control.ControlOf.{ControlOf}
 use Rattle.window_mgr.specs.declared.manager.WindowManager.{WindowManager}
 use Rattle.window_mgr.specs.DeskStates.{Opened}
@@ -27,7 +26,7 @@ use Rattle.control_mgr.proofs.Presses.{leaves_alike, window_there}
 use Rattle.control_mgr.proofs.Sets.{state_of_control, state_read, values_agree}
 use Rattle.control_mgr.proofs.Steps.{none_missing}
 
-module _ {V : Type 0} {H : V → Type 0} (loan : Taken V H → Loan) {W : Type 0} {K : W → Type 0} (control_loan : TakenControl W K → ControlLoan) (c : ControlOf) (t : WindowManager V H) (m : Controls (TakenControl W K)) where
+module _ {V : Type 0} {H : V → Type 0} (loan : TakenBox V H → WindowLoan) {W : Type 0} {K : W → Type 0} (control_loan : TakenBox W K → ControlLoan) (c : ControlOf) (t : WindowManager V H) (m : Controls (TakenBox W K)) where
   -- where something is missing of it, it is not there
   pub none_there : (e : Refusal) → AreBeside control_loan loan t m → first_refusal (missing_refusals c (desk_of loan t []) (records_of control_loan m)) ≡ Some e → index_of c (records_of control_loan m) ≡ None
   none_there e beside why = by_index (index_of c (records_of control_loan m)) refl
@@ -55,7 +54,7 @@ module _ {V : Type 0} {H : V → Type 0} (loan : Taken V H → Loan) {W : Type 0
 
   -- else it has another state, with this setting
   pub setting_put : (setting : Setting) (s : ControlAt) → IsSpotOf loan control_loan c t m s → (was now : State) → IfSome (slice_get (records_of control_loan m) s.control) (λ x. was ≡ state_of_control x)
-      → now ≡ record was { values = setting } → (u : WindowManager V H) (n : Controls (TakenControl W K)) (o r : Opened) → LeavesControls control_loan loan (IsPut c (with_state now)) t o m u r n
+      → now ≡ record was { values = setting } → (u : WindowManager V H) (n : Controls (TakenBox W K)) (o r : Opened) → LeavesControls control_loan loan (IsPut c (with_state now)) t o m u r n
       → LeavesControls control_loan loan (IsSettingGiven c setting) t o m u r n
   setting_put setting s is was now read is_now u n o r leaves kept others slots whole controls =
       let l = leaves_alike loan control_loan c t m s is (with_state now) (with_values setting) u n o r

@@ -12,13 +12,12 @@ use Rattle.tb_geom.specs.Pixels.{Pixels, holds}
 use Rattle.window_items.specs.Items.{item_index, items_of, has_serial, is_item, place_among}
 use Rattle.window_items.proofs.SeenLemmas.{item_index-seen, length-seen, place_among-seen}
 use Rattle.window_items.proofs.WindowLemmas.{position-items_of, position_there}
-use Rattle.def_iface.specs.declared.part.Part.{Part}
-use Rattle.def_iface.specs.declared.part.Part.TheVariants as part
-use Rattle.def_iface.specs.declared.taken.Taken.{Taken}
-use Rattle.def_iface.specs.declared.taken_control.TakenControl.{TakenControl}
+use Rattle.desk_layers.specs.declared.part.Part.{Part}
+use Rattle.desk_layers.specs.declared.part.Part.TheVariants as part
+use Rattle.def_iface.specs.Slots.{TakenBox}
 use Rattle.def_iface.specs.ControlMeaning.{ControlLoan}
-use Rattle.def_iface.specs.Desk.{same_part}
-use Rattle.def_iface.specs.Meaning.{Loan}
+use Rattle.desk_layers.specs.Desk.{same_part}
+use Rattle.def_iface.specs.WindowMeaning.{WindowLoan}
 use Rattle.window_list.specs.declared.layer.Layer.{Layer}
 use Rattle.window_list.specs.declared.layers.Relaid.{Relaid}
 use Rattle.window_list.specs.LayerChanges.{is_gained}
@@ -85,8 +84,8 @@ found_low p cs at e = by_item (slice_get cs at) refl (subst (λ o. IfSome o (λ 
 
 -- ---- the plan without it
 
-module _ {V : Type 0} {H : V → Type 0} (loan : Taken V H → Loan) {W : Type 0} {K : W → Type 0} (control_loan : TakenControl W K → ControlLoan)
-    (c : ControlOf) (at : ℕ) (ls : PlacedLayers) (update : Pixels) (t u : WindowManager V H) (m : Controls (TakenControl W K)) (ready : IsReadyToEnd loan control_loan c at ls update t u m) where
+module _ {V : Type 0} {H : V → Type 0} (loan : TakenBox V H → WindowLoan) {W : Type 0} {K : W → Type 0} (control_loan : TakenBox W K → ControlLoan)
+    (c : ControlOf) (at : ℕ) (ls : PlacedLayers) (update : Pixels) (t u : WindowManager V H) (m : Controls (TakenBox W K)) (ready : IsReadyToEnd loan control_loan c at ls update t u m) where
   abbrev cs : List ControlRecord
   cs = records_of control_loan m
 
@@ -155,8 +154,8 @@ taken_out at n i ls layers r is low apart layers_are = record { window = refl; i
 
 -- ---- the control is found again
 
-module _ {V : Type 0} {H : V → Type 0} (loan : Taken V H → Loan) {W : Type 0} {K : W → Type 0} (control_loan : TakenControl W K → ControlLoan)
-    (c : ControlOf) (t : WindowManager V H) (m : Controls (TakenControl W K)) (e : Ending) (ending : IsEnding loan control_loan c t m e) where
+module _ {V : Type 0} {H : V → Type 0} (loan : TakenBox V H → WindowLoan) {W : Type 0} {K : W → Type 0} (control_loan : TakenBox W K → ControlLoan)
+    (c : ControlOf) (t : WindowManager V H) (m : Controls (TakenBox W K)) (e : Ending) (ending : IsEnding loan control_loan c t m e) where
   -- it is in the list
   pub found_again : (o : Option ℕ) → o ≡ item_index c.window c.control m.list.items.items → o ≡ Some ending.at
   found_again o is = is ∙ sym (item_index-seen (kept_seen control_loan) c.window c.control m.list.items.items) ∙ ending.spot.control

@@ -15,7 +15,7 @@ use Rattle.control_mgr.specs.Seen.{all_seen, kept_seen, seen}
 use Rattle.window_items.proofs.ListLemmas.{set_is_edit}
 use Rattle.window_items.proofs.SeenLemmas.{edit_at-seen}
 use Rattle.def_iface.specs.declared.size.Size.{Size}
-use Rattle.def_iface.specs.declared.taken_control.TakenControl.{TakenControl}
+use Rattle.def_iface.specs.Slots.{TakenBox}
 use Rattle.def_iface.specs.ControlMeaning.{ControlDefinition, ControlHears, ControlLoan, IsControlBegun, IsControlDamage}
 use Rattle.def_iface.specs.ControlNews.{no_control_news, told_all_of_control}
 use Rattle.control_mgr.specs.ControlDesks.{ControlRecord, news_of_control}
@@ -77,12 +77,12 @@ placed_damage c new damage box shared plane placed damaged box_is ranged boxed b
     damaged font there (inside_is_point box there ranged in_box)
     (sym (shared_is (rect_holds damage there) (rect_holds box there) in_box) ∙ sym (both there) ∙ outside_of)
 
-module _ {W : Type 0} {K : W → Type 0} (control_loan : TakenControl W K → ControlLoan) where
+module _ {W : Type 0} {K : W → Type 0} (control_loan : TakenBox W K → ControlLoan) where
   -- the control at a place, with another definition
-  abbrev with_definition : TakenControl W K → Item (Control (TakenControl W K)) → Item (Control (TakenControl W K))
+  abbrev with_definition : TakenBox W K → Item (Control (TakenBox W K)) → Item (Control (TakenBox W K))
   with_definition t x = with_kept (λ k. record k { definition = t }) x
 
-  pub told_at : (xs : List (Item (Control (TakenControl W K)))) (at : ℕ) (x : Item (Control (TakenControl W K))) (t : TakenControl W K) → at < length xs → x ≡ get_or xs at x
+  pub told_at : (xs : List (Item (Control (TakenBox W K)))) (at : ℕ) (x : Item (Control (TakenBox W K))) (t : TakenBox W K) → at < length xs → x ≡ get_or xs at x
       → IsControlBegun (news_of_control (seen control_loan x)) (control_loan x.kept.definition).definition (control_loan t).definition
       → (control_loan t).slot ≡ (control_loan x.kept.definition).slot
       → IsChangedAt (λ c. c) at (all_seen control_loan xs) (all_seen control_loan (set xs at (with_definition t x)))
@@ -103,7 +103,7 @@ module _ {W : Type 0} {K : W → Type 0} (control_loan : TakenControl W K → Co
       one : (cs : List ControlRecord) (at : ℕ) (c d : ControlRecord) → slice_get cs at ≡ Some c → slice_get cs at ≡ Some d → c ≡ d
       one cs at c d e f = cc
 
-  pub damaged_at : (xs : List (Item (Control (TakenControl W K)))) (at : ℕ) (x : Item (Control (TakenControl W K))) (t : TakenControl W K) (damage box shared plane placed : Rect) → at < length xs → x ≡ get_or xs at x
+  pub damaged_at : (xs : List (Item (Control (TakenBox W K)))) (at : ℕ) (x : Item (Control (TakenBox W K))) (t : TakenBox W K) (damage box shared plane placed : Rect) → at < length xs → x ≡ get_or xs at x
       → IsPictureDamage damage (λ font p. (control_loan x.kept.definition).definition.picture no_control_news font p) (λ font p. (control_loan t).definition.picture no_control_news font p)
       → box ≡ (control_loan x.kept.definition).definition.bounds x.kept.size → is_in_range box ≡ true → ((p : Point) → (control_loan x.kept.definition).definition.region x.kept.size p ≡ true → rect_holds box p ≡ true)
       → ((p : Point) → rect_holds shared p ≡ (rect_holds damage p && rect_holds box p)) → ((p : Point) → rect_holds plane p ≡ in_plane p)

@@ -6,7 +6,7 @@ use Rattle.control_values.specs.Settings.{Setting, settled}
 use Rattle.window_items.specs.declared.item.Item.{Item}
 use Rattle.control_mgr.specs.declared.control.Control.{Control}
 use Rattle.control_mgr.specs.Seen.{seen}
-use Rattle.def_iface.specs.declared.taken_control.TakenControl.{TakenControl}
+use Rattle.def_iface.specs.Slots.{TakenBox}
 use Rattle.def_iface.specs.ControlMeaning.{ControlLoan, is_fitting_control}
 use Rattle.desk_call.specs.declared.activity.TrackedControl.{TrackedControl}
 use Rattle.control_mgr.specs.declared.controls.Controls.{Controls}
@@ -20,7 +20,7 @@ use Rattle.window_items.proofs.EditLemmas.{All-there}
 
 -- ---- a control as the code reads it
 
-module _ {W : Type 0} {K : W → Type 0} (control_loan : TakenControl W K → ControlLoan) (m : Controls (TakenControl W K)) (at : ℕ) (x : Item (Control (TakenControl W K))) (low : at < length m.list.items.items) (read : x ≡ get_or m.list.items.items at x) where
+module _ {W : Type 0} {K : W → Type 0} (control_loan : TakenBox W K → ControlLoan) (m : Controls (TakenBox W K)) (at : ℕ) (x : Item (Control (TakenBox W K))) (low : at < length m.list.items.items) (read : x ≡ get_or m.list.items.items at x) where
   abbrev c : ControlRecord
   c = seen control_loan x
 

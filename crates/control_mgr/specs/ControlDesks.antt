@@ -1,16 +1,16 @@
 -- The controls of a desk as plain data, beside its windows, and what they show.
 use Rattle.std.specs.Prelude.{◌≡◌, ℕ, false, List, Option, None, Some, slice_get}
-use Rattle.std.specs.List.{position}
 use Rattle.std.specs.Option.{option_and_then}
 use Rattle.tb_geom.specs.Points.{PixelSet, minus}
-use Rattle.def_iface.specs.declared.part.Part.{Part}
-use Rattle.def_iface.specs.declared.part.Part.TheVariants as part
+use Rattle.desk_layers.specs.declared.part.Part.{Part}
+use Rattle.desk_layers.specs.declared.part.Part.TheVariants as part
 use Rattle.def_iface.specs.ControlMeaning.{ControlDefinition, ControlLoan}
 use Rattle.def_iface.specs.ControlNews.{AllControlNews, no_control_news}
 use Rattle.def_iface.specs.Slots.{SlotOf}
 use Rattle.window_items.specs.declared.item.Item.{Item}
 use Rattle.control_mgr.specs.declared.control.Control.{Control}
-use Rattle.window_items.specs.Items.{has_serial, item_index}
+use Rattle.window_items.specs.Items.{item_index}
+use Rattle.window_items.specs.Items as items
 use Rattle.desk_call.specs.declared.control.ControlOf.{ControlOf}
 use Rattle.window_mgr.specs.DeskStates.{DeskState, IsDeskUnchanged}
 
@@ -44,7 +44,7 @@ control_of c cs = option_and_then (slice_get cs) (index_of c cs)
 
 -- the control of this serial, in whichever window it is
 abbrev pub with_serial : ℕ → List ControlRecord → Option ControlRecord
-with_serial n cs = option_and_then (slice_get cs) (position (has_serial n) cs)
+with_serial n cs = items.with_serial n cs
 
 -- ---- what they show
 

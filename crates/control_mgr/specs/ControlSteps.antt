@@ -14,15 +14,15 @@ use Rattle.control_values.specs.Parts.{number_of}
 use Rattle.control_values.specs.Settings.{Setting, settled}
 use Rattle.window_items.specs.Items.{items_of, edit_at, serial_after, with_kept}
 use Rattle.control_mgr.specs.Fields.{with_highlight, with_place, with_shown, with_size, with_title, with_values}
-use Rattle.def_iface.specs.declared.part.Part.{Part}
-use Rattle.def_iface.specs.declared.part.Part.TheVariants as part
-use Rattle.def_iface.specs.declared.window_def.Stage.TheVariants.{Closed}
+use Rattle.desk_layers.specs.declared.part.Part.{Part}
+use Rattle.desk_layers.specs.declared.part.Part.TheVariants as part
 use Rattle.def_iface.specs.ControlMeaning.{ControlDefinition, ControlLoan, IsControlBegun, SameControlLook}
 use Rattle.def_iface.specs.ControlNews.{no_control_news, new_control_news}
-use Rattle.def_iface.specs.Desk.{on_screen}
-use Rattle.def_iface.specs.Owner.{Owner, owner}
-use Rattle.def_iface.specs.Owner.Owner.{Content}
-use Rattle.def_iface.specs.Slots.{IsPutBack, IsTaken, is_left}
+use Rattle.desk_layers.specs.Desk.{on_screen}
+use Rattle.desk_layers.specs.Owner.{Owner, owner}
+use Rattle.desk_layers.specs.Owner.Owner.{Content}
+use Rattle.def_iface.specs.Closing as closing
+use Rattle.def_iface.specs.Slots.{IsTaken}
 use Rattle.window_list.specs.declared.layer.Layer.{Layer}
 use Rattle.desk_call.specs.declared.activity.Activity.{Activity}
 use Rattle.desk_call.specs.declared.activity.Activity.TheVariants.{Idle, TrackingControl}
@@ -160,12 +160,8 @@ pub record IsControlMade (n : NewControl) (serial : ℕ) (before after : Control
   pub activity : SameActivity before.desk after.desk
 
 -- the definition was closed and put into its slot, which was empty, and every other slot is as it was
-pub record IsControlShut (loan : ControlLoan) (old new : List ControlSlot) : Type 0 where
-  pub definition : ControlDefinition
-  pub closed : definition.stage ≡ Closed
-  pub look : SameControlLook loan.definition definition
-  pub left : is_left loan.slot old ≡ true
-  pub back : IsPutBack (record { definition = definition; slot = loan.slot }) old new
+abbrev pub IsControlShut : ControlLoan → List ControlSlot → List ControlSlot → Type 0
+IsControlShut = closing.IsShut (λ (d : ControlDefinition). d.stage) SameControlLook
 
 -- the control is there no more, its definition went back Closed into its slot, and what it owned belongs to what lies under it
 pub record IsControlDisposed (c : ControlOf) (before after : ControlDesk) : Type 0 where

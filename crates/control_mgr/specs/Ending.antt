@@ -3,11 +3,10 @@ use Rattle.std.specs.Prelude.{◌≡◌, ℕ, List, MatchOption, Option, None, S
 use Rattle.std.specs.List.{remove}
 use Rattle.tb_geom.specs.Pixels.{Pixels}
 use Rattle.window_items.specs.Items.{place_among}
-use Rattle.def_iface.specs.declared.part.Part.TheVariants as part
-use Rattle.def_iface.specs.declared.taken.Taken.{Taken}
-use Rattle.def_iface.specs.declared.taken_control.TakenControl.{TakenControl}
+use Rattle.desk_layers.specs.declared.part.Part.TheVariants as part
+use Rattle.def_iface.specs.Slots.{TakenBox}
 use Rattle.def_iface.specs.ControlMeaning.{ControlLoan}
-use Rattle.def_iface.specs.Meaning.{Loan}
+use Rattle.def_iface.specs.WindowMeaning.{WindowLoan}
 use Rattle.window_list.specs.Holders.{ArePartsApart, PlacedLayers, layer_index}
 use Rattle.desk_call.specs.declared.control.ControlOf.{ControlOf}
 use Rattle.window_list.specs.declared.window.Window.{Window}
@@ -38,16 +37,16 @@ abbrev pub update_left : Option Ending → Pixels → Pixels
 update_left None update = update
 update_left (Some e) update = e.relaying.update
 
-module _ {V : Type 0} {H : V → Type 0} (loan : Taken V H → Loan) {W : Type 0} {K : W → Type 0} (control_loan : TakenControl W K → ControlLoan) where
+module _ {V : Type 0} {H : V → Type 0} (loan : TakenBox V H → WindowLoan) {W : Type 0} {K : W → Type 0} (control_loan : TakenBox W K → ControlLoan) where
   -- windows and controls of which this one can be ended as it was planned beside the windows `t`, if it is there: its window stands
   -- at this place and has these layers, and of it this is to be redrawn
-  pub record IsReadyToEnd (c : ControlOf) (at : ℕ) (ls : PlacedLayers) (update : Pixels) (t u : WindowManager V H) (m : Controls (TakenControl W K)) : Type 0 where
+  pub record IsReadyToEnd (c : ControlOf) (at : ℕ) (ls : PlacedLayers) (update : Pixels) (t u : WindowManager V H) (m : Controls (TakenBox W K)) : Type 0 where
     pub laid : IsLaidSo loan at ls update t u
     pub beside : AreBeside control_loan loan u m
     pub stands : StandsAt u.windows.records.items c.window at
 
   -- the layers of its window without that of the control, which is there, and what changes by that on the screen
-  pub record IsEnding (c : ControlOf) (t : WindowManager V H) (m : Controls (TakenControl W K)) (e : Ending) : Type 0 where
+  pub record IsEnding (c : ControlOf) (t : WindowManager V H) (m : Controls (TakenBox W K)) (e : Ending) : Type 0 where
     pub at : ℕ
     pub spot : IsSpotOf loan control_loan c t m (record { window = e.window; control = at })
     pub layers : (w : Window V H) → IsWindowAt t.windows.records.items e.window w
@@ -56,7 +55,7 @@ module _ {V : Type 0} {H : V → Type 0} (loan : Taken V H → Loan) {W : Type 0
     pub planned : IsPlanOfLayers loan e.window e.layers.layers None t e.relaying
 
   -- so it is of a control that is there, and nothing is planned of another
-  abbrev pub IsPlannedEnd : ControlOf → WindowManager V H → Controls (TakenControl W K) → Option Ending → Type 0
+  abbrev pub IsPlannedEnd : ControlOf → WindowManager V H → Controls (TakenBox W K) → Option Ending → Type 0
   IsPlannedEnd c t m planned = MatchOption planned (index_of c (records_of control_loan m) ≡ None) (IsEnding c t m)
 
 -- the window has the layers that were planned, where some were

@@ -8,9 +8,9 @@ use Rattle.tb_geom.specs.declared.refusal.Refusal.TheVariants.{NoMemory}
 use Rattle.tb_geom.specs.Points.{minus}
 use Rattle.tb_geom.specs.Pixels.{holds}
 use Rattle.tb_geom.specs.Rects.{in_plane, is_in_range, moved_rect, rect_holds}
-use Rattle.def_iface.specs.declared.taken_control.TakenControl.{TakenControl}
+use Rattle.def_iface.specs.Slots.{TakenBox}
 use Rattle.def_iface.specs.ControlMeaning.{ControlDefinition, ControlLoan, is_fitting_control}
-use Rattle.def_iface.specs.Meaning.{IsWithin}
+use Rattle.def_iface.specs.WindowMeaning.{IsWithin}
 use Rattle.window_list.specs.declared.layer.LayerShape.{LayerShape}
 use Rattle.desk_call.specs.declared.control.ControlCall.{ControlCall}
 use Rattle.desk_call.specs.declared.control.ControlCall.TheVariants.{Show, Hide}
@@ -51,13 +51,13 @@ abbrev pub IsLaidOrShort : ControlOf → (ControlRecord → ControlRecord) → R
 IsLaidOrShort c f (Ok answer) before after = (answer ≡ Done) × IsControlLaid c f before after
 IsLaidOrShort c f (Err e) before after = (e ≡ NoMemory) × IsControlDeskUnchanged before after
 
-module _ {W : Type 0} {K : W → Type 0} (control_loan : TakenControl W K → ControlLoan) where
+module _ {W : Type 0} {K : W → Type 0} (control_loan : TakenBox W K → ControlLoan) where
   -- the definition of what was taken, if something was
-  abbrev pub definition_if : Option (Bor (TakenControl W K)) → Option ControlDefinition
+  abbrev pub definition_if : Option (Bor (TakenBox W K)) → Option ControlDefinition
   definition_if taken = option_map (λ t. (control_loan t.now).definition) taken
 
   -- the control at this place may lie so in its window
-  abbrev pub MayLie : {V : Type 0} {H : V → Type 0} → WindowManager V H → Controls (TakenControl W K) → ControlAt → Lie → Type 0
+  abbrev pub MayLie : {V : Type 0} {H : V → Type 0} → WindowManager V H → Controls (TakenBox W K) → ControlAt → Lie → Type 0
   MayLie t m s l = (c : ControlRecord) (w : Window _ _) → slice_get (records_of control_loan m) s.control ≡ Some c
       → IsWindowAt t.windows.records.items s.window w
       → may_be_placed (Some c.kept.definition.definition) l.place l.size w.place ≡ true

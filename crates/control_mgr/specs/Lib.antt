@@ -10,9 +10,11 @@ pub mod ControlSteps
 pub mod Damages
 pub mod Settled
 pub mod WholeControls
+pub mod ItemSpots
 pub mod Spots
 pub mod Laying
 pub mod Planned
 pub mod Making
 pub mod Ending
+pub mod ItemsClosing
 pub mod ControlClosing

@@ -8,12 +8,11 @@ use Rattle.tb_geom.specs.Pixels.{Pixels}
 use Rattle.tb_geom.specs.Refusals.{first_refusal}
 use Rattle.control_values.specs.Settings.{settled}
 use Rattle.window_items.specs.Items.{count_of, serial_after}
-use Rattle.def_iface.specs.declared.part.Part.TheVariants as part
-use Rattle.def_iface.specs.declared.taken.Taken.{Taken}
-use Rattle.def_iface.specs.declared.taken_control.TakenControl.{TakenControl}
+use Rattle.desk_layers.specs.declared.part.Part.TheVariants as part
+use Rattle.def_iface.specs.Slots.{TakenBox}
 use Rattle.def_iface.specs.ControlMeaning.{ControlDefinition, ControlLoan}
-use Rattle.def_iface.specs.Desk.{same_part}
-use Rattle.def_iface.specs.Meaning.{Loan}
+use Rattle.desk_layers.specs.Desk.{same_part}
+use Rattle.def_iface.specs.WindowMeaning.{WindowLoan}
 use Rattle.window_list.specs.declared.layer.Layer.{Layer}
 use Rattle.window_list.specs.Holders.{ArePartsApart, PlacedLayers}
 use Rattle.desk_call.specs.declared.control.NewControl.{NewControl}
@@ -31,13 +30,13 @@ use Rattle.control_mgr.specs.Judged.{may_be_placed}
 use Rattle.control_mgr.specs.Planned.{IsLaidSo}
 use Rattle.control_mgr.specs.WholeControls.{AreBeside, records_of}
 
-module _ {V : Type 0} {H : V → Type 0} (loan : Taken V H → Loan) {W : Type 0} {K : W → Type 0} (control_loan : TakenControl W K → ControlLoan) where
+module _ {V : Type 0} {H : V → Type 0} (loan : TakenBox V H → WindowLoan) {W : Type 0} {K : W → Type 0} (control_loan : TakenBox W K → ControlLoan) where
   -- why a control with this definition, or none, may not be made beside these windows
-  abbrev pub judged_by : NewControl → Option ControlDefinition → WindowManager V H → Controls (TakenControl W K) → Option Refusal
+  abbrev pub judged_by : NewControl → Option ControlDefinition → WindowManager V H → Controls (TakenBox W K) → Option Refusal
   judged_by n d t m = first_refusal (judged_refusals n d (desk_of loan t []) (records_of control_loan m) m.list.next)
 
   -- a new control is refused for this, or for want of memory where nothing else refuses it
-  abbrev pub IsNotAdded : NewControl → ControlDefinition → WindowManager V H → Controls (TakenControl W K) → Refusal → Type 0
+  abbrev pub IsNotAdded : NewControl → ControlDefinition → WindowManager V H → Controls (TakenBox W K) → Refusal → Type 0
   IsNotAdded n d t m e = (judged_by n (Some d) t m ≡ Some e) ⊎ ((judged_by n (Some d) t m ≡ None) × (e ≡ NoMemory))
 
 -- nothing but the room for controls is another, and there is no less of it
@@ -65,9 +64,9 @@ pub record IsGrown (n : NewControl) (d : ControlDefinition) (k : Ticket) (ls : P
   pub layers : a.layers ≡ record ls { layers = insert ls.layers k.layer layer }
   pub apart : ArePartsApart a.layers.layers
 
-module _ {V : Type 0} {H : V → Type 0} {W : Type 0} {K : W → Type 0} (control_loan : TakenControl W K → ControlLoan) where
+module _ {V : Type 0} {H : V → Type 0} {W : Type 0} {K : W → Type 0} (control_loan : TakenBox W K → ControlLoan) where
   -- what a new control is given, where it may lie in its window, which has room for it
-  pub record IsTicket (n : NewControl) (d : Option ControlDefinition) (t : WindowManager V H) (m : Controls (TakenControl W K)) (k : Ticket) : Type 0 where
+  pub record IsTicket (n : NewControl) (d : Option ControlDefinition) (t : WindowManager V H) (m : Controls (TakenBox W K)) (k : Ticket) : Type 0 where
     pub window : StandsAt t.windows.records.items n.window k.window
     pub placed : (w : Window V H) → IsWindowAt t.windows.records.items k.window w → may_be_placed d n.place n.size w.place ≡ true
     pub serial : m.list.next ≡ Some k.serial
@@ -76,17 +75,17 @@ module _ {V : Type 0} {H : V → Type 0} {W : Type 0} {K : W → Type 0} (contro
     pub layer : k.layer ≡ count_of n.window (records_of control_loan m)
     pub few : k.layer < most_controls
 
-module _ {V : Type 0} {H : V → Type 0} (loan : Taken V H → Loan) {W : Type 0} {K : W → Type 0} (control_loan : TakenControl W K → ControlLoan) where
+module _ {V : Type 0} {H : V → Type 0} (loan : TakenBox V H → WindowLoan) {W : Type 0} {K : W → Type 0} (control_loan : TakenBox W K → ControlLoan) where
   -- windows and controls to which the control of this ticket can be added as it was planned beside the windows `t`: its window has
   -- these layers, of it this is to be redrawn, and there is room
-  pub record IsReadyToAdd (n : NewControl) (d : ControlDefinition) (k : Ticket) (ls : PlacedLayers) (update : Pixels) (t u : WindowManager V H) (m : Controls (TakenControl W K)) : Type 0 where
+  pub record IsReadyToAdd (n : NewControl) (d : ControlDefinition) (k : Ticket) (ls : PlacedLayers) (update : Pixels) (t u : WindowManager V H) (m : Controls (TakenBox W K)) : Type 0 where
     pub laid : IsLaidSo loan k.window ls update t u
     pub beside : AreBeside control_loan loan u m
     pub ticket : IsTicket control_loan n (Some d) u m k
     pub room : length m.list.items.items < vec_capacity m.list.items
 
   -- the layers of the window with the new control behind the other controls, and what changes by them on the screen
-  pub record IsAddition (n : NewControl) (d : ControlDefinition) (t : WindowManager V H) (m : Controls (TakenControl W K)) (a : Addition) : Type 0 where
+  pub record IsAddition (n : NewControl) (d : ControlDefinition) (t : WindowManager V H) (m : Controls (TakenBox W K)) (a : Addition) : Type 0 where
     pub ticket : IsTicket control_loan n (Some d) t m a.ticket
     pub layer : Layer
     pub is : (slot : ℕ) → IsLayerOf (new_control n a.ticket.serial slot d) layer

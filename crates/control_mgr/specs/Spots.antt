@@ -1,10 +1,9 @@
 -- Where a control stands, as the code keeps it, and how it is changed there.
 use Rattle.std.specs.Prelude.{◌≡◌, ◌<◌, true, false, [], length, Some}
 use Rattle.tb_geom.specs.Points.{PixelSet}
-use Rattle.def_iface.specs.declared.taken.Taken.{Taken}
-use Rattle.def_iface.specs.declared.taken_control.TakenControl.{TakenControl}
+use Rattle.def_iface.specs.Slots.{TakenBox}
 use Rattle.def_iface.specs.ControlMeaning.{ControlLoan, is_fitting_control}
-use Rattle.def_iface.specs.Meaning.{Loan}
+use Rattle.def_iface.specs.WindowMeaning.{WindowLoan}
 use Rattle.def_iface.specs.declared.window_def.Stage.TheVariants.{Live}
 use Rattle.window_items.specs.Items.{with_kept}
 use Rattle.desk_call.specs.declared.activity.Activity.{Activity}
@@ -38,15 +37,15 @@ pub record IsTellable (c : ControlRecord) : Type 0 where
   pub live : c.kept.definition.definition.stage ≡ Live
   pub fits : is_fitting_control c.kept.definition.definition c.kept.size ≡ true
 
-module _ {V : Type 0} {H : V → Type 0} (loan : Taken V H → Loan) {W : Type 0} {K : W → Type 0} (control_loan : TakenControl W K → ControlLoan) where
+module _ {V : Type 0} {H : V → Type 0} (loan : TakenBox V H → WindowLoan) {W : Type 0} {K : W → Type 0} (control_loan : TakenBox W K → ControlLoan) where
   -- the control stands here, and its window
-  pub record IsSpotOf (c : ControlOf) (t : WindowManager V H) (m : Controls (TakenControl W K)) (s : ControlAt) : Type 0 where
+  pub record IsSpotOf (c : ControlOf) (t : WindowManager V H) (m : Controls (TakenBox W K)) (s : ControlAt) : Type 0 where
     pub window : StandsAt t.windows.records.items c.window s.window
     pub there : is_missing c.window (desk_of loan t []).windows ≡ false
     pub control : index_of c (records_of control_loan m) ≡ Some s.control
     pub low : s.control < length m.list.items.items
 
   -- some control stands here, and its window
-  pub record IsSpot (t : WindowManager V H) (m : Controls (TakenControl W K)) (s : ControlAt) : Type 0 where
+  pub record IsSpot (t : WindowManager V H) (m : Controls (TakenBox W K)) (s : ControlAt) : Type 0 where
     pub of : ControlOf
     pub is : IsSpotOf of t m s

@@ -1,16 +1,14 @@
 -- What holds of the controls of a desk and of their stock between calls, and their state as plain data.
-use Rattle.std.specs.Prelude.{◌≡◌, ◌≤◌, ℕ, true, false, List, [], ◌∷◌, map, All, is_none}
-use Rattle.std.specs.List.{list_any}
+use Rattle.std.specs.Prelude.{◌≡◌, ◌≤◌, ℕ, true, false, List, [], map, All, is_none}
 use Rattle.tb_geom.specs.Points.{PixelSet}
 use Rattle.tb_geom.specs.Rects.{in_plane}
-use Rattle.window_items.specs.Items.{are_before, items_of, count_of, has_serial}
+use Rattle.window_items.specs.Items.{AreApart, are_before, items_of, count_of}
 use Rattle.control_mgr.specs.Seen.{all_seen}
-use Rattle.def_iface.specs.declared.part.Part.{Part}
-use Rattle.def_iface.specs.declared.taken.Taken.{Taken}
-use Rattle.def_iface.specs.declared.taken_control.TakenControl.{TakenControl}
+use Rattle.desk_layers.specs.declared.part.Part.{Part}
+use Rattle.def_iface.specs.Slots.{TakenBox}
 use Rattle.def_iface.specs.declared.window_def.Stage.TheVariants.{Live}
 use Rattle.def_iface.specs.ControlMeaning.{ControlDefinition, ControlLoan}
-use Rattle.def_iface.specs.Meaning.{Loan}
+use Rattle.def_iface.specs.WindowMeaning.{WindowLoan}
 use Rattle.def_iface.specs.Stocked.{SlotView}
 use Rattle.desk_call.specs.declared.activity.Activity.{Activity}
 use Rattle.desk_call.specs.declared.activity.Activity.TheVariants.{TrackingControl}
@@ -29,8 +27,7 @@ use Rattle.control_mgr.specs.Settled.{AreSettled}
 
 -- each of another serial
 abbrev pub AreControlsApart : List ControlRecord → Type 0
-AreControlsApart [] = Unit {0}
-AreControlsApart (c ∷ cs) = (list_any (has_serial c.serial) cs ≡ false) × AreControlsApart cs
+AreControlsApart cs = AreApart cs
 
 abbrev pub AreLiveControls : List ControlRecord → Type 0
 AreLiveControls cs = All (λ c. c.kept.definition.definition.stage ≡ Live) cs
@@ -57,18 +54,18 @@ IsTrackable (TrackingControl k) cs = (in_plane k.from ≡ true) × (is_none (ind
 IsTrackable _ cs = Unit {0}
 
 -- `control_loan` says what a control's definition that was taken means
-module _ {W : Type 0} {K : W → Type 0} (control_loan : TakenControl W K → ControlLoan) where
+module _ {W : Type 0} {K : W → Type 0} (control_loan : TakenBox W K → ControlLoan) where
   -- the controls as plain data
-  abbrev pub records_of : Controls (TakenControl W K) → List ControlRecord
+  abbrev pub records_of : Controls (TakenBox W K) → List ControlRecord
   records_of m = all_seen control_loan m.list.items.items
 
-  abbrev pub controls_state : Controls (TakenControl W K) → List ControlSlot → ControlsState
+  abbrev pub controls_state : Controls (TakenBox W K) → List ControlSlot → ControlsState
   controls_state m slots = record { controls = records_of m; next = m.list.next; stock = slots }
 
   -- `loan` says what a window's definition that was taken means
-  module _ {V : Type 0} {H : V → Type 0} (loan : Taken V H → Loan) where
+  module _ {V : Type 0} {H : V → Type 0} (loan : TakenBox V H → WindowLoan) where
     -- windows and controls with what is open, as a desk where other layers show this
-    abbrev pub control_desk : (List ℕ → Part → PixelSet) → WindowManager V H → Opened → List SlotView → Controls (TakenControl W K)
+    abbrev pub control_desk : (List ℕ → Part → PixelSet) → WindowManager V H → Opened → List SlotView → Controls (TakenBox W K)
         → List ControlSlot → ControlDesk
     control_desk others t o slots m kept = record {
       desk = desk_with o (state_showing (controls_show others (records_of m)) (state_of loan t slots));
@@ -79,7 +76,7 @@ module _ {W : Type 0} {K : W → Type 0} (control_loan : TakenControl W K → Co
     -- whatever other layers show, over any slots over which the windows are whole, and over these of the controls' stock, both
     -- are whole afterwards, and together they are one step of the desk
     abbrev pub LeavesOver : List ControlSlot → List ControlSlot → (ControlDesk → ControlDesk → Type 0)
-        → WindowManager V H → Opened → Controls (TakenControl W K) → WindowManager V H → Opened → Controls (TakenControl W K) → Type 0
+        → WindowManager V H → Opened → Controls (TakenBox W K) → WindowManager V H → Opened → Controls (TakenBox W K) → Type 0
     LeavesOver kept left step old before m new after n = (others : List ℕ → Part → PixelSet) (slots : List SlotView)
         → IsWholeManager loan old slots
         → AreWholeControls (desk_of loan old []).windows (controls_state m kept)
@@ -88,10 +85,10 @@ module _ {W : Type 0} {K : W → Type 0} (control_loan : TakenControl W K → Co
 
     -- so over any slots of the controls' stock, which a call leaves alone
     abbrev pub LeavesControls : (ControlDesk → ControlDesk → Type 0)
-        → WindowManager V H → Opened → Controls (TakenControl W K) → WindowManager V H → Opened → Controls (TakenControl W K) → Type 0
+        → WindowManager V H → Opened → Controls (TakenBox W K) → WindowManager V H → Opened → Controls (TakenBox W K) → Type 0
     LeavesControls step old before m new after n = (kept : List ControlSlot) → LeavesOver kept kept step old before m new after n
 
     -- the controls are whole beside these windows over some slots
-    pub record AreBeside (t : WindowManager V H) (m : Controls (TakenControl W K)) : Type 0 where
+    pub record AreBeside (t : WindowManager V H) (m : Controls (TakenBox W K)) : Type 0 where
       pub slots : List ControlSlot
       pub whole : AreWholeControls (desk_of loan t []).windows (controls_state m slots)

@@ -16,10 +16,11 @@ ghost use Rattle.control_mgr.specs.WholeControls.{AreBeside, LeavesControls, rec
 
 use crate::{Control, Controls};
 use control_values::ControlPart;
-use def_iface::{Defined, DefinedControl, Part, Taken, TakenControl};
+use def_iface::{Defined, TakenControl, TakenWindow};
 use desk_call::{
     ControlInfo, ControlOf, ControlReply, FoundControl, PointAtControl, PointInWindow,
 };
+use desk_layers::Part;
 use tb_geom::{Point, Rect, Refusal};
 use window_items::Item;
 use window_list::{local, picture_place};
@@ -27,9 +28,9 @@ use window_mgr::WindowManager;
 
 /// Whether a point of its window lies in a control's rectangle, widened by so much on each side.
 pub(crate) fn is_within(control: &Item<Control<TakenControl>>, margin: u8, point: Point) -> bool
-    requires settled { IsSettledControl (seen ⟦<TakenControl as DefinedControl>⟧.control_loan control.now) }
+    requires settled { IsSettledControl (seen ⟦<TakenControl as Defined>⟧.loan control.now) }
     requires point { in_plane point ≡ true }
-    ensures { result ≡ is_within margin (seen ⟦<TakenControl as DefinedControl>⟧.control_loan control.now) point }
+    ensures { result ≡ is_within margin (seen ⟦<TakenControl as Defined>⟧.loan control.now) point }
 {
     let margin = i32::from(margin);
     let widened = Rect {
@@ -43,9 +44,9 @@ pub(crate) fn is_within(control: &Item<Control<TakenControl>>, margin: u8, point
 
 /// The part of a control that a point of its window lies in, by its definition.
 fn part_under(control: &Item<Control<TakenControl>>, point: Point) -> Option<ControlPart>
-    requires settled { IsSettledControl (seen ⟦<TakenControl as DefinedControl>⟧.control_loan control.now) }
+    requires settled { IsSettledControl (seen ⟦<TakenControl as Defined>⟧.loan control.now) }
     requires point { in_plane point ≡ true }
-    ensures { result ≡ part_under (seen ⟦<TakenControl as DefinedControl>⟧.control_loan control.now) point }
+    ensures { result ≡ part_under (seen ⟦<TakenControl as Defined>⟧.loan control.now) point }
 {
     control
         .kept
@@ -58,9 +59,9 @@ pub(crate) fn part_tested(
     control: &Item<Control<TakenControl>>,
     point: Point,
 ) -> Option<ControlPart>
-    requires settled { IsSettledControl (seen ⟦<TakenControl as DefinedControl>⟧.control_loan control.now) }
+    requires settled { IsSettledControl (seen ⟦<TakenControl as Defined>⟧.loan control.now) }
     requires point { in_plane point ≡ true }
-    ensures { result ≡ part_tested (seen ⟦<TakenControl as DefinedControl>⟧.control_loan control.now) point }
+    ensures { result ≡ part_tested (seen ⟦<TakenControl as Defined>⟧.loan control.now) point }
 {
     if control.kept.shown && !control.kept.highlight.is_inactive() && is_within(control, 0, point) {
         part_under(control, point)
@@ -71,9 +72,9 @@ pub(crate) fn part_tested(
 
 /// A control, and the part of it that a point of its window lies in. An inactive one is not found.
 fn found_in(control: &Item<Control<TakenControl>>, point: Point) -> Option<FoundControl>
-    requires settled { IsSettledControl (seen ⟦<TakenControl as DefinedControl>⟧.control_loan control.now) }
+    requires settled { IsSettledControl (seen ⟦<TakenControl as Defined>⟧.loan control.now) }
     requires point { in_plane point ≡ true }
-    ensures { result ≡ found_in (seen ⟦<TakenControl as DefinedControl>⟧.control_loan control.now) point }
+    ensures { result ≡ found_in (seen ⟦<TakenControl as Defined>⟧.loan control.now) point }
 {
     if control.kept.highlight.is_inactive() {
         return None;
@@ -90,14 +91,14 @@ fn found_in(control: &Item<Control<TakenControl>>, point: Point) -> Option<Found
 impl Controls<TakenControl> {
     /// Whether the control is there.
     pub fn has(&self, control: ControlOf) -> bool
-        ensures { result ≡ is_some (index_of control (records_of ⟦<TakenControl as DefinedControl>⟧.control_loan self.now)) }
+        ensures { result ≡ is_some (index_of control (records_of ⟦<TakenControl as Defined>⟧.loan self.now)) }
     {
         self.list.find(control.window, control.control).is_some()
     }
 
     /// How many controls the window has.
     pub fn count(&self, window: u64) -> usize
-        ensures { result ≡ count_of window (records_of ⟦<TakenControl as DefinedControl>⟧.control_loan self.now) }
+        ensures { result ≡ count_of window (records_of ⟦<TakenControl as Defined>⟧.loan self.now) }
     {
         self.list.count(window)
     }
@@ -108,8 +109,8 @@ impl Controls<TakenControl> {
         windows: &WindowManager,
         control: ControlOf,
     ) -> Result<ControlReply, Refusal>
-        requires kept { IsKept ⟦<Taken as Defined>⟧.loan windows.now }
-        ensures { (o : Opened) → LeavesControls ⟦<TakenControl as DefinedControl>⟧.control_loan ⟦<Taken as Defined>⟧.loan
+        requires kept { IsKept ⟦<TakenWindow as Defined>⟧.loan windows.now }
+        ensures { (o : Opened) → LeavesControls ⟦<TakenControl as Defined>⟧.loan ⟦<TakenWindow as Defined>⟧.loan
             (IsControlStep (asks.Get control) result) windows.now o self.now windows.now o self.now }
     {
         let spot = self.spot(windows, control)?;
@@ -127,9 +128,10 @@ impl Controls<TakenControl> {
         windows: &WindowManager,
         asked: PointAtControl,
     ) -> Result<ControlReply, Refusal>
-        requires kept { IsKept ⟦<Taken as Defined>⟧.loan windows.now }
-        requires beside { AreBeside ⟦<TakenControl as DefinedControl>⟧.control_loan ⟦<Taken as Defined>⟧.loan windows.now self.now }
-        ensures { (o : Opened) → LeavesControls ⟦<TakenControl as DefinedControl>⟧.control_loan ⟦<Taken as Defined>⟧.loan
+        requires kept { IsKept ⟦<TakenWindow as Defined>⟧.loan windows.now }
+        requires beside { AreBeside ⟦<TakenControl as Defined>⟧.loan ⟦<TakenWindow as Defined>⟧.loan windows.now
+            self.now }
+        ensures { (o : Opened) → LeavesControls ⟦<TakenControl as Defined>⟧.loan ⟦<TakenWindow as Defined>⟧.loan
             (IsControlStep (asks.Test asked) result) windows.now o self.now windows.now o self.now }
     {
         let spot = self.spot(windows, asked.control)?;
@@ -146,9 +148,10 @@ impl Controls<TakenControl> {
         windows: &WindowManager,
         asked: PointInWindow,
     ) -> Result<ControlReply, Refusal>
-        requires kept { IsKept ⟦<Taken as Defined>⟧.loan windows.now }
-        requires beside { AreBeside ⟦<TakenControl as DefinedControl>⟧.control_loan ⟦<Taken as Defined>⟧.loan windows.now self.now }
-        ensures { (o : Opened) → LeavesControls ⟦<TakenControl as DefinedControl>⟧.control_loan ⟦<Taken as Defined>⟧.loan
+        requires kept { IsKept ⟦<TakenWindow as Defined>⟧.loan windows.now }
+        requires beside { AreBeside ⟦<TakenControl as Defined>⟧.loan ⟦<TakenWindow as Defined>⟧.loan windows.now
+            self.now }
+        ensures { (o : Opened) → LeavesControls ⟦<TakenControl as Defined>⟧.loan ⟦<TakenWindow as Defined>⟧.loan
             (IsControlStep (asks.Find asked) result) windows.now o self.now windows.now o self.now }
     {
         let Some(at) = windows.find(asked.window) else {
@@ -162,13 +165,13 @@ impl Controls<TakenControl> {
 
     /// Which control owns the pixel at a point of the window at this index.
     fn found_at(&self, windows: &WindowManager, at: usize, point: Point) -> Option<FoundControl>
-        requires kept { IsKept ⟦<Taken as Defined>⟧.loan windows.now }
-        requires settled { AreSettled (records_of ⟦<TakenControl as DefinedControl>⟧.control_loan self.now) }
+        requires kept { IsKept ⟦<TakenWindow as Defined>⟧.loan windows.now }
+        requires settled { AreSettled (records_of ⟦<TakenControl as Defined>⟧.loan self.now) }
         requires at { at < length windows.now.windows.records.items }
         requires point { in_plane point ≡ true }
         ensures { (w : _) → IsWindowAt windows.now.windows.records.items at w
-            → result ≡ found_from (desk_of ⟦<Taken as Defined>⟧.loan windows.now [])
-            (records_of ⟦<TakenControl as DefinedControl>⟧.control_loan self.now) w.serial w.place point }
+            → result ≡ found_from (desk_of ⟦<TakenWindow as Defined>⟧.loan windows.now [])
+            (records_of ⟦<TakenControl as Defined>⟧.loan self.now) w.serial w.place point }
     {
         let window = windows.list().at(at);
         let pixel = picture_place(window.place, point);

@@ -1,35 +1,24 @@
 //! The end of controls: of those of a window that is disposed of, and of all.
 ghost use Rattle.std.specs.Prelude.{◌≡◌, [], true, List};
 ghost use Rattle.window_items.specs.Items.{items_of};
-ghost use Rattle.def_iface.specs.Slots.{is_left};
 ghost use Rattle.control_mgr.specs.ControlClosing.{AreAllControlsClosed, IsWindowLeft};
-ghost use Rattle.control_mgr.specs.ControlSteps.{IsControlShut};
 ghost use Rattle.control_mgr.specs.InUse.{AreStocked};
 ghost use Rattle.control_mgr.specs.WholeControls.{AreLiveControls, controls_state, records_of, slots_of};
 
 use crate::Controls;
-use def_iface::{ControlStock, DefinedControl, Stage, StockedControls, TakenControl};
+use def_iface::{ControlStock, Defined, Stocked, TakenControl, put_away};
 use window_items::Items;
-
-/// Ends the use of a control's definition.
-pub(crate) fn put_away(taken: TakenControl, stock: &mut ControlStock)
-    requires live { (⟦<TakenControl as DefinedControl>⟧.control_loan taken).definition.stage ≡ Stage.Live }
-    requires left { is_left (⟦<TakenControl as DefinedControl>⟧.control_loan taken).slot (⟦<ControlStock as StockedControls>⟧.control_slots stock.old) ≡ true }
-    ensures { IsControlShut (⟦<TakenControl as DefinedControl>⟧.control_loan taken) (⟦<ControlStock as StockedControls>⟧.control_slots stock.old) (⟦<ControlStock as StockedControls>⟧.control_slots stock.new) }
-{
-    let mut taken = taken;
-    taken.dispose();
-    stock.put_back(taken);
-}
 
 impl Controls<TakenControl> {
     /// Ends the controls of a window: the definition of each is disposed of, and put back Closed into its slot. Those of other
     /// windows stay. Takes no memory, and draws nothing: this is for a window that is no more.
     pub fn end_of(&mut self, window: u64, stock: &mut ControlStock)
-        requires live { AreLiveControls (records_of ⟦<TakenControl as DefinedControl>⟧.control_loan self.old) }
-        requires stocked { AreStocked (λ d. d.stage) (slots_of (records_of ⟦<TakenControl as DefinedControl>⟧.control_loan self.old)) (⟦<ControlStock as StockedControls>⟧.control_slots stock.old) }
-        ensures { IsWindowLeft window (controls_state ⟦<TakenControl as DefinedControl>⟧.control_loan self.old (⟦<ControlStock as StockedControls>⟧.control_slots stock.old))
-            (controls_state ⟦<TakenControl as DefinedControl>⟧.control_loan self.new (⟦<ControlStock as StockedControls>⟧.control_slots stock.new)) }
+        requires live { AreLiveControls (records_of ⟦<TakenControl as Defined>⟧.loan self.old) }
+        requires stocked { AreStocked (λ d. d.stage) (slots_of (records_of ⟦<TakenControl as Defined>⟧.loan self.old))
+            (⟦<ControlStock as Stocked>⟧.slots stock.old) }
+        ensures { IsWindowLeft window (controls_state ⟦<TakenControl as Defined>⟧.loan self.old
+            (⟦<ControlStock as Stocked>⟧.slots stock.old))
+            (controls_state ⟦<TakenControl as Defined>⟧.loan self.new (⟦<ControlStock as Stocked>⟧.slots stock.new)) }
     {
         while let Some(control) = self.list.take_of(window) {
             put_away(control.kept.definition, stock);
@@ -39,9 +28,11 @@ impl Controls<TakenControl> {
     /// Ends the desk's controls: the definition of every one is disposed of, and put back Closed into its slot, while every other
     /// slot stays as it was. Takes no memory, and refuses nothing.
     pub fn close(self, stock: &mut ControlStock)
-        requires live { AreLiveControls (records_of ⟦<TakenControl as DefinedControl>⟧.control_loan self) }
-        requires stocked { AreStocked (λ d. d.stage) (slots_of (records_of ⟦<TakenControl as DefinedControl>⟧.control_loan self)) (⟦<ControlStock as StockedControls>⟧.control_slots stock.old) }
-        ensures { AreAllControlsClosed (records_of ⟦<TakenControl as DefinedControl>⟧.control_loan self) (⟦<ControlStock as StockedControls>⟧.control_slots stock.old) (⟦<ControlStock as StockedControls>⟧.control_slots stock.new) }
+        requires live { AreLiveControls (records_of ⟦<TakenControl as Defined>⟧.loan self) }
+        requires stocked { AreStocked (λ d. d.stage) (slots_of (records_of ⟦<TakenControl as Defined>⟧.loan self))
+            (⟦<ControlStock as Stocked>⟧.slots stock.old) }
+        ensures { AreAllControlsClosed (records_of ⟦<TakenControl as Defined>⟧.loan self)
+            (⟦<ControlStock as Stocked>⟧.slots stock.old) (⟦<ControlStock as Stocked>⟧.slots stock.new) }
     {
         let Controls { list, .. } = self;
         let Items { items, .. } = list;

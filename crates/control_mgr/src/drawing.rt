@@ -6,34 +6,42 @@ ghost use Rattle.bit_blit.specs.Draws.{Draws};
 ghost use Rattle.draw_port.specs.Canvases.{canvas_holds, canvas_point, SameFrame};
 ghost use Rattle.window_items.specs.Items.{has_serial};
 ghost use Rattle.control_mgr.specs.Seen.{all_seen};
-ghost use Rattle.def_iface.specs.ControlMeaning.{is_fitting_control};
+ghost use Rattle.def_iface.specs.ControlMeaning.{ControlLoan, is_fitting_control};
 ghost use Rattle.def_iface.specs.ControlNews.{no_control_news};
+ghost use Rattle.def_iface.specs.Slots.{loan_by};
 ghost use Rattle.window_paint.specs.White.{all_white};
 ghost use Rattle.control_mgr.specs.ControlDesks.{control_bit, controls_show};
 ghost use Rattle.control_mgr.specs.Settled.{AreSettled};
 
 use crate::Controls;
 use bit_map::{Mode, Pattern};
-use def_iface::{DefinedControl, Part, Stage, TakenControl};
+use def_iface::{Stage, TakenControl};
+use desk_layers::Part;
 use draw_port::Canvas;
 use window_list::picture_place;
 use window_paint::Showing;
 
 /// What a control is drawn by.
-pub trait DrawnControl: DefinedControl {
+pub trait DrawnControl {
+    ghost control_loan: { Self → ControlLoan };
+
     /// Gives each pixel of the canvas, whose origin is the control's 0 0, the value that the control's picture has there in the
     /// canvas's font.
     fn draw_control(&self, canvas: &mut Canvas<'_>)
         requires live { (Self.control_loan self.now).definition.stage ≡ Stage.Live }
-        requires told { is_fitting_control (Self.control_loan self.now).definition (Self.control_loan self.now).definition.size ≡ true }
+        requires told { is_fitting_control (Self.control_loan self.now).definition
+            (Self.control_loan self.now).definition.size ≡ true }
         ensures same_map { canvas.new.map.ghost_name ≡ canvas.old.map.ghost_name }
         ensures same_frame { SameFrame canvas.old canvas.new }
         ensures drawn { Draws (canvas_holds canvas.old)
-            (λ p _. (Self.control_loan self.now).definition.picture no_control_news canvas.old.font.now (canvas_point canvas.old p))
+            (λ p _. (Self.control_loan self.now).definition.picture no_control_news canvas.old.font.now
+            (canvas_point canvas.old p))
             canvas.old.map.now canvas.new.map.now };
 }
 
 impl DrawnControl for TakenControl {
+    ghost control_loan = { loan_by (λ b. (ControlDef-box b).control_meaning b.value) };
+
     fn draw_control(&self, canvas: &mut Canvas<'_>) {
         self.draw(canvas);
     }

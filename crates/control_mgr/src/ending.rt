@@ -11,11 +11,9 @@ ghost use Rattle.control_mgr.specs.Ending.{IsEnding, IsPlannedEnd, IsPutIfPlanne
 ghost use Rattle.control_mgr.specs.WholeControls.{AreWholeControls, LeavesOver, controls_state, records_of};
 
 use crate::Controls;
-use crate::closing::put_away;
-use def_iface::{
-    ControlStock, Defined, DefinedControl, Part, StockedControls, Taken, TakenControl,
-};
+use def_iface::{ControlStock, Defined, Stocked, TakenControl, TakenWindow, put_away};
 use desk_call::{ControlOf, ControlReply};
+use desk_layers::Part;
 use scan_region::Region;
 use std::alloc::AllocError;
 use tb_geom::Refusal;
@@ -66,13 +64,14 @@ impl Controls<TakenControl> {
         layers: &Layers,
         update: &Region,
     ) -> Result<Option<Ending>, AllocError>
-        requires kept { IsKept ⟦<Taken as Defined>⟧.loan windows.now }
+        requires kept { IsKept ⟦<TakenWindow as Defined>⟧.loan windows.now }
         requires at { window < length windows.now.windows.records.items }
         requires apart { ArePartsApart layers.now.layers }
         ensures out { IfOk result (λ planned. IfSome planned (IsTakenOut window control.control layers.now)) }
         ensures planned { IfOk result (λ planned. (u : _) (m : _)
-            → IsReadyToEnd ⟦<Taken as Defined>⟧.loan ⟦<TakenControl as DefinedControl>⟧.control_loan control window layers.now update.now windows.now u m
-            → IsPlannedEnd ⟦<Taken as Defined>⟧.loan ⟦<TakenControl as DefinedControl>⟧.control_loan control u m planned) }
+            → IsReadyToEnd ⟦<TakenWindow as Defined>⟧.loan ⟦<TakenControl as Defined>⟧.loan control window layers.now
+            update.now windows.now u m
+            → IsPlannedEnd ⟦<TakenWindow as Defined>⟧.loan ⟦<TakenControl as Defined>⟧.loan control u m planned) }
     {
         let Some(layer) = layers.find(Part::Control(control.control)) else {
             return Ok(None);
@@ -95,12 +94,13 @@ impl Controls<TakenControl> {
         planned: Option<Ending>,
         stock: &mut ControlStock,
     )
-        requires kept { IsKept ⟦<Taken as Defined>⟧.loan windows.old }
-        requires whole { AreWholeControls (desk_of ⟦<Taken as Defined>⟧.loan windows.old []).windows
-            (controls_state ⟦<TakenControl as DefinedControl>⟧.control_loan self.old (⟦<ControlStock as StockedControls>⟧.control_slots stock.old)) }
-        requires planned { IsPlannedEnd ⟦<Taken as Defined>⟧.loan ⟦<TakenControl as DefinedControl>⟧.control_loan control windows.old self.old planned }
-        ensures step { (o : Opened) → LeavesOver ⟦<TakenControl as DefinedControl>⟧.control_loan ⟦<Taken as Defined>⟧.loan
-            (⟦<ControlStock as StockedControls>⟧.control_slots stock.old) (⟦<ControlStock as StockedControls>⟧.control_slots stock.new)
+        requires kept { IsKept ⟦<TakenWindow as Defined>⟧.loan windows.old }
+        requires whole { AreWholeControls (desk_of ⟦<TakenWindow as Defined>⟧.loan windows.old []).windows
+            (controls_state ⟦<TakenControl as Defined>⟧.loan self.old (⟦<ControlStock as Stocked>⟧.slots stock.old)) }
+        requires planned { IsPlannedEnd ⟦<TakenWindow as Defined>⟧.loan ⟦<TakenControl as Defined>⟧.loan control
+            windows.old self.old planned }
+        ensures step { (o : Opened) → LeavesOver ⟦<TakenControl as Defined>⟧.loan ⟦<TakenWindow as Defined>⟧.loan
+            (⟦<ControlStock as Stocked>⟧.slots stock.old) (⟦<ControlStock as Stocked>⟧.slots stock.new)
             (IsEndedIfThere control) windows.old o self.old windows.new o self.new }
         ensures put { IsPutIfPlanned planned windows.old windows.new }
     {
@@ -117,12 +117,13 @@ impl Controls<TakenControl> {
         ending: Ending,
         stock: &mut ControlStock,
     )
-        requires kept { IsKept ⟦<Taken as Defined>⟧.loan windows.old }
-        requires whole { AreWholeControls (desk_of ⟦<Taken as Defined>⟧.loan windows.old []).windows
-            (controls_state ⟦<TakenControl as DefinedControl>⟧.control_loan self.old (⟦<ControlStock as StockedControls>⟧.control_slots stock.old)) }
-        requires ending { IsEnding ⟦<Taken as Defined>⟧.loan ⟦<TakenControl as DefinedControl>⟧.control_loan control windows.old self.old ending }
-        ensures step { (o : Opened) → LeavesOver ⟦<TakenControl as DefinedControl>⟧.control_loan ⟦<Taken as Defined>⟧.loan
-            (⟦<ControlStock as StockedControls>⟧.control_slots stock.old) (⟦<ControlStock as StockedControls>⟧.control_slots stock.new)
+        requires kept { IsKept ⟦<TakenWindow as Defined>⟧.loan windows.old }
+        requires whole { AreWholeControls (desk_of ⟦<TakenWindow as Defined>⟧.loan windows.old []).windows
+            (controls_state ⟦<TakenControl as Defined>⟧.loan self.old (⟦<ControlStock as Stocked>⟧.slots stock.old)) }
+        requires ending { IsEnding ⟦<TakenWindow as Defined>⟧.loan ⟦<TakenControl as Defined>⟧.loan control windows.old
+            self.old ending }
+        ensures step { (o : Opened) → LeavesOver ⟦<TakenControl as Defined>⟧.loan ⟦<TakenWindow as Defined>⟧.loan
+            (⟦<ControlStock as Stocked>⟧.slots stock.old) (⟦<ControlStock as Stocked>⟧.slots stock.new)
             (IsControlDisposed control) windows.old o self.old windows.new o self.new }
         ensures put { AreLayersPut ending.window ending.layers ending.relaying.update windows.old windows.new }
     {
@@ -144,11 +145,11 @@ impl Controls<TakenControl> {
         control: ControlOf,
         stock: &mut ControlStock,
     ) -> Result<ControlReply, Refusal>
-        requires kept { IsKept ⟦<Taken as Defined>⟧.loan windows.old }
-        requires whole { AreWholeControls (desk_of ⟦<Taken as Defined>⟧.loan windows.old []).windows
-            (controls_state ⟦<TakenControl as DefinedControl>⟧.control_loan self.old (⟦<ControlStock as StockedControls>⟧.control_slots stock.old)) }
-        ensures { (o : Opened) → LeavesOver ⟦<TakenControl as DefinedControl>⟧.control_loan ⟦<Taken as Defined>⟧.loan
-            (⟦<ControlStock as StockedControls>⟧.control_slots stock.old) (⟦<ControlStock as StockedControls>⟧.control_slots stock.new)
+        requires kept { IsKept ⟦<TakenWindow as Defined>⟧.loan windows.old }
+        requires whole { AreWholeControls (desk_of ⟦<TakenWindow as Defined>⟧.loan windows.old []).windows
+            (controls_state ⟦<TakenControl as Defined>⟧.loan self.old (⟦<ControlStock as Stocked>⟧.slots stock.old)) }
+        ensures { (o : Opened) → LeavesOver ⟦<TakenControl as Defined>⟧.loan ⟦<TakenWindow as Defined>⟧.loan
+            (⟦<ControlStock as Stocked>⟧.slots stock.old) (⟦<ControlStock as Stocked>⟧.slots stock.new)
             (IsControlStep (asks.Dispose control) result) windows.old o self.old windows.new o self.new }
     {
         let spot = self.spot(windows, control)?;

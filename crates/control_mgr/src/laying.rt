@@ -14,7 +14,7 @@ ghost use Rattle.control_mgr.specs.WholeControls.{AreBeside, LeavesControls, rec
 
 use crate::Controls;
 use crate::spots::ControlAt;
-use def_iface::{Defined, DefinedControl, Size, Taken, TakenControl};
+use def_iface::{Defined, Size, TakenControl, TakenWindow};
 use desk_call::{ControlOf, ControlReply, MoveControl, SizeControl};
 use std::alloc::{AllocError, Global};
 use tb_geom::{Point, Rect, Refusal};
@@ -53,7 +53,7 @@ fn lies_in_range(bounds: Rect, place: Point, window: Point) -> bool
 /// The rectangle by which a control's size is judged: with a definition the box of its region.
 fn judged_box(taken: Option<&TakenControl>, size: Size) -> Rect
     requires { is_control_size size ≡ true }
-    ensures { result ≡ judged_box (definition_if ⟦<TakenControl as DefinedControl>⟧.control_loan taken.entry) size }
+    ensures { result ≡ judged_box (definition_if ⟦<TakenControl as Defined>⟧.loan taken.entry) size }
 {
     match taken {
         Some(taken) => taken.bounds(size),
@@ -65,7 +65,7 @@ fn judged_box(taken: Option<&TakenControl>, size: Size) -> Rect
 /// and its height lie in 1..=1024, its place is a point, and the box of its region, or of its size where it has no definition,
 /// lies in the range of coordinates, by itself, where it is in the window, and on the screen.
 pub fn may_be_placed(taken: Option<&TakenControl>, place: Point, size: Size, window: Point) -> bool
-    ensures { result ≡ may_be_placed (definition_if ⟦<TakenControl as DefinedControl>⟧.control_loan taken.entry) place size window }
+    ensures { result ≡ may_be_placed (definition_if ⟦<TakenControl as Defined>⟧.loan taken.entry) place size window }
 {
     if !place.is_in_range() || !is_control_size(size) {
         return false;
@@ -80,8 +80,8 @@ pub(crate) fn shape_of(
     taken: &TakenControl,
     lie: Lie,
 ) -> Result<LayerShape, AllocError>
-    requires { MayLieSo (⟦<TakenControl as DefinedControl>⟧.control_loan taken.now).definition lie }
-    ensures { IfOk result (IsShapeOf (⟦<TakenControl as DefinedControl>⟧.control_loan taken.now).definition lie) }
+    requires { MayLieSo (⟦<TakenControl as Defined>⟧.loan taken.now).definition lie }
+    ensures { IfOk result (IsShapeOf (⟦<TakenControl as Defined>⟧.loan taken.now).definition lie) }
 {
     let mut region = taken.regions_for(alloc, lie.size)?;
     move_by(&mut region, lie.place);
@@ -97,7 +97,7 @@ impl Controls<TakenControl> {
     /// How the control at this index lies.
     fn lie(&self, at: usize) -> Lie
         requires { at < length self.now.list.items.items }
-        ensures { IfSome (slice_get (records_of ⟦<TakenControl as DefinedControl>⟧.control_loan self.now) at) (λ c.
+        ensures { IfSome (slice_get (records_of ⟦<TakenControl as Defined>⟧.loan self.now) at) (λ c.
             result ≡ record { place = c.kept.place; size = c.kept.size; shown = c.kept.shown }) }
     {
         let control = &self.list.items[at];
@@ -112,7 +112,7 @@ impl Controls<TakenControl> {
     fn may_lie(&self, windows: &WindowManager, spot: ControlAt, lie: Lie) -> bool
         requires window { spot.window < length windows.now.windows.records.items }
         requires control { spot.control < length self.now.list.items.items }
-        ensures { IfSome (slice_get (records_of ⟦<TakenControl as DefinedControl>⟧.control_loan self.now) spot.control) (λ c.
+        ensures { IfSome (slice_get (records_of ⟦<TakenControl as Defined>⟧.loan self.now) spot.control) (λ c.
             (w : _) → IsWindowAt windows.now.windows.records.items spot.window w
             → result ≡ may_be_placed (Some c.kept.definition.definition) lie.place lie.size w.place) }
     {
@@ -128,12 +128,15 @@ impl Controls<TakenControl> {
         spot: ControlAt,
         lie: Lie,
     ) -> Result<ControlReply, Refusal>
-        requires kept { IsKept ⟦<Taken as Defined>⟧.loan windows.old }
-        requires beside { AreBeside ⟦<TakenControl as DefinedControl>⟧.control_loan ⟦<Taken as Defined>⟧.loan windows.old self.old }
-        requires spot { IsSpot ⟦<Taken as Defined>⟧.loan ⟦<TakenControl as DefinedControl>⟧.control_loan windows.old self.old spot }
-        requires may { MayLie ⟦<TakenControl as DefinedControl>⟧.control_loan windows.old self.old spot lie }
-        ensures { (c : Named) → IsSpotOf ⟦<Taken as Defined>⟧.loan ⟦<TakenControl as DefinedControl>⟧.control_loan c windows.old self.old spot
-            → (o : Opened) → LeavesControls ⟦<TakenControl as DefinedControl>⟧.control_loan ⟦<Taken as Defined>⟧.loan
+        requires kept { IsKept ⟦<TakenWindow as Defined>⟧.loan windows.old }
+        requires beside { AreBeside ⟦<TakenControl as Defined>⟧.loan ⟦<TakenWindow as Defined>⟧.loan windows.old
+            self.old }
+        requires spot { IsSpot ⟦<TakenWindow as Defined>⟧.loan ⟦<TakenControl as Defined>⟧.loan windows.old self.old
+            spot }
+        requires may { MayLie ⟦<TakenControl as Defined>⟧.loan windows.old self.old spot lie }
+        ensures { (c : Named) → IsSpotOf ⟦<TakenWindow as Defined>⟧.loan ⟦<TakenControl as Defined>⟧.loan c windows.old
+            self.old spot
+            → (o : Opened) → LeavesControls ⟦<TakenControl as Defined>⟧.loan ⟦<TakenWindow as Defined>⟧.loan
             (IsLaidOrShort c (with_lie lie) result) windows.old o self.old windows.new o self.new }
     {
         let definition = &self.list.items[spot.control].kept.definition;
@@ -151,8 +154,10 @@ impl Controls<TakenControl> {
     /// Notes that the control at this index lies so, and tells its definition.
     fn put_lie(&mut self, at: usize, lie: Lie)
         requires at { at < length self.old.list.items.items }
-        requires tellable { IfSome (slice_get (records_of ⟦<TakenControl as DefinedControl>⟧.control_loan self.old) at) (λ c. IsTellable (with_lie lie c)) }
-        ensures changed { IsChangedAt (with_lie lie) at (records_of ⟦<TakenControl as DefinedControl>⟧.control_loan self.old) (records_of ⟦<TakenControl as DefinedControl>⟧.control_loan self.new) }
+        requires tellable { IfSome (slice_get (records_of ⟦<TakenControl as Defined>⟧.loan self.old) at)
+            (λ c. IsTellable (with_lie lie c)) }
+        ensures changed { IsChangedAt (with_lie lie) at (records_of ⟦<TakenControl as Defined>⟧.loan self.old)
+            (records_of ⟦<TakenControl as Defined>⟧.loan self.new) }
         ensures next { self.new.list.next ≡ self.old.list.next }
         ensures alloc { self.new.alloc ≡ self.old.alloc }
     {
@@ -170,9 +175,10 @@ impl Controls<TakenControl> {
         control: ControlOf,
         shown: bool,
     ) -> Result<ControlReply, Refusal>
-        requires kept { IsKept ⟦<Taken as Defined>⟧.loan windows.old }
-        requires beside { AreBeside ⟦<TakenControl as DefinedControl>⟧.control_loan ⟦<Taken as Defined>⟧.loan windows.old self.old }
-        ensures { (o : Opened) → LeavesControls ⟦<TakenControl as DefinedControl>⟧.control_loan ⟦<Taken as Defined>⟧.loan
+        requires kept { IsKept ⟦<TakenWindow as Defined>⟧.loan windows.old }
+        requires beside { AreBeside ⟦<TakenControl as Defined>⟧.loan ⟦<TakenWindow as Defined>⟧.loan windows.old
+            self.old }
+        ensures { (o : Opened) → LeavesControls ⟦<TakenControl as Defined>⟧.loan ⟦<TakenWindow as Defined>⟧.loan
             (IsControlStep (shown_call shown control) result) windows.old o self.old windows.new o self.new }
     {
         let spot = self.spot(windows, control)?;
@@ -189,9 +195,10 @@ impl Controls<TakenControl> {
         windows: &mut WindowManager,
         moved: MoveControl,
     ) -> Result<ControlReply, Refusal>
-        requires kept { IsKept ⟦<Taken as Defined>⟧.loan windows.old }
-        requires beside { AreBeside ⟦<TakenControl as DefinedControl>⟧.control_loan ⟦<Taken as Defined>⟧.loan windows.old self.old }
-        ensures { (o : Opened) → LeavesControls ⟦<TakenControl as DefinedControl>⟧.control_loan ⟦<Taken as Defined>⟧.loan
+        requires kept { IsKept ⟦<TakenWindow as Defined>⟧.loan windows.old }
+        requires beside { AreBeside ⟦<TakenControl as Defined>⟧.loan ⟦<TakenWindow as Defined>⟧.loan windows.old
+            self.old }
+        ensures { (o : Opened) → LeavesControls ⟦<TakenControl as Defined>⟧.loan ⟦<TakenWindow as Defined>⟧.loan
             (IsControlStep (asks.Move moved) result) windows.old o self.old windows.new o self.new }
     {
         let spot = self.spot(windows, moved.control)?;
@@ -211,9 +218,10 @@ impl Controls<TakenControl> {
         windows: &mut WindowManager,
         sized: SizeControl,
     ) -> Result<ControlReply, Refusal>
-        requires kept { IsKept ⟦<Taken as Defined>⟧.loan windows.old }
-        requires beside { AreBeside ⟦<TakenControl as DefinedControl>⟧.control_loan ⟦<Taken as Defined>⟧.loan windows.old self.old }
-        ensures { (o : Opened) → LeavesControls ⟦<TakenControl as DefinedControl>⟧.control_loan ⟦<Taken as Defined>⟧.loan
+        requires kept { IsKept ⟦<TakenWindow as Defined>⟧.loan windows.old }
+        requires beside { AreBeside ⟦<TakenControl as Defined>⟧.loan ⟦<TakenWindow as Defined>⟧.loan windows.old
+            self.old }
+        ensures { (o : Opened) → LeavesControls ⟦<TakenControl as Defined>⟧.loan ⟦<TakenWindow as Defined>⟧.loan
             (IsControlStep (asks.Size sized) result) windows.old o self.old windows.new o self.new }
     {
         let spot = self.spot(windows, sized.control)?;

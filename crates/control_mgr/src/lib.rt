@@ -41,3 +41,4 @@ pub use drawing::DrawnControl;
 pub use ending::{Ending, layers_left, update_left};
 pub use laying::may_be_placed;
 pub use making::{Addition, MOST_CONTROLS, Ticket, form_refusal};
+pub use spots::{ItemAt, spot_of};

@@ -17,10 +17,9 @@ use crate::laying::{Lie, may_be_placed, shape_of};
 use crate::setting::say_bounds;
 use crate::{Control, Controls};
 use control_values::{ControlValues, Highlight};
-use def_iface::{
-    ControlStock, Defined, DefinedControl, Part, Stage, StockedControls, Taken, TakenControl,
-};
+use def_iface::{ControlStock, Defined, Stage, Stocked, TakenControl, TakenWindow};
 use desk_call::{ControlCall, ControlReply, NewControl};
+use desk_layers::Part;
 use draw_port::ShortText;
 use scan_region::Region;
 use std::alloc::AllocError;
@@ -59,7 +58,7 @@ pub struct Addition {
 
 /// Why a call is refused whatever is open: the stock has no such kind of controls.
 pub fn form_refusal(call: &ControlCall<'_>, stock: &ControlStock) -> Option<Refusal>
-    ensures { result ≡ first_refusal (control_form_refusals call.now (⟦<ControlStock as StockedControls>⟧.control_slots stock.now)) }
+    ensures { result ≡ first_refusal (control_form_refusals call.now (⟦<ControlStock as Stocked>⟧.slots stock.now)) }
 {
     match call {
         ControlCall::New(new) if !stock.has(new.kind.as_slice()) => Some(Refusal::NoSuchName),
@@ -75,11 +74,11 @@ impl Controls<TakenControl> {
         new: &NewControl<'_>,
         stock: &mut ControlStock,
     ) -> Result<ControlReply, Refusal>
-        requires kept { IsKept ⟦<Taken as Defined>⟧.loan windows.old }
-        requires whole { AreWholeControls (desk_of ⟦<Taken as Defined>⟧.loan windows.old []).windows
-            (controls_state ⟦<TakenControl as DefinedControl>⟧.control_loan self.old (⟦<ControlStock as StockedControls>⟧.control_slots stock.old)) }
-        ensures { (o : Opened) → LeavesOver ⟦<TakenControl as DefinedControl>⟧.control_loan ⟦<Taken as Defined>⟧.loan
-            (⟦<ControlStock as StockedControls>⟧.control_slots stock.old) (⟦<ControlStock as StockedControls>⟧.control_slots stock.new)
+        requires kept { IsKept ⟦<TakenWindow as Defined>⟧.loan windows.old }
+        requires whole { AreWholeControls (desk_of ⟦<TakenWindow as Defined>⟧.loan windows.old []).windows
+            (controls_state ⟦<TakenControl as Defined>⟧.loan self.old (⟦<ControlStock as Stocked>⟧.slots stock.old)) }
+        ensures { (o : Opened) → LeavesOver ⟦<TakenControl as Defined>⟧.loan ⟦<TakenWindow as Defined>⟧.loan
+            (⟦<ControlStock as Stocked>⟧.slots stock.old) (⟦<ControlStock as Stocked>⟧.slots stock.new)
             (IsControlStep (asks.New new.now) result) windows.old o self.old windows.new o self.new }
     {
         match stock.take(new.kind.as_slice()) {
@@ -101,9 +100,10 @@ impl Controls<TakenControl> {
 
     /// Why a control is refused that no definition is left for.
     fn refusal_without(&self, windows: &WindowManager, new: &NewControl<'_>) -> Refusal
-        requires { IsKept ⟦<Taken as Defined>⟧.loan windows.now }
-        ensures { first_refusal (judged_refusals new.now None (desk_of ⟦<Taken as Defined>⟧.loan windows.now [])
-            (records_of ⟦<TakenControl as DefinedControl>⟧.control_loan self.now) self.now.list.next ++ (true, Refusal.NoDefinition) ∷ []) ≡ Some result }
+        requires { IsKept ⟦<TakenWindow as Defined>⟧.loan windows.now }
+        ensures { first_refusal (judged_refusals new.now None (desk_of ⟦<TakenWindow as Defined>⟧.loan windows.now [])
+            (records_of ⟦<TakenControl as Defined>⟧.loan self.now) self.now.list.next ++ (true, Refusal.NoDefinition)
+            ∷ []) ≡ Some result }
     {
         match self.judge(windows, new, None) {
             Ok(_ticket) => Refusal::NoDefinition,
@@ -118,11 +118,13 @@ impl Controls<TakenControl> {
         new: &NewControl<'_>,
         taken: Option<&TakenControl>,
     ) -> Result<Ticket, Refusal>
-        requires { IsKept ⟦<Taken as Defined>⟧.loan windows.now }
-        ensures { let d = definition_if ⟦<TakenControl as DefinedControl>⟧.control_loan taken.entry in MatchResult result
-            (λ ticket. (judged_by ⟦<Taken as Defined>⟧.loan ⟦<TakenControl as DefinedControl>⟧.control_loan new.now d windows.now self.now ≡ None)
-            × IsTicket ⟦<TakenControl as DefinedControl>⟧.control_loan new.now d windows.now self.now ticket)
-            (λ e. judged_by ⟦<Taken as Defined>⟧.loan ⟦<TakenControl as DefinedControl>⟧.control_loan new.now d windows.now self.now ≡ Some e) }
+        requires { IsKept ⟦<TakenWindow as Defined>⟧.loan windows.now }
+        ensures { let d = definition_if ⟦<TakenControl as Defined>⟧.loan taken.entry in MatchResult result
+            (λ ticket. (judged_by ⟦<TakenWindow as Defined>⟧.loan ⟦<TakenControl as Defined>⟧.loan new.now d windows.now
+            self.now ≡ None)
+            × IsTicket ⟦<TakenControl as Defined>⟧.loan new.now d windows.now self.now ticket)
+            (λ e. judged_by ⟦<TakenWindow as Defined>⟧.loan ⟦<TakenControl as Defined>⟧.loan new.now d windows.now
+            self.now ≡ Some e) }
     {
         let Some(window) = windows.find(new.window) else {
             return Err(Refusal::NoSuchWindow);
@@ -153,12 +155,16 @@ impl Controls<TakenControl> {
         new: &NewControl<'_>,
         taken: &TakenControl,
     ) -> Result<Addition, Refusal>
-        requires kept { IsKept ⟦<Taken as Defined>⟧.loan windows.now }
-        requires beside { AreBeside ⟦<TakenControl as DefinedControl>⟧.control_loan ⟦<Taken as Defined>⟧.loan windows.now self.old }
+        requires kept { IsKept ⟦<TakenWindow as Defined>⟧.loan windows.now }
+        requires beside { AreBeside ⟦<TakenControl as Defined>⟧.loan ⟦<TakenWindow as Defined>⟧.loan windows.now
+            self.old }
         ensures same { IsRoomier self.old self.new }
-        ensures judged { IfOk result (λ _. judged_by ⟦<Taken as Defined>⟧.loan ⟦<TakenControl as DefinedControl>⟧.control_loan new.now (Some (⟦<TakenControl as DefinedControl>⟧.control_loan taken.now).definition) windows.now self.old ≡ None) }
-        ensures ok { IfOk result (IsAddition ⟦<Taken as Defined>⟧.loan ⟦<TakenControl as DefinedControl>⟧.control_loan new.now (⟦<TakenControl as DefinedControl>⟧.control_loan taken.now).definition windows.now self.new) }
-        ensures err { IfErr result (IsNotAdded ⟦<Taken as Defined>⟧.loan ⟦<TakenControl as DefinedControl>⟧.control_loan new.now (⟦<TakenControl as DefinedControl>⟧.control_loan taken.now).definition windows.now self.old) }
+        ensures judged { IfOk result (λ _. judged_by ⟦<TakenWindow as Defined>⟧.loan ⟦<TakenControl as Defined>⟧.loan
+            new.now (Some (⟦<TakenControl as Defined>⟧.loan taken.now).definition) windows.now self.old ≡ None) }
+        ensures ok { IfOk result (IsAddition ⟦<TakenWindow as Defined>⟧.loan ⟦<TakenControl as Defined>⟧.loan new.now
+            (⟦<TakenControl as Defined>⟧.loan taken.now).definition windows.now self.new) }
+        ensures err { IfErr result (IsNotAdded ⟦<TakenWindow as Defined>⟧.loan ⟦<TakenControl as Defined>⟧.loan new.now
+            (⟦<TakenControl as Defined>⟧.loan taken.now).definition windows.now self.old) }
     {
         let ticket = self.judge(windows, new, Some(taken))?;
         let layers = &windows.list().at(ticket.window).layers;
@@ -181,13 +187,16 @@ impl Controls<TakenControl> {
         layers: &Layers,
         update: &Region,
     ) -> Result<Addition, AllocError>
-        requires kept { IsKept ⟦<Taken as Defined>⟧.loan windows.now }
+        requires kept { IsKept ⟦<TakenWindow as Defined>⟧.loan windows.now }
         requires at { ticket.window < length windows.now.windows.records.items }
-        requires may { MayGrow new.now (⟦<TakenControl as DefinedControl>⟧.control_loan taken.now).definition ticket layers.now }
-        ensures grown { IfOk result (IsGrown new.now (⟦<TakenControl as DefinedControl>⟧.control_loan taken.now).definition ticket layers.now) }
+        requires may { MayGrow new.now (⟦<TakenControl as Defined>⟧.loan taken.now).definition ticket layers.now }
+        ensures grown { IfOk result (IsGrown new.now (⟦<TakenControl as Defined>⟧.loan taken.now).definition ticket
+            layers.now) }
         ensures planned { IfOk result (λ addition. (u : _) (m : _)
-            → IsReadyToAdd ⟦<Taken as Defined>⟧.loan ⟦<TakenControl as DefinedControl>⟧.control_loan new.now (⟦<TakenControl as DefinedControl>⟧.control_loan taken.now).definition ticket layers.now update.now windows.now u m
-            → IsAddition ⟦<Taken as Defined>⟧.loan ⟦<TakenControl as DefinedControl>⟧.control_loan new.now (⟦<TakenControl as DefinedControl>⟧.control_loan taken.now).definition u m addition) }
+            → IsReadyToAdd ⟦<TakenWindow as Defined>⟧.loan ⟦<TakenControl as Defined>⟧.loan new.now
+            (⟦<TakenControl as Defined>⟧.loan taken.now).definition ticket layers.now update.now windows.now u m
+            → IsAddition ⟦<TakenWindow as Defined>⟧.loan ⟦<TakenControl as Defined>⟧.loan new.now
+            (⟦<TakenControl as Defined>⟧.loan taken.now).definition u m addition) }
     {
         let lie = Lie {
             place: new.place,
@@ -219,14 +228,18 @@ impl Controls<TakenControl> {
         addition: Addition,
         taken: TakenControl,
     )
-        requires kept { IsKept ⟦<Taken as Defined>⟧.loan windows.old }
-        requires beside { AreBeside ⟦<TakenControl as DefinedControl>⟧.control_loan ⟦<Taken as Defined>⟧.loan windows.old self.old }
-        requires addition { IsAddition ⟦<Taken as Defined>⟧.loan ⟦<TakenControl as DefinedControl>⟧.control_loan new.now (⟦<TakenControl as DefinedControl>⟧.control_loan taken).definition windows.old self.old addition }
-        requires fresh { (⟦<TakenControl as DefinedControl>⟧.control_loan taken).definition.stage ≡ Stage.Fresh }
-        ensures step { (before left : _) → IsTaken (λ d. d.stage) new.now.kind (⟦<TakenControl as DefinedControl>⟧.control_loan taken) before left
-            → (o : Opened) → LeavesOver ⟦<TakenControl as DefinedControl>⟧.control_loan ⟦<Taken as Defined>⟧.loan before left
+        requires kept { IsKept ⟦<TakenWindow as Defined>⟧.loan windows.old }
+        requires beside { AreBeside ⟦<TakenControl as Defined>⟧.loan ⟦<TakenWindow as Defined>⟧.loan windows.old
+            self.old }
+        requires addition { IsAddition ⟦<TakenWindow as Defined>⟧.loan ⟦<TakenControl as Defined>⟧.loan new.now
+            (⟦<TakenControl as Defined>⟧.loan taken).definition windows.old self.old addition }
+        requires fresh { (⟦<TakenControl as Defined>⟧.loan taken).definition.stage ≡ Stage.Fresh }
+        ensures step { (before left : _) → IsTaken (λ d. d.stage) new.now.kind (⟦<TakenControl as Defined>⟧.loan taken)
+            before left
+            → (o : Opened) → LeavesOver ⟦<TakenControl as Defined>⟧.loan ⟦<TakenWindow as Defined>⟧.loan before left
             (IsControlMade new.now addition.ticket.serial) windows.old o self.old windows.new o self.new }
-        ensures put { AreLayersPut addition.ticket.window addition.layers addition.relaying.update windows.old windows.new }
+        ensures put { AreLayersPut addition.ticket.window addition.layers addition.relaying.update windows.old
+            windows.new }
         ensures room { vec_capacity self.old.list.items ≤ vec_capacity self.new.list.items }
     {
         let mut taken = taken;

@@ -10,7 +10,7 @@ ghost use Rattle.control_mgr.specs.Spots.{opened};
 ghost use Rattle.control_mgr.specs.WholeControls.{AreWholeControls, IsTrackable, LeavesOver, controls_state, records_of};
 
 use crate::Controls;
-use def_iface::{ControlStock, Defined, DefinedControl, StockedControls, Taken, TakenControl};
+use def_iface::{ControlStock, Defined, Stocked, TakenControl, TakenWindow};
 use desk_call::{Activity, ControlCall, ControlReply};
 use tb_geom::Refusal;
 use window_mgr::WindowManager;
@@ -26,15 +26,16 @@ impl Controls<TakenControl> {
         call: &ControlCall<'_>,
         stock: &mut ControlStock,
     ) -> Result<ControlReply, Refusal>
-        requires kept { IsKept ⟦<Taken as Defined>⟧.loan windows.old }
-        requires whole { AreWholeControls (desk_of ⟦<Taken as Defined>⟧.loan windows.old []).windows
-            (controls_state ⟦<TakenControl as DefinedControl>⟧.control_loan self.old (⟦<ControlStock as StockedControls>⟧.control_slots stock.old)) }
-        requires trackable { IsTrackable activity.old (records_of ⟦<TakenControl as DefinedControl>⟧.control_loan self.old) }
+        requires kept { IsKept ⟦<TakenWindow as Defined>⟧.loan windows.old }
+        requires whole { AreWholeControls (desk_of ⟦<TakenWindow as Defined>⟧.loan windows.old []).windows
+            (controls_state ⟦<TakenControl as Defined>⟧.loan self.old (⟦<ControlStock as Stocked>⟧.slots stock.old)) }
+        requires trackable { IsTrackable activity.old (records_of ⟦<TakenControl as Defined>⟧.loan self.old) }
         requires admitted { gate activity.old (control_standing call.now) ≡ None }
-        ensures step { (begun : PixelSet) → LeavesOver ⟦<TakenControl as DefinedControl>⟧.control_loan ⟦<Taken as Defined>⟧.loan
-            (⟦<ControlStock as StockedControls>⟧.control_slots stock.old) (⟦<ControlStock as StockedControls>⟧.control_slots stock.new) (IsWhereRight (IsControlStep call.now result))
+        ensures step { (begun : PixelSet) → LeavesOver ⟦<TakenControl as Defined>⟧.loan ⟦<TakenWindow as Defined>⟧.loan
+            (⟦<ControlStock as Stocked>⟧.slots stock.old) (⟦<ControlStock as Stocked>⟧.slots stock.new)
+            (IsWhereRight (IsControlStep call.now result))
             windows.old (opened activity.old begun) self.old windows.new (opened activity.new begun) self.new }
-        ensures trackable { IsTrackable activity.new (records_of ⟦<TakenControl as DefinedControl>⟧.control_loan self.new) }
+        ensures trackable { IsTrackable activity.new (records_of ⟦<TakenControl as Defined>⟧.loan self.new) }
     {
         match call {
             ControlCall::New(new) => self.make(windows, new, stock),

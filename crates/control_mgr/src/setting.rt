@@ -14,7 +14,7 @@ ghost use Rattle.control_mgr.specs.WholeControls.{AreBeside, LeavesControls, rec
 use crate::Controls;
 use crate::spots::ControlAt;
 use control_values::{ControlValues, Highlight};
-use def_iface::{Defined, DefinedControl, Taken, TakenControl};
+use def_iface::{Defined, TakenControl, TakenWindow};
 use desk_call::{ControlNumber, ControlOf, ControlReply, ControlTitle};
 use draw_port::ShortText;
 use tb_geom::Refusal;
@@ -43,7 +43,7 @@ impl Controls<TakenControl> {
     /// The state of the control at this index.
     pub(crate) fn state(&self, at: usize) -> State
         requires { at < length self.now.list.items.items }
-        ensures { IfSome (slice_get (records_of ⟦<TakenControl as DefinedControl>⟧.control_loan self.now) at) (λ c.
+        ensures { IfSome (slice_get (records_of ⟦<TakenControl as Defined>⟧.loan self.now) at) (λ c.
             result ≡ record { values = c.kept.values; highlight = c.kept.highlight; title = c.kept.title }) }
     {
         let control = &self.list.items[at];
@@ -56,11 +56,14 @@ impl Controls<TakenControl> {
 
     /// Gives a control this state, and draws it within the damage where it is not to be redrawn. Takes no memory.
     pub(crate) fn put(&mut self, windows: &mut WindowManager, spot: ControlAt, state: State)
-        requires kept { IsKept ⟦<Taken as Defined>⟧.loan windows.old }
-        requires beside { AreBeside ⟦<TakenControl as DefinedControl>⟧.control_loan ⟦<Taken as Defined>⟧.loan windows.old self.old }
-        requires spot { IsSpot ⟦<Taken as Defined>⟧.loan ⟦<TakenControl as DefinedControl>⟧.control_loan windows.old self.old spot }
-        ensures { (c : Named) → IsSpotOf ⟦<Taken as Defined>⟧.loan ⟦<TakenControl as DefinedControl>⟧.control_loan c windows.old self.old spot
-            → (o u : Opened) → LeavesControls ⟦<TakenControl as DefinedControl>⟧.control_loan ⟦<Taken as Defined>⟧.loan
+        requires kept { IsKept ⟦<TakenWindow as Defined>⟧.loan windows.old }
+        requires beside { AreBeside ⟦<TakenControl as Defined>⟧.loan ⟦<TakenWindow as Defined>⟧.loan windows.old
+            self.old }
+        requires spot { IsSpot ⟦<TakenWindow as Defined>⟧.loan ⟦<TakenControl as Defined>⟧.loan windows.old self.old
+            spot }
+        ensures { (c : Named) → IsSpotOf ⟦<TakenWindow as Defined>⟧.loan ⟦<TakenControl as Defined>⟧.loan c windows.old
+            self.old spot
+            → (o u : Opened) → LeavesControls ⟦<TakenControl as Defined>⟧.loan ⟦<TakenWindow as Defined>⟧.loan
             (IsPut c (with_state state)) windows.old o self.old windows.new u self.new }
     {
         say_bounds(state.values, state.highlight);
@@ -81,9 +84,10 @@ impl Controls<TakenControl> {
         control: ControlOf,
         values: ControlValues,
     )
-        requires kept { IsKept ⟦<Taken as Defined>⟧.loan windows.old }
-        requires beside { AreBeside ⟦<TakenControl as DefinedControl>⟧.control_loan ⟦<Taken as Defined>⟧.loan windows.old self.old }
-        ensures { (o u : Opened) → LeavesControls ⟦<TakenControl as DefinedControl>⟧.control_loan ⟦<Taken as Defined>⟧.loan
+        requires kept { IsKept ⟦<TakenWindow as Defined>⟧.loan windows.old }
+        requires beside { AreBeside ⟦<TakenControl as Defined>⟧.loan ⟦<TakenWindow as Defined>⟧.loan windows.old
+            self.old }
+        ensures { (o u : Opened) → LeavesControls ⟦<TakenControl as Defined>⟧.loan ⟦<TakenWindow as Defined>⟧.loan
             (IsSettingGiven control values) windows.old o self.old windows.new u self.new }
     {
         if let Ok(spot) = self.spot(windows, control) {
@@ -99,9 +103,10 @@ impl Controls<TakenControl> {
         windows: &mut WindowManager,
         set: ControlNumber,
     ) -> Result<ControlReply, Refusal>
-        requires kept { IsKept ⟦<Taken as Defined>⟧.loan windows.old }
-        requires beside { AreBeside ⟦<TakenControl as DefinedControl>⟧.control_loan ⟦<Taken as Defined>⟧.loan windows.old self.old }
-        ensures { (o : Opened) → LeavesControls ⟦<TakenControl as DefinedControl>⟧.control_loan ⟦<Taken as Defined>⟧.loan
+        requires kept { IsKept ⟦<TakenWindow as Defined>⟧.loan windows.old }
+        requires beside { AreBeside ⟦<TakenControl as Defined>⟧.loan ⟦<TakenWindow as Defined>⟧.loan windows.old
+            self.old }
+        ensures { (o : Opened) → LeavesControls ⟦<TakenControl as Defined>⟧.loan ⟦<TakenWindow as Defined>⟧.loan
             (IsWhereRight (IsControlStep (asks.SetValue set) result)) windows.old o self.old windows.new o self.new }
     {
         let spot = self.spot(windows, set.control)?;
@@ -117,9 +122,10 @@ impl Controls<TakenControl> {
         windows: &mut WindowManager,
         set: ControlNumber,
     ) -> Result<ControlReply, Refusal>
-        requires kept { IsKept ⟦<Taken as Defined>⟧.loan windows.old }
-        requires beside { AreBeside ⟦<TakenControl as DefinedControl>⟧.control_loan ⟦<Taken as Defined>⟧.loan windows.old self.old }
-        ensures { (o : Opened) → LeavesControls ⟦<TakenControl as DefinedControl>⟧.control_loan ⟦<Taken as Defined>⟧.loan
+        requires kept { IsKept ⟦<TakenWindow as Defined>⟧.loan windows.old }
+        requires beside { AreBeside ⟦<TakenControl as Defined>⟧.loan ⟦<TakenWindow as Defined>⟧.loan windows.old
+            self.old }
+        ensures { (o : Opened) → LeavesControls ⟦<TakenControl as Defined>⟧.loan ⟦<TakenWindow as Defined>⟧.loan
             (IsWhereRight (IsControlStep (asks.SetMinimum set) result)) windows.old o self.old windows.new o self.new }
     {
         let spot = self.spot(windows, set.control)?;
@@ -135,9 +141,10 @@ impl Controls<TakenControl> {
         windows: &mut WindowManager,
         set: ControlNumber,
     ) -> Result<ControlReply, Refusal>
-        requires kept { IsKept ⟦<Taken as Defined>⟧.loan windows.old }
-        requires beside { AreBeside ⟦<TakenControl as DefinedControl>⟧.control_loan ⟦<Taken as Defined>⟧.loan windows.old self.old }
-        ensures { (o : Opened) → LeavesControls ⟦<TakenControl as DefinedControl>⟧.control_loan ⟦<Taken as Defined>⟧.loan
+        requires kept { IsKept ⟦<TakenWindow as Defined>⟧.loan windows.old }
+        requires beside { AreBeside ⟦<TakenControl as Defined>⟧.loan ⟦<TakenWindow as Defined>⟧.loan windows.old
+            self.old }
+        ensures { (o : Opened) → LeavesControls ⟦<TakenControl as Defined>⟧.loan ⟦<TakenWindow as Defined>⟧.loan
             (IsWhereRight (IsControlStep (asks.SetMaximum set) result)) windows.old o self.old windows.new o self.new }
     {
         let spot = self.spot(windows, set.control)?;
@@ -153,9 +160,10 @@ impl Controls<TakenControl> {
         windows: &mut WindowManager,
         set: ControlNumber,
     ) -> Result<ControlReply, Refusal>
-        requires kept { IsKept ⟦<Taken as Defined>⟧.loan windows.old }
-        requires beside { AreBeside ⟦<TakenControl as DefinedControl>⟧.control_loan ⟦<Taken as Defined>⟧.loan windows.old self.old }
-        ensures { (o : Opened) → LeavesControls ⟦<TakenControl as DefinedControl>⟧.control_loan ⟦<Taken as Defined>⟧.loan
+        requires kept { IsKept ⟦<TakenWindow as Defined>⟧.loan windows.old }
+        requires beside { AreBeside ⟦<TakenControl as Defined>⟧.loan ⟦<TakenWindow as Defined>⟧.loan windows.old
+            self.old }
+        ensures { (o : Opened) → LeavesControls ⟦<TakenControl as Defined>⟧.loan ⟦<TakenWindow as Defined>⟧.loan
             (IsWhereRight (IsControlStep (asks.Hilite set) result)) windows.old o self.old windows.new o self.new }
     {
         let spot = self.spot(windows, set.control)?;
@@ -171,10 +179,12 @@ impl Controls<TakenControl> {
         windows: &mut WindowManager,
         set: &ControlTitle<'_>,
     ) -> Result<ControlReply, Refusal>
-        requires kept { IsKept ⟦<Taken as Defined>⟧.loan windows.old }
-        requires beside { AreBeside ⟦<TakenControl as DefinedControl>⟧.control_loan ⟦<Taken as Defined>⟧.loan windows.old self.old }
-        ensures { (o : Opened) → LeavesControls ⟦<TakenControl as DefinedControl>⟧.control_loan ⟦<Taken as Defined>⟧.loan
-            (IsWhereRight (IsControlStep (asks.SetTitle set.now) result)) windows.old o self.old windows.new o self.new }
+        requires kept { IsKept ⟦<TakenWindow as Defined>⟧.loan windows.old }
+        requires beside { AreBeside ⟦<TakenControl as Defined>⟧.loan ⟦<TakenWindow as Defined>⟧.loan windows.old
+            self.old }
+        ensures { (o : Opened) → LeavesControls ⟦<TakenControl as Defined>⟧.loan ⟦<TakenWindow as Defined>⟧.loan
+            (IsWhereRight (IsControlStep (asks.SetTitle set.now) result)) windows.old o self.old windows.new o
+            self.new }
     {
         let spot = self.spot(windows, set.control)?;
         let mut state = self.state(spot.control);

@@ -6,7 +6,7 @@ ghost use Rattle.control_mgr.specs.Spots.{IsTellable};
 ghost use Rattle.control_mgr.specs.WholeControls.{records_of};
 
 use crate::Controls;
-use def_iface::{ControlChange, DefinedControl, TakenControl};
+use def_iface::{ControlChange, Defined, TakenControl};
 use draw_port::placed_within;
 use tb_geom::Rect;
 
@@ -15,11 +15,11 @@ impl Controls<TakenControl> {
     /// control's window: of the pixels outside of it the control shows what it showed.
     pub(crate) fn tell(&mut self, at: usize) -> Rect
         requires at { at < length self.old.list.items.items }
-        requires tellable { IfSome (slice_get (records_of ⟦<TakenControl as DefinedControl>⟧.control_loan self.old) at) IsTellable }
-        ensures told { IsChangedAt (λ c. c) at (records_of ⟦<TakenControl as DefinedControl>⟧.control_loan self.old)
-            (records_of ⟦<TakenControl as DefinedControl>⟧.control_loan self.new) }
-        ensures damage { IsDamageAt result at (records_of ⟦<TakenControl as DefinedControl>⟧.control_loan self.old)
-            (records_of ⟦<TakenControl as DefinedControl>⟧.control_loan self.new) }
+        requires tellable { IfSome (slice_get (records_of ⟦<TakenControl as Defined>⟧.loan self.old) at) IsTellable }
+        ensures told { IsChangedAt (λ c. c) at (records_of ⟦<TakenControl as Defined>⟧.loan self.old)
+            (records_of ⟦<TakenControl as Defined>⟧.loan self.new) }
+        ensures damage { IsDamageAt result at (records_of ⟦<TakenControl as Defined>⟧.loan self.old)
+            (records_of ⟦<TakenControl as Defined>⟧.loan self.new) }
         ensures next { self.new.list.next ≡ self.old.list.next }
         ensures alloc { self.new.alloc ≡ self.old.alloc }
     {

@@ -3,11 +3,11 @@ use Rattle.std.proofs.Common.{◌≡◌, ℕ, List, ◌∙◌, sym}
 use Rattle.tb_geom.specs.declared.point.Point.{Point}
 use Rattle.def_iface.specs.declared.window_def.WindowChange.{WindowChange}
 use Rattle.def_iface.specs.declared.window_def.WindowChange.TheVariants.{Resized, Titled, Highlighted, Closable, Zoomed, Tracked}
-use Rattle.def_iface.specs.News.{News, AllNews, no_news, told_all, told_change}
-use Rattle.def_iface.specs.Meaning.{Definition, SameRegions, Hears, GoesBy}
+use Rattle.def_iface.specs.WindowNews.{WindowNews, AllWindowNews, no_news, told_all, told_change}
+use Rattle.def_iface.specs.WindowMeaning.{WindowDefinition, SameRegions, WindowHears, WindowGoesBy}
 
 -- told all of something, a definition has forgotten what it was told before
-pub later_news_count : (change : WindowChange) (old new : Definition) → Hears (told_change change) old new → (all : AllNews) (font : List ℕ) (p : Point) → new.picture (told_all all no_news) font p ≡ old.picture (told_all all no_news) font p
+pub later_news_count : (change : WindowChange) (old new : WindowDefinition) → WindowHears (told_change change) old new → (all : AllWindowNews) (font : List ℕ) (p : Point) → new.picture (told_all all no_news) font p ≡ old.picture (told_all all no_news) font p
 later_news_count (Resized s) old new heard all font p = heard.picture (told_all all no_news) font p
 later_news_count (Titled t) old new heard all font p = heard.picture (told_all all no_news) font p
 later_news_count (Highlighted b) old new heard all font p = heard.picture (told_all all no_news) font p
@@ -16,16 +16,16 @@ later_news_count (Zoomed b) old new heard all font p = heard.picture (told_all a
 later_news_count (Tracked b) old new heard all font p = heard.picture (told_all all no_news) font p
 
 -- a definition that was told all of something goes by it
-pub goes_by_all : (all : AllNews) (old new : Definition) → Hears (told_all all) old new → GoesBy all new
+pub goes_by_all : (all : AllWindowNews) (old new : WindowDefinition) → WindowHears (told_all all) old new → WindowGoesBy all new
 goes_by_all all old new heard = record {
   picture = λ n font p. heard.picture n font p ∙ sym (heard.picture (told_all all n) font p);
   hit = λ n p. heard.hit n p ∙ sym (heard.hit (told_all all n) p);
 }
 
 -- it went by one thing, was told another, and goes by that, where the other is the one with the news
-pub goes_by_news : (news : News → News) (was is : AllNews) (old new : Definition)
-    → ((n : News) → told_all was (news n) ≡ told_all is n) → ((n : News) → news (told_all is n) ≡ told_all is n)
-    → GoesBy was old → Hears news old new → GoesBy is new
+pub goes_by_news : (news : WindowNews → WindowNews) (was is : AllWindowNews) (old new : WindowDefinition)
+    → ((n : WindowNews) → told_all was (news n) ≡ told_all is n) → ((n : WindowNews) → news (told_all is n) ≡ told_all is n)
+    → WindowGoesBy was old → WindowHears news old new → WindowGoesBy is new
 goes_by_news news was is old new with_news again goes heard = record {
   picture = λ n font p. heard.picture n font p ∙ goes.picture (news n) font p
       ∙ (λ i. old.picture (with_news n i) font p)
@@ -36,14 +36,14 @@ goes_by_news news was is old new with_news again goes heard = record {
 }
 
 -- a definition was told one thing, and then another
-pub hears_then : {one other : News → News} {old middle new : Definition} → Hears one old middle → Hears other middle new → Hears (λ n. one (other n)) old new
+pub hears_then : {one other : WindowNews → WindowNews} {old middle new : WindowDefinition} → WindowHears one old middle → WindowHears other middle new → WindowHears (λ n. one (other n)) old new
 hears_then {one} {other} first second = record {
   picture = λ n font p. second.picture n font p ∙ first.picture (other n) font p;
   hit = λ n p. second.hit n p ∙ first.hit (other n) p;
 }
 
 -- and its regions stayed each time
-pub regions_then : {old middle new : Definition} → SameRegions old middle → SameRegions middle new → SameRegions old new
+pub regions_then : {old middle new : WindowDefinition} → SameRegions old middle → SameRegions middle new → SameRegions old new
 regions_then first second = record {
   structure = second.structure ∙ first.structure;
   content = second.content ∙ first.content;

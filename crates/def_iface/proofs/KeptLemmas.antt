@@ -9,9 +9,9 @@ use Rattle.def_iface.specs.declared.size.Size.{Size}
 use Rattle.def_iface.specs.declared.window_def.Hit.{Hit}
 use Rattle.def_iface.specs.declared.window_def.WindowChange.{WindowChange}
 use Rattle.def_iface.specs.declared.window_def.WindowChange.TheVariants.{Resized, Titled, Highlighted, Closable, Zoomed, Tracked}
-use Rattle.def_iface.specs.News.{News, told_change}
-use Rattle.def_iface.specs.Meaning.{Definition, Hears, size_after}
-use Rattle.def_iface.specs.Keeping.{flags_after, title_after, keeps_title, flags_in, size_in, kept_picture, kept_hit}
+use Rattle.def_iface.specs.WindowNews.{WindowNews, told_change}
+use Rattle.def_iface.specs.WindowMeaning.{WindowDefinition, WindowHears, size_after}
+use Rattle.def_iface.specs.WindowKeeping.{flags_after, title_after, keeps_title, flags_in, size_in, kept_picture, kept_hit}
 
 -- of two titles the later one is kept
 pub later_title : (o : Option (List ℕ)) (t title : List ℕ)
@@ -20,7 +20,7 @@ later_title None t title = refl
 later_title (Some x) t title = refl
 
 module _ (look : Flags → List ℕ → Size → List ℕ → PixelSet) (part : Flags → Size → Point → Hit) (f : Flags) (title : List ℕ) (size : Size) where
-  shown : (change : WindowChange) (n : News)
+  shown : (change : WindowChange) (n : WindowNews)
       → kept_picture look (flags_after change f) (title_after change title) (size_after change size) n ≡ kept_picture look f title size (told_change change n)
   shown (Resized s) n = refl
   shown (Titled t) n = ap (λ x. look (flags_in n f) x (size_in n size)) (later_title n.title t.now title)
@@ -29,7 +29,7 @@ module _ (look : Flags → List ℕ → Size → List ℕ → PixelSet) (part : 
   shown (Zoomed b) n = refl
   shown (Tracked b) n = refl
 
-  parted : (change : WindowChange) (n : News)
+  parted : (change : WindowChange) (n : WindowNews)
       → kept_hit part (flags_after change f) (size_after change size) n ≡ kept_hit part f size (told_change change n)
   parted (Resized s) n = refl
   parted (Titled t) n = refl
@@ -39,12 +39,12 @@ module _ (look : Flags → List ℕ → Size → List ℕ → PixelSet) (part : 
   parted (Tracked b) n = refl
 
   -- what was told is not forgotten, where the new definition keeps what the old one kept, after the change
-  pub kept_hears : (change : WindowChange) (old new : Definition)
+  pub kept_hears : (change : WindowChange) (old new : WindowDefinition)
       → old.picture ≡ kept_picture look f title size
       → old.hit ≡ kept_hit part f size
       → new.picture ≡ kept_picture look (flags_after change f) (title_after change title) (size_after change size)
       → new.hit ≡ kept_hit part (flags_after change f) (size_after change size)
-      → Hears (told_change change) old new
+      → WindowHears (told_change change) old new
   kept_hears change old new a b c d = record {
     picture = λ n font p. ap (λ picture. picture n font p) c ∙ ap (λ s. s font p) (shown change n) ∙ ap (λ picture. picture (told_change change n) font p) (sym a);
     hit = λ n p. ap (λ hit. hit n p) d ∙ ap (λ s. s p) (parted change n) ∙ ap (λ hit. hit (told_change change n) p) (sym b);

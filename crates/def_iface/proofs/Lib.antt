@@ -1,7 +1,4 @@
--- Lemmas on the desk's definitions, on those of windows and controls, and on slots.
-pub mod Painting
-pub mod Owning
-pub mod Changing
+-- Lemmas on slots, on definitions and what they are told, and on lines.
 pub mod StockLemmas
 pub mod SeenLemmas
 pub mod Hearing

@@ -10,6 +10,10 @@ use Rattle.def_iface.specs.declared.window_def.Stage.{Stage}
 use Rattle.def_iface.specs.Slots.{SlotOf, LoanOf, seen_slot, seen_slots, seen_loan, is_kind, has_kind, holds_fresh, offers, first_offer, holding, is_left, IsTaken, IsNotTaken, IsPutBack}
 use Rattle.def_iface.proofs.StockLemmas.{position-map}
 
+-- where a box stands in its life: where what it means does
+abbrev pub stage_by : {B D : Type 0} → (B → D) → (D → Stage) → B → Stage
+stage_by meaning stage b = stage (meaning b)
+
 module _ {B D : Type 0} (meaning : B → D) where
   pub kind_seen : (kind : List ℕ) (slots : List (SlotOf B)) → has_kind kind (seen_slots meaning slots) ≡ has_kind kind slots
   kind_seen kind [] = refl

@@ -1,11 +1,12 @@
 -- What the contracts speak of: what definitions of windows, controls, menus and lists mean, what one keeps of what it is
--- told, what a stock of them holds, the lines of outlines, the desk and its layers, the owner of a pixel, and what a change does to pixels.
+-- told, what a stock of them holds, their end, and the lines of outlines.
 pub mod Sizes
 pub mod Lines
 pub mod Slots
-pub mod News
-pub mod Meaning
-pub mod Keeping
+pub mod Closing
+pub mod WindowNews
+pub mod WindowMeaning
+pub mod WindowKeeping
 pub mod ControlNews
 pub mod ControlMeaning
 pub mod ControlKeeping
@@ -13,7 +14,4 @@ pub mod MenuMeaning
 pub mod ListMeaning
 pub mod Stocked
 pub mod Stocks
-pub mod Desk
-pub mod Owner
-pub mod Scratch
-pub mod Change
+pub mod Boxed

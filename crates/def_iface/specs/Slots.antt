@@ -7,7 +7,11 @@ use Rattle.tb_geom.specs.declared.refusal.Refusal.{Refusal}
 use Rattle.tb_geom.specs.declared.refusal.Refusal.TheVariants.{NoSuchName, NoDefinition}
 use Rattle.def_iface.specs.declared.window_def.Stage.{Stage}
 use Rattle.def_iface.specs.declared.window_def.Stage.TheVariants.{Fresh, Live, Closed}
+use Rattle.std.specs.declared.alloc.Global.{Global}
+use Rattle.std.specs.declared.dyn_box.DynBox.{DynBox}
 use Rattle.def_iface.specs.declared.slots.Slot.{Slot}
+use Rattle.def_iface.specs.declared.slots.Slots.{Slots}
+use Rattle.def_iface.specs.declared.taken.Taken.{Taken}
 
 -- a slot: the name of the kind that it is for, and the definition in it, if there is one
 pub record SlotOf (D : Type 0) : Type 0 where
@@ -62,6 +66,17 @@ module _ {B D : Type 0} (meaning : B → D) where
 
   abbrev pub seen_loan : LoanOf B → LoanOf D
   seen_loan loan = record { definition = meaning loan.definition; slot = loan.slot }
+
+  -- what was taken, and a stock, as they lie in memory, by what is meant
+  abbrev pub loan_by : Taken B → LoanOf D
+  loan_by t = record { definition = meaning t.definition; slot = t.slot }
+
+  abbrev pub slots_by : Slots B → List (SlotOf D)
+  slots_by s = seen_slots (slot_views s.slots.items)
+
+-- a definition in a box that was taken, whichever trait the box is of
+abbrev pub TakenBox : (V : Type 0) → (V → Type 0) → Type 0
+TakenBox V H = Taken (DynBox V Global H)
 
 -- `stage` says where a definition stands in its life
 module _ {D : Type 0} (stage : D → Stage) where

@@ -8,7 +8,7 @@ ghost use Rattle.draw_port.specs.Canvases.{canvas_holds, canvas_point, SameFrame
 ghost use Rattle.def_iface.specs.ControlNews.{no_control_news, told_control};
 ghost use Rattle.def_iface.specs.ControlMeaning.{ControlDefinition, SameControlLook, SameControlRegions, ControlHears, IsControlDamage};
 ghost use Rattle.def_iface.specs.ControlMeaning.{is_control_size, is_fitting_control, control_size_after};
-ghost use Rattle.def_iface.specs.Meaning.{IsWithin};
+ghost use Rattle.def_iface.specs.WindowMeaning.{IsWithin};
 
 use crate::{Size, Stage};
 use control_values::{ControlPart, ControlValues, Highlight};
@@ -50,7 +50,8 @@ pub trait ControlDef: Drop {
     /// and after are equal outside it, within the range of coordinates.
     fn told(&mut self, change: &ControlChange<'_>) -> Rect
         requires live { (control_meaning self.old).stage ≡ Stage.Live }
-        requires fits { is_fitting_control (control_meaning self.old) (control_size_after change.now (control_meaning self.old).size) ≡ true }
+        requires fits { is_fitting_control (control_meaning self.old)
+            (control_size_after change.now (control_meaning self.old).size) ≡ true }
         ensures stays { (control_meaning self.new).stage ≡ Stage.Live }
         ensures size { (control_meaning self.new).size ≡ control_size_after change.now (control_meaning self.old).size }
         ensures regions { SameControlRegions (control_meaning self.old) (control_meaning self.new) }

@@ -4,8 +4,8 @@
 //! give. That it then forgot nothing, as `WindowDef::told` owes, `proofs/KeptLemmas` says once for all of them
 //! (`kept_hears`).
 ghost use Rattle.std.specs.Prelude.{◌≡◌};
-ghost use Rattle.def_iface.specs.Meaning.{size_after};
-ghost use Rattle.def_iface.specs.Keeping.{no_flags, flags_after, title_after, keeps_title};
+ghost use Rattle.def_iface.specs.WindowMeaning.{size_after};
+ghost use Rattle.def_iface.specs.WindowKeeping.{no_flags, flags_after, title_after, keeps_title};
 
 use crate::{Size, WindowChange};
 use draw_port::ShortText;

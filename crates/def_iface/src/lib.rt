@@ -1,10 +1,10 @@
-//! The interfaces of definitions, the stock that they wait in, and the desk as plain data.
+//! The interfaces of definitions, and the stock that they wait in.
 //!
 //! A definition is the code behind a kind of window, control, menu or list (*Inside Macintosh* I, "The Window Manager",
 //! "The Control Manager" and "The Menu Manager", "Defining Your Own ..."; IV, "The List Manager Package"): it answers which
 //! pixels belong to a thing of some size, which of its parts a point lies in, and it draws it. The program makes its
 //! definitions, and hands them in as boxes of the traits `WindowDef`, `ControlDef`, `MenuDef` and `ListDef`. The Toolbox knows
-//! no more of a box than the value that the trait's contract gives it (`Definition`, `ControlDefinition`, `MenuDefinition`,
+//! no more of a box than the value that the trait's contract gives it (`WindowDefinition`, `ControlDefinition`, `MenuDefinition`,
 //! `ListDefinition` in specs): its stage, what is a function of the size alone, as its regions, and its picture, which is
 //! asked with a font, the desk's: at each point it has a value in each font. Points are local to the window, control, menu or
 //! list cell, whose content or rectangle begins at 0 0.
@@ -16,14 +16,17 @@
 //! every font and within the range of coordinates. What it was told last of each of these is part of its meaning, and it
 //! forgets nothing of it. `dispose` makes it Closed, and Closed it remains: nothing is made with it again.
 //!
-//! Definitions wait in a `Stock`, which has slots for each of the four: `WindowStock`, `ControlStock`, `ListStock` and
+//! What holds of a definition of whichever kind is said once, of `Held`: it has a meaning, of which its stage is a part, and it
+//! can be disposed of. So there is one stock for things of a kind, `Slots`, one definition out of its slot, `Taken`, and one way
+//! to end its use, `put_away`.
+//!
+//! Definitions wait in a `Stock`, which has such slots for each of the four: `WindowStock`, `ControlStock`, `ListStock` and
 //! `MenuStock`. A slot is for a kind that goes by its name, and several slots may be for one kind. `take` gives the first
-//! Fresh definition of a kind, in the order in which the slots were added, and leaves its slot empty. What it gives, a `Taken`
-//! or its like, has the box together with the number of its slot. So in a stock whose boxes come back to it each slot has one
-//! definition for good, whether that is in it or out: the box goes back to the very place that it left, and putting it back
-//! takes no memory and cannot fail. A Closed definition is put back too. Its slot is then still one of the kind, which is how
-//! a kind that is used up differs from one that never was. How slots work is said once for all four (`slots`); what stands in
-//! one is a box there, of which no more is known than its stage.
+//! Fresh definition of a kind, in the order in which the slots were added, and leaves its slot empty. What it gives, a
+//! `TakenWindow` or its like, has the box together with the number of its slot. So in a stock whose boxes come back to it each
+//! slot has one definition for good, whether that is in it or out: the box goes back to the very place that it left, and
+//! putting it back takes no memory and cannot fail. A Closed definition is put back too. Its slot is then still one of the
+//! kind, which is how a kind that is used up differs from one that never was.
 //!
 //! A definition draws on a `draw_port::Canvas`, by any of its calls: fills, images, texts, operations and whole pictures. The
 //! canvas carries the font of the picture, and its own coordinates are those local to what is drawn. The definition gives each
@@ -31,29 +34,24 @@
 //! the desk shows the frame's pixels alone, so such a definition may fill all of the canvas and put the rest on top, whatever
 //! that gives to pixels outside its frame.
 //!
-//! Two laws say what all of this is for. The desk as plain data is a stack of layers: the desktop, the windows from back to
-//! front, each a frame and content layers on it (a `Part` each: controls, lists, the picture), and the menu bar. The first
-//! law: painting all of it from nothing, back to front, gives each pixel the value of its owner, the one layer to which the
-//! pixel belongs. The second: a call that moves, uncovers or draws pixels, and does so soundly, keeps a right screen right,
-//! where right means that each pixel which waits for no update has the very value that painting from nothing would give it.
+//! One law says what being told is for: once a definition is told all there is to tell, what it shows is a function of that
+//! alone, whatever it was told before.
 //!
-//! Modules: `size` has the sizes of windows, `lines` the lines of their outlines, `part` the layers of a window's content;
-//! `window_def`, `control_def`, `menu_def` and `list_def` the traits; `keeping` and `control_keeping` what most definitions keep
-//! of what they are told; `stock`, and for each trait a module `.._stock`, the slots; `taken`, and `taken_..`, the definition
-//! out of its slot; `laws` the laws.
+//! Modules: `size` has the sizes of windows, `lines` the lines of their outlines; `window_def`, `control_def`, `menu_def` and
+//! `list_def` the traits; `keeping` and `control_keeping` what most definitions keep of what they are told; `held` what holds
+//! of all definitions, `slots` and `stock` the slots; `taken` the definition out of its slot, and `taken_..` what one of each
+//! trait answers there; `closing` the end of its use; `laws` the law.
 #![tactic(auto)]
 
+mod closing;
 mod control_def;
 mod control_keeping;
-mod control_stock;
+mod held;
 mod keeping;
 pub mod laws;
 mod lines;
 mod list_def;
-mod list_stock;
 mod menu_def;
-mod menu_stock;
-mod part;
 mod size;
 mod slots;
 mod stock;
@@ -61,24 +59,23 @@ mod taken;
 mod taken_control;
 mod taken_list;
 mod taken_menu;
+mod taken_window;
 mod window_def;
-mod window_stock;
 
+pub use closing::put_away;
 pub use control_def::{ControlChange, ControlDef};
 pub use control_keeping::KeptControl;
-pub use control_stock::{ControlStock, ReturnedControl, StockedControls};
+pub use held::Held;
 pub use keeping::Flags;
 pub use lines::{NO_LINE, frame_lines};
 pub use list_def::{ListChange, ListDef};
-pub use list_stock::{ListStock, ReturnedList, StockedLists};
 pub use menu_def::{MenuChange, MenuDef};
-pub use menu_stock::{MenuStock, ReturnedMenu, StockedMenus};
-pub use part::Part;
 pub use size::Size;
+pub use slots::{Returned, Slots, Stocked};
 pub use stock::{Stock, StockedAll};
 pub use taken::{Defined, Taken};
-pub use taken_control::{DefinedControl, TakenControl};
-pub use taken_list::{DefinedList, TakenList};
-pub use taken_menu::{DefinedMenu, TakenMenu};
+pub use taken_control::{ControlStock, TakenControl};
+pub use taken_list::{ListStock, TakenList};
+pub use taken_menu::{MenuStock, TakenMenu};
+pub use taken_window::{TakenWindow, WindowStock};
 pub use window_def::{Hit, Stage, WindowChange, WindowDef, WindowRegions};
-pub use window_stock::{Returned, Stocked, WindowStock};

@@ -65,7 +65,8 @@ pub trait ListDef: Drop {
         ensures same_map { canvas.new.map.ghost_name ≡ canvas.old.map.ghost_name }
         ensures same_frame { SameFrame canvas.old canvas.new }
         ensures drawn { Draws (canvas_holds canvas.old)
-            (λ p d. if (list_meaning self.now).highlight no_list_news canvas.old.font.now bytes.now (canvas_point canvas.old p)
+            (λ p d. if (list_meaning self.now).highlight no_list_news canvas.old.font.now bytes.now
+            (canvas_point canvas.old p)
             then not d else d)
             canvas.old.map.now canvas.new.map.now };
 

@@ -62,7 +62,8 @@ pub trait MenuDef: Drop {
         ensures same_map { canvas.new.map.ghost_name ≡ canvas.old.map.ghost_name }
         ensures same_frame { SameFrame canvas.old canvas.new }
         ensures drawn { Draws (canvas_holds canvas.old)
-            (λ p _. (menu_meaning self.now).picture no_menu_news canvas.old.font.now menu.now (canvas_point canvas.old p))
+            (λ p _. (menu_meaning self.now).picture no_menu_news canvas.old.font.now menu.now
+            (canvas_point canvas.old p))
             canvas.old.map.now canvas.new.map.now };
 
     /// Ends a Live definition's use. It answers as it did: the definition that goes back into its slot is told by that.

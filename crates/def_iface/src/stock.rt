@@ -1,6 +1,7 @@
 //! The stock: what the program made, to be taken for use and put back.
 ghost use Rattle.std.specs.Prelude.{◌≡◌, All, []};
-ghost use Rattle.def_iface.specs.Slots.{slot_views, seen_slots};
+ghost use Rattle.def_iface.specs.WindowMeaning.{WindowDefinition};
+ghost use Rattle.def_iface.specs.Slots.{slots_by};
 ghost use Rattle.def_iface.specs.Stocked.{IsFull};
 ghost use Rattle.def_iface.specs.Stocks.{AllSlots, AreAllFull};
 
@@ -19,7 +20,9 @@ pub struct Stock {
 
 /// Of a stock, its slots of window definitions.
 impl Stocked for Stock {
-    ghost slots = { λ s. seen_slots (λ b. (WindowDef-box b).meaning b.value) (slot_views s.windows.slots.slots.items) };
+    ghost Meaning = { WindowDefinition };
+
+    ghost slots = { λ s. slots_by (λ b. (WindowDef-box b).meaning b.value) s.windows };
 }
 
 /// The slots of all four as contracts see them together.
@@ -29,10 +32,10 @@ pub trait StockedAll {
 
 impl StockedAll for Stock {
     ghost all_slots = { λ s. record {
-      windows = seen_slots (λ b. (WindowDef-box b).meaning b.value) (slot_views s.windows.slots.slots.items);
-      menus = seen_slots (λ b. (MenuDef-box b).menu_meaning b.value) (slot_views s.menus.slots.slots.items);
-      controls = seen_slots (λ b. (ControlDef-box b).control_meaning b.value) (slot_views s.controls.slots.slots.items);
-      lists = seen_slots (λ b. (ListDef-box b).list_meaning b.value) (slot_views s.lists.slots.slots.items);
+      windows = slots_by (λ b. (WindowDef-box b).meaning b.value) s.windows;
+      menus = slots_by (λ b. (MenuDef-box b).menu_meaning b.value) s.menus;
+      controls = slots_by (λ b. (ControlDef-box b).control_meaning b.value) s.controls;
+      lists = slots_by (λ b. (ListDef-box b).list_meaning b.value) s.lists;
     } };
 }
 
@@ -41,7 +44,8 @@ impl Stock {
     pub fn new(alloc: Global) -> Stock
         ensures empty { ⟦<Stock as Stocked>⟧.slots result ≡ [] }
         ensures full { All IsFull (⟦<Stock as Stocked>⟧.slots result) }
-        ensures none { ⟦<Stock as StockedAll>⟧.all_slots result ≡ record { windows = []; menus = []; controls = []; lists = [] } }
+        ensures none { ⟦<Stock as StockedAll>⟧.all_slots result
+            ≡ record { windows = []; menus = []; controls = []; lists = [] } }
         ensures all_full { AreAllFull (⟦<Stock as StockedAll>⟧.all_slots result) }
     {
         Stock {

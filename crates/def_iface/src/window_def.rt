@@ -8,8 +8,8 @@ ghost use Rattle.bit_blit.specs.Draws.{Draws};
 ghost use Rattle.draw_port.specs.Canvases.{canvas_holds, canvas_point, SameFrame};
 ghost use Rattle.def_iface.specs.Sizes.{is_size};
 ghost use Rattle.def_iface.specs.Lines.{AreApart};
-ghost use Rattle.def_iface.specs.Meaning.{Definition, SameLook, SameRegions, Hears, IsDamage, IsWithin, is_fitting, size_after};
-ghost use Rattle.def_iface.specs.News.{no_news, told_change};
+ghost use Rattle.def_iface.specs.WindowMeaning.{WindowDefinition, SameLook, SameRegions, WindowHears, IsDamage, IsWithin, is_fitting, size_after};
+ghost use Rattle.def_iface.specs.WindowNews.{no_news, told_change};
 
 use crate::Size;
 use draw_port::Canvas;
@@ -77,7 +77,7 @@ pub struct WindowRegions {
 /// A window's definition (a WDEF: *Inside Macintosh* I, "The Window Manager", "Defining Your Own
 /// Windows"): its regions and what its frame looks like. All points are local to the window.
 pub trait WindowDef: Drop {
-    ghost meaning: { Self → Definition };
+    ghost meaning: { Self → WindowDefinition };
 
     /// Where the definition stands in its life.
     fn stage(&self) -> Stage
@@ -88,7 +88,7 @@ pub trait WindowDef: Drop {
         requires { (meaning self.old).stage ≡ Stage.Fresh }
         ensures live { (meaning self.new).stage ≡ Stage.Live }
         ensures regions { SameRegions (meaning self.old) (meaning self.new) }
-        ensures look { Hears (λ n. n) (meaning self.old) (meaning self.new) };
+        ensures look { WindowHears (λ n. n) (meaning self.old) (meaning self.new) };
 
     /// Tells a Live definition of a change. The answer is the damage: in every font the pictures before
     /// and after are equal outside it, within the range of coordinates.
@@ -98,7 +98,7 @@ pub trait WindowDef: Drop {
         ensures stays { (meaning self.new).stage ≡ Stage.Live }
         ensures size { (meaning self.new).size ≡ size_after change.entry (meaning self.old).size }
         ensures regions { SameRegions (meaning self.old) (meaning self.new) }
-        ensures heard { Hears (told_change change.entry) (meaning self.old) (meaning self.new) }
+        ensures heard { WindowHears (told_change change.entry) (meaning self.old) (meaning self.new) }
         ensures damage { IsDamage result (meaning self.old) (meaning self.new) };
 
     /// Structure and content of a window of this size.

@@ -50,7 +50,8 @@ fn tell<C: ControlDef>(
 ) -> Result<(), Refusal>
     requires { (C.control_meaning control.old).stage ≡ Stage.Live }
     ensures live { (C.control_meaning control.new).stage ≡ Stage.Live }
-    ensures told { OnOk result (is_fitting_control (C.control_meaning control.new) (C.control_meaning control.new).size ≡ true) }
+    ensures told { OnOk result (is_fitting_control (C.control_meaning control.new) (C.control_meaning control.new).size
+        ≡ true) }
 {
     let values = ControlValues::new(numbers.minimum, numbers.maximum, numbers.value)?;
     let highlight = Highlight::of_number(numbers.highlight)?;
@@ -73,7 +74,8 @@ pub fn begin<C: ControlDef>(
 ) -> Result<(), Refusal>
     requires { (C.control_meaning control.old).stage ≡ Stage.Fresh }
     ensures live { (C.control_meaning control.new).stage ≡ Stage.Live }
-    ensures told { OnOk result (is_fitting_control (C.control_meaning control.new) (C.control_meaning control.new).size ≡ true) }
+    ensures told { OnOk result (is_fitting_control (C.control_meaning control.new) (C.control_meaning control.new).size
+        ≡ true) }
 {
     control.begin();
     tell(control, FIRST_SIZE, b"First", FIRST)?;

@@ -1,6 +1,7 @@
 //! Which calls may come while something is open.
 ghost use Rattle.std.specs.Prelude.{◌≡◌, None, MatchResult, Some};
-ghost use Rattle.desk_call.specs.Gates.{gate, standing_of, window_standing, update_standing, frame_standing, menu_standing, control_standing, list_standing, outline_standing};
+ghost use Rattle.desk_call.specs.Gates.{gate, standing_of, window_standing, update_standing, frame_standing};
+ghost use Rattle.desk_call.specs.Gates.{menu_standing, control_standing, list_standing, outline_standing};
 
 use crate::{
     Call, ControlCall, ControlOf, FrameCall, ListCall, MenuCall, OutlineCall, SizeLimits,

@@ -72,7 +72,8 @@ fn draw_title(canvas: &mut Canvas<'_>, left: u32, width: u32, title: &BarTitle)
     ensures same_map { canvas.new.map.ghost_name ≡ canvas.old.map.ghost_name }
     ensures same_frame { SameFrame canvas.old canvas.new }
     ensures drawn { Draws (canvas_holds canvas.old)
-        (λ p d. lettered_value canvas.old.font.now (bars.title_steps left width title.now) (canvas_point canvas.old p) d)
+        (λ p d. lettered_value canvas.old.font.now (bars.title_steps left width title.now) (canvas_point canvas.old p)
+        d)
         canvas.old.map.now canvas.new.map.now }
 {
     draw_lettered(canvas, &title_steps(left, width, title));

@@ -7,7 +7,7 @@ use Rattle.event_queue.specs.declared.event.Event.{Event}
 use Rattle.event_queue.specs.Events.{is_posted}
 use Rattle.desk_call.specs.declared.call.Call.{Call}
 use Rattle.desk_call.specs.declared.call.Reply.{Reply}
-use Rattle.def_iface.specs.Meaning.{Definition}
+use Rattle.def_iface.specs.WindowMeaning.{WindowDefinition}
 use Rattle.menu_list.specs.Lists.{is_in_bar, titles_of}
 use Rattle.menu_mgr.specs.WholeMenus.{AreMenusStocked}
 use Rattle.menu_mgr.proofs.Stocks.{stocked_by_full}
@@ -92,7 +92,7 @@ just_begun_is_consistent s begun =
       trackable = subst (λ a. IsTrackable a s.controls.controls) (sym begun.idle) tt;
       bars = (subst IsFromOne (sym begun.next_control) (omega arith), All-same (HasGivenBars s.controls.next) s.lists.lists [] begun.lists (All-nil (HasGivenBars s.controls.next)));
       queued = All-same (λ (e : Event). is_posted e.what ≡ true) s.events.queue.events [] (ap (λ (e : Events). e.queue.events) begun.events) (All-nil (λ (e : Event). is_posted e.what ≡ true));
-      held = subst (λ (ws : List WindowRecord). AreStocked (λ (d : Definition). d.stage) (map (λ w. w.slot) ws) s.desk.windows.desk.stock) (sym begun.windows) (λ k. none_used_at (λ (d : Definition). d.stage) s.desk.windows.desk.stock k begun.stock);
+      held = subst (λ (ws : List WindowRecord). AreStocked (λ (d : WindowDefinition). d.stage) (map (λ w. w.slot) ws) s.desk.windows.desk.stock) (sym begun.windows) (λ k. none_used_at (λ (d : WindowDefinition). d.stage) s.desk.windows.desk.stock k begun.stock);
       live = All-same HasLiveDefinition windows [] begun.windows (All-nil HasLiveDefinition);
       informed = All-same (λ (w : WindowRecord). Knows Highlighting w × Knows Zooming w) windows [] begun.windows (All-nil (λ (w : WindowRecord). Knows Highlighting w × Knows Zooming w));
       tracked = All-same (IsTrackedIfHeard s.desk.activity) windows [] begun.windows (All-nil (IsTrackedIfHeard s.desk.activity));

@@ -6,8 +6,8 @@ use Rattle.tb_geom.specs.declared.refusal.Refusal.{Refusal}
 use Rattle.tb_geom.specs.declared.refusal.Refusal.TheVariants.{OutOfRange}
 use Rattle.tb_geom.specs.Rects.{in_plane}
 use Rattle.tb_geom.specs.Refusals.{first_refusal}
-use Rattle.def_iface.specs.Desk.{LayeredDesk, on_screen}
-use Rattle.def_iface.specs.Owner.{owner}
+use Rattle.desk_layers.specs.Desk.{LayeredDesk, on_screen}
+use Rattle.desk_layers.specs.Owner.{owner}
 use Rattle.desk_call.specs.declared.call.Call.TheVariants.{Window}
 use Rattle.desk_call.specs.declared.call.Reply.{Reply}
 use Rattle.desk_call.specs.declared.call.Reply.TheVariants as reply

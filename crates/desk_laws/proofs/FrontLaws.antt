@@ -5,10 +5,10 @@ use Rattle.tb_geom.specs.declared.point.Point.{Point}
 use Rattle.tb_geom.specs.declared.refusal.Refusal.{Refusal}
 use Rattle.tb_geom.specs.Points.{PixelSet}
 use Rattle.tb_geom.specs.Rects.{rect_holds}
-use Rattle.def_iface.specs.Desk.{LayeredDesk, IsDesk, on_screen}
-use Rattle.def_iface.specs.Owner.{owner}
-use Rattle.def_iface.specs.Scratch.{scratch}
-use Rattle.def_iface.proofs.Painting.{scratch_is_owners}
+use Rattle.desk_layers.specs.Desk.{LayeredDesk, IsDesk, on_screen}
+use Rattle.desk_layers.specs.Owner.{owner}
+use Rattle.desk_layers.specs.Scratch.{scratch}
+use Rattle.desk_layers.proofs.Painting.{scratch_is_owners}
 use Rattle.overlay.specs.Outlines.{outline_holds, outlined}
 use Rattle.overlay.specs.Overlays.{Pulled, pulled_bit, pulled_rect, shown_bit}
 use Rattle.bit_map.specs.Modes.{xor_bit}

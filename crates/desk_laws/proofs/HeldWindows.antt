@@ -4,8 +4,8 @@ use Rattle.std.specs.Prelude.{slice_get}
 use Rattle.tb_geom.specs.declared.refusal.Refusal.{Refusal}
 use Rattle.tb_geom.specs.Points.{PixelSet, plus}
 use Rattle.def_iface.specs.declared.window_def.Stage.{Stage}
-use Rattle.def_iface.specs.Meaning.{Definition}
-use Rattle.def_iface.specs.News.{News, told_highlighted, told_title, told_tracked}
+use Rattle.def_iface.specs.WindowMeaning.{WindowDefinition}
+use Rattle.def_iface.specs.WindowNews.{WindowNews, told_highlighted, told_title, told_tracked}
 use Rattle.def_iface.specs.Stocked.{SlotView}
 use Rattle.desk_call.specs.declared.call.Call.{Call}
 use Rattle.desk_call.specs.declared.call.Reply.{Reply}
@@ -53,7 +53,7 @@ use Rattle.desk_toolbox.specs.Run.{put_down}
 use Rattle.desk_toolbox.proofs.KeptDesks.{refused_keeps_desk}
 use Rattle.desk_toolbox.proofs.UpdatedDesks.{update_keeps_desk}
 
-abbrev stage_of : Definition → Stage
+abbrev stage_of : WindowDefinition → Stage
 stage_of d = d.stage
 
 abbrev slots_of : List WindowRecord → List ℕ
@@ -248,7 +248,7 @@ answer_stocked (Some set) call answer before after step h = same_stocked before.
 
 -- ---- definitions that are told
 
-told_takes : (s : ℕ) (news : WindowRecord → News → News) (kept : WindowRecord → WindowRecord) → ((w : WindowRecord) → (kept w).slot ≡ w.slot) → (before after : FullState) → IsFrameNotified s news kept before after → AreWindowsStocked before.desk → AreWindowsStocked after.desk
+told_takes : (s : ℕ) (news : WindowRecord → WindowNews → WindowNews) (kept : WindowRecord → WindowRecord) → ((w : WindowRecord) → (kept w).slot ≡ w.slot) → (before after : FullState) → IsFrameNotified s news kept before after → AreWindowsStocked before.desk → AreWindowsStocked after.desk
 told_takes s news kept same before after told h =
     same_stocked before.desk after.desk (record {
       stock = ap (λ (d : FullDesk). d.stock) told.desk;

@@ -6,7 +6,7 @@ use Rattle.tb_geom.specs.declared.refusal.Refusal.{Refusal}
 use Rattle.tb_geom.specs.declared.refusal.Refusal.TheVariants.{NoSuchWindow, OutOfRange}
 use Rattle.tb_geom.specs.Points.{PixelSet}
 use Rattle.tb_geom.specs.Refusals.{first_refusal}
-use Rattle.def_iface.specs.News.{News, told_highlighted, told_title, told_tracked}
+use Rattle.def_iface.specs.WindowNews.{WindowNews, told_highlighted, told_title, told_tracked}
 use Rattle.desk_call.specs.declared.call.Call.{Call}
 use Rattle.desk_call.specs.declared.call.Reply.{Reply}
 use Rattle.desk_call.specs.declared.frame.FrameReply.TheVariants.{Done}
@@ -193,7 +193,7 @@ answer_classed (Some set) call answer before after step h = then_classed before.
 
 -- ---- definitions that are told
 
-told_alike : (s : ℕ) (news : WindowRecord → News → News) (kept : WindowRecord → WindowRecord) → ((w : WindowRecord) → (kept w).floating ≡ w.floating) → (before after : FullState) → IsFrameNotified s news kept before after → Alike before.desk after.desk
+told_alike : (s : ℕ) (news : WindowRecord → WindowNews → WindowNews) (kept : WindowRecord → WindowRecord) → ((w : WindowRecord) → (kept w).floating ≡ w.floating) → (before after : FullState) → IsFrameNotified s news kept before after → Alike before.desk after.desk
 told_alike s news kept same before after told =
     ap (λ (d : FullDesk). map is_floating d.windows) told.desk ∙ floating_changed s (λ w. record (kept w) { definition = told.definition }) same before.desk.windows
 

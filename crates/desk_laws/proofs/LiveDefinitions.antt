@@ -5,8 +5,8 @@ use Rattle.std.specs.Option.{is_some}
 use Rattle.std.proofs.lemmas.List.Elements.{All-cons, All-head, All-nil, All-tail}
 use Rattle.tb_geom.specs.declared.refusal.Refusal.{Refusal}
 use Rattle.tb_geom.specs.Points.{PixelSet, plus}
-use Rattle.def_iface.specs.Meaning.{Definition}
-use Rattle.def_iface.specs.News.{News, told_highlighted, told_placed, told_title, told_tracked}
+use Rattle.def_iface.specs.WindowMeaning.{WindowDefinition}
+use Rattle.def_iface.specs.WindowNews.{WindowNews, told_highlighted, told_placed, told_title, told_tracked}
 use Rattle.def_iface.proofs.Hearing.{goes_by_all, goes_by_news}
 use Rattle.desk_call.specs.declared.call.Call.{Call}
 use Rattle.desk_call.specs.declared.call.Reply.{Reply}
@@ -151,7 +151,7 @@ new_live floating w n before after new = record {
   goes_by = goes_by_all (first_news floating w) new.loan.definition new.begun new.live.heard;
 }
 
-placed_live : (p : Placing) (w : WindowRecord) (d : Definition) → HasLiveDefinition w → IsToldSize p.to.size (told_placed p.to.size (is_some p.to.user_state)) w.definition d → HasLiveDefinition (with_placement p.to d w)
+placed_live : (p : Placing) (w : WindowRecord) (d : WindowDefinition) → HasLiveDefinition w → IsToldSize p.to.size (told_placed p.to.size (is_some p.to.user_state)) w.definition d → HasLiveDefinition (with_placement p.to d w)
 placed_live p w d was told = record {
   live = told.live;
   told = told.told;
@@ -237,36 +237,36 @@ answer_live (Some set) call answer before after step h = same_live before.window
 
 -- ---- definitions that are told
 
-module _ (s : ℕ) (news : WindowRecord → News → News) (kept : WindowRecord → WindowRecord)
-    (keeps : (w : WindowRecord) (d : Definition) → HasLiveDefinition w → IsToldSize w.size (news w) w.definition d → HasLiveDefinition (record (kept w) { definition = d })) where
+module _ (s : ℕ) (news : WindowRecord → WindowNews → WindowNews) (kept : WindowRecord → WindowRecord)
+    (keeps : (w : WindowRecord) (d : WindowDefinition) → HasLiveDefinition w → IsToldSize w.size (news w) w.definition d → HasLiveDefinition (record (kept w) { definition = d })) where
   told_live : (before after : FullState) → IsFrameNotified s news kept before after → HaveLive before.desk.windows → HaveLive after.desk.windows
   told_live before after told h =
       subst (λ (x : FullDesk). HaveLive x.windows) (sym told.desk)
       (found_changed HasLiveDefinition s (λ w. record (kept w) { definition = told.definition }) before.desk.windows told.window told.found
       (keeps told.window told.definition (found_has HasLiveDefinition s before.desk.windows told.window told.found h) told.told) h)
 
-title_told : (title : List ℕ) (w : WindowRecord) (d : Definition) → HasLiveDefinition w → IsToldSize w.size (told_title title) w.definition d → HasLiveDefinition (record (with_title title w) { definition = d })
+title_told : (title : List ℕ) (w : WindowRecord) (d : WindowDefinition) → HasLiveDefinition w → IsToldSize w.size (told_title title) w.definition d → HasLiveDefinition (record (with_title title w) { definition = d })
 title_told title w d was told = record {
   live = told.live;
   told = told.told;
   goes_by = goes_by_news (told_title title) (news_of w) (news_of (record (with_title title w) { definition = d })) w.definition d (λ n. refl) (λ n. refl) was.goes_by told.heard;
 }
 
-flag_told : (on : Bool) (w : WindowRecord) (d : Definition) → HasLiveDefinition w → IsToldSize w.size (told_highlighted on) w.definition d → HasLiveDefinition (record (with_flag on w) { definition = d })
+flag_told : (on : Bool) (w : WindowRecord) (d : WindowDefinition) → HasLiveDefinition w → IsToldSize w.size (told_highlighted on) w.definition d → HasLiveDefinition (record (with_flag on w) { definition = d })
 flag_told on w d was told = record {
   live = told.live;
   told = told.told;
   goes_by = goes_by_news (told_highlighted on) (news_of w) (news_of (record (with_flag on w) { definition = d })) w.definition d (λ n. refl) (λ n. refl) was.goes_by told.heard;
 }
 
-tracked_told : (inside : Bool) (w : WindowRecord) (d : Definition) → HasLiveDefinition w → IsToldSize w.size (told_tracked inside) w.definition d → HasLiveDefinition (record (with_tracked inside w) { definition = d })
+tracked_told : (inside : Bool) (w : WindowRecord) (d : WindowDefinition) → HasLiveDefinition w → IsToldSize w.size (told_tracked inside) w.definition d → HasLiveDefinition (record (with_tracked inside w) { definition = d })
 tracked_told inside w d was told = record {
   live = told.live;
   told = told.told;
   goes_by = goes_by_news (told_tracked inside) (news_of w) (news_of (record (with_tracked inside w) { definition = d })) w.definition d (λ n. refl) (λ n. refl) was.goes_by told.heard;
 }
 
-heard_told : (flag : Flag) (w : WindowRecord) (d : Definition) → HasLiveDefinition w → IsToldSize w.size (told_flag flag w) w.definition d → HasLiveDefinition (record (with_heard flag w) { definition = d })
+heard_told : (flag : Flag) (w : WindowRecord) (d : WindowDefinition) → HasLiveDefinition w → IsToldSize w.size (told_flag flag w) w.definition d → HasLiveDefinition (record (with_heard flag w) { definition = d })
 heard_told Highlighting w d was told = record {
   live = told.live;
   told = told.told;

@@ -3,11 +3,11 @@ use Rattle.std.proofs.Common.{◌≡◌, ℕ, ◌↔◌, true, ◌&&◌, Option,
 use Rattle.std.proofs.lemmas.Bool.{and_parts, eqb-true, false≢true}
 use Rattle.tb_geom.specs.declared.point.Point.{Point}
 use Rattle.tb_geom.specs.Points.{PixelSet, minus}
-use Rattle.def_iface.specs.declared.part.Part.{Part}
-use Rattle.def_iface.specs.Desk.{on_screen}
-use Rattle.def_iface.specs.Owner.{Owner, owner}
-use Rattle.def_iface.specs.Owner.Owner.{Desktop, Bar, Frame, Content}
-use Rattle.def_iface.proofs.Owning.{same_number}
+use Rattle.desk_layers.specs.declared.part.Part.{Part}
+use Rattle.desk_layers.specs.Desk.{on_screen}
+use Rattle.desk_layers.specs.Owner.{Owner, owner}
+use Rattle.desk_layers.specs.Owner.Owner.{Desktop, Bar, Frame, Content}
+use Rattle.desk_layers.proofs.Owning.{same_number}
 use Rattle.vis_update.specs.Areas.{is_content_of}
 use Rattle.vis_update.specs.Records.{WindowRecord}
 use Rattle.window_mgr.specs.Finding.{record_with}

@@ -4,10 +4,10 @@ use Rattle.std.specs.List.{find}
 use Rattle.std.specs.Option.{option_map}
 use Rattle.tb_geom.specs.declared.point.Point.{Point}
 use Rattle.tb_geom.specs.declared.refusal.Refusal.{Refusal}
-use Rattle.def_iface.specs.Desk.{IsDesk}
-use Rattle.def_iface.specs.Owner.{owner, own_bit}
-use Rattle.def_iface.specs.Scratch.{scratch}
-use Rattle.def_iface.proofs.Painting.{scratch_is_owners}
+use Rattle.desk_layers.specs.Desk.{IsDesk}
+use Rattle.desk_layers.specs.Owner.{owner, own_bit}
+use Rattle.desk_layers.specs.Scratch.{scratch}
+use Rattle.desk_layers.proofs.Painting.{scratch_is_owners}
 use Rattle.vis_update.specs.Records.{WindowRecord}
 use Rattle.window_mgr.specs.FullDesk.{FullDesk, layered_desk}
 use Rattle.window_mgr.specs.Finding.{front_of, is_leading}

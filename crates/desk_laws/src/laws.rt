@@ -4,12 +4,12 @@ ghost use Rattle.std.specs.List.{find};
 ghost use Rattle.std.specs.Option.{option_map};
 ghost use Rattle.tb_geom.specs.declared.point.Point.{Point};
 ghost use Rattle.tb_geom.specs.declared.refusal.Refusal.{Refusal};
-ghost use Rattle.def_iface.specs.Desk.{IsDesk};
+ghost use Rattle.desk_layers.specs.Desk.{IsDesk};
 ghost use Rattle.def_iface.specs.ControlMeaning.{ControlGoesBy};
 ghost use Rattle.def_iface.specs.ListMeaning.{ListGoesBy};
-ghost use Rattle.def_iface.specs.Meaning.{GoesBy};
-ghost use Rattle.def_iface.specs.Owner.{is_content, owner, own_bit};
-ghost use Rattle.def_iface.specs.Scratch.{scratch};
+ghost use Rattle.def_iface.specs.WindowMeaning.{WindowGoesBy};
+ghost use Rattle.desk_layers.specs.Owner.{is_content, owner, own_bit};
+ghost use Rattle.desk_layers.specs.Scratch.{scratch};
 ghost use Rattle.vis_update.specs.Records.{WindowRecord};
 ghost use Rattle.window_mgr.specs.FullDesk.{FullDesk, IsRightState, layered_desk};
 ghost use Rattle.window_mgr.specs.Effects.{IsUnchanged};
@@ -44,7 +44,9 @@ ghost use Rattle.desk_call.specs.declared.window.ScrollPicture.{ScrollPicture};
 ghost use Rattle.desk_call.specs.declared.window.SendBehind.{SendBehind};
 ghost use Rattle.desk_call.specs.declared.window.SizeWindow.{SizeWindow};
 ghost use Rattle.desk_call.specs.declared.window.ZoomWindow.{ZoomWindow};
-ghost use Rattle.window_mgr.specs.Refused.{is_missing, new_window_refusals, kind_refusals, form_refusals, draw_refusals, picture_refusals, scroll_refusals, behind_refusals, move_refusals, size_refusals, zoom_refusals};
+ghost use Rattle.window_mgr.specs.Refused.{is_missing, new_window_refusals, kind_refusals, form_refusals};
+ghost use Rattle.window_mgr.specs.Refused.{draw_refusals, picture_refusals, scroll_refusals, behind_refusals};
+ghost use Rattle.window_mgr.specs.Refused.{move_refusals, size_refusals, zoom_refusals};
 ghost use Rattle.window_update.specs.UpdateRefusals.{area_refusals};
 ghost use Rattle.window_frame.specs.FrameRefusals.{frame_refusals};
 ghost use Rattle.window_outline.specs.OutlineRefusals.{outline_refusals};
@@ -64,8 +66,10 @@ ghost use Rattle.window_update.specs.Served.{AreAllServed, IsAllRight};
 ghost use Rattle.window_frame.specs.Followers.{AreInformed};
 ghost use Rattle.desk_toolbox.specs.Activations.{activate_events_told, IsNeverDisposed};
 ghost use Rattle.desk_toolbox.specs.Reached.{AreContentsRight, IsConsistent, IsJustBegun, news_by_record};
-ghost use Rattle.def_iface.specs.Desk.{on_screen};
-ghost use Rattle.desk_toolbox.specs.Fronts.{IsScreenAllRight, IsScreenRight, found_on_screen, is_on_menu, is_on_outline, pulled, screen_bit, screen_of, screen_owner, screen_scratch, window_on_screen, with_outline};
+ghost use Rattle.desk_layers.specs.Desk.{on_screen};
+ghost use Rattle.desk_toolbox.specs.Fronts.{IsScreenAllRight, IsScreenRight, found_on_screen, is_on_menu};
+ghost use Rattle.desk_toolbox.specs.Fronts.{is_on_outline, pulled, screen_bit, screen_of, screen_owner, screen_scratch};
+ghost use Rattle.desk_toolbox.specs.Fronts.{window_on_screen, with_outline};
 ghost use Rattle.desk_toolbox.specs.Fronts.ScreenOwner.{PulledMenu, Base};
 ghost use Rattle.desk_toolbox.specs.ToolboxStates.{ToolboxState, IsToolboxUnchanged};
 ghost use Rattle.desk_toolbox.specs.Run.{IsRestKept, IsStep, IsRunOfCalls, controls_made, found_menu, lists_made, made, AreCounted, AreCountedAlong};
@@ -316,14 +320,14 @@ pub fn runs_keep_a_desk_consistent()
 #[tactic(auto, using(crate::proofs::Shown::desk_goes_by_records))]
 pub fn windows_are_shown_by_their_records()
     ensures { (desk : FullDesk) → IsSoundDesk desk → AreInformed desk.windows
-        → All (λ w. GoesBy (news_by_record w) w.definition) desk.windows }
+        → All (λ w. WindowGoesBy (news_by_record w) w.definition) desk.windows }
 {}
 
 /// So is each window of a state that a desk reaches.
 #[tactic(auto, using(crate::proofs::Shown::windows_go_by_records))]
 pub fn windows_of_a_reached_desk_are_shown_by_their_records()
     ensures { (s : ToolboxState) → IsConsistent s
-        → All (λ w. GoesBy (news_by_record w) w.definition) s.desk.windows.desk.windows }
+        → All (λ w. WindowGoesBy (news_by_record w) w.definition) s.desk.windows.desk.windows }
 {}
 
 /// So is each control of such a state, by what its record says.
@@ -337,7 +341,8 @@ pub fn controls_are_shown_by_their_records()
 #[tactic(auto, using(crate::proofs::Shown::lists_go_by_records))]
 pub fn lists_are_shown_by_their_records()
     ensures { (s : ToolboxState) → AreContentsRight s
-        → All (λ l. ListGoesBy (cell_size l.kept.view) (not l.kept.flags.no_nil_hilite) l.kept.definition.definition) s.lists.lists }
+        → All (λ l. ListGoesBy (cell_size l.kept.view) (not l.kept.flags.no_nil_hilite) l.kept.definition.definition)
+        s.lists.lists }
 {}
 
 /// Over any run of a desk that just began, the activate events that are told of one window are in turn an activation and a

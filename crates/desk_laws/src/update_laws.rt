@@ -2,7 +2,7 @@
 ghost use Rattle.std.specs.Prelude.{◌≡◌, ◌≢◌, ◌↔◌, ℕ, true, false, List, map, Result, Ok};
 ghost use Rattle.tb_geom.specs.declared.point.Point.{Point};
 ghost use Rattle.tb_geom.specs.declared.refusal.Refusal.{Refusal};
-ghost use Rattle.def_iface.specs.Desk.{on_screen};
+ghost use Rattle.desk_layers.specs.Desk.{on_screen};
 ghost use Rattle.desk_call.specs.declared.call.Call.{Call};
 ghost use Rattle.desk_call.specs.declared.call.Call.TheVariants.{Update, Window};
 ghost use Rattle.desk_call.specs.declared.call.Reply.{Reply};

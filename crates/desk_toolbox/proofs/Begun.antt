@@ -2,13 +2,10 @@
 use Rattle.std.proofs.Common.{◌≡◌, ℕ, ℤ, List, [], map, Some, Result, Ok, Err, refl, ap, ◌∙◌, subst, sym}
 use Rattle.std.specs.Prelude.{All, IfOk}
 use Rattle.desk_call.specs.declared.activity.Activity.TheVariants.{Idle}
-use Rattle.def_iface.specs.declared.taken.Taken.{Taken}
-use Rattle.def_iface.specs.declared.taken_menu.TakenMenu.{TakenMenu}
+use Rattle.def_iface.specs.Slots.{TakenBox}
 use Rattle.tb_geom.specs.Points.{PixelSet}
-use Rattle.def_iface.specs.declared.part.Part.{Part}
-use Rattle.def_iface.specs.declared.taken_control.TakenControl.{TakenControl}
-use Rattle.def_iface.specs.declared.taken_list.TakenList.{TakenList}
-use Rattle.def_iface.specs.Change as plain
+use Rattle.desk_layers.specs.declared.part.Part.{Part}
+use Rattle.desk_layers.specs.Change as plain
 use Rattle.def_iface.specs.ControlMeaning.{ControlLoan}
 use Rattle.def_iface.specs.ListMeaning.{ListLoan}
 use Rattle.control_mgr.specs.Seen.{all_seen}
@@ -19,7 +16,7 @@ use Rattle.list_mgr.specs.WholeLists as lists
 use Rattle.list_mgr.specs.Seen as seen_lists
 use Rattle.vis_update.specs.Records.{layered_window}
 use Rattle.window_mgr.specs.Records.{state_of, state_showing}
-use Rattle.def_iface.specs.Meaning.{Loan}
+use Rattle.def_iface.specs.WindowMeaning.{WindowLoan}
 use Rattle.def_iface.specs.MenuMeaning.{MenuLoan}
 use Rattle.def_iface.specs.Stocked.{SlotView, IsFull}
 use Rattle.def_iface.specs.Stocks.{AllSlots, AreAllFull}
@@ -46,7 +43,7 @@ right_bare shows s none right = record {
     same : map (layered_window (look_of s.desk)) s.desk.windows ≡ map (layered_window (look_of now)) s.desk.windows
     same = ap (map (layered_window (look_of s.desk))) none ∙ sym (ap (map (layered_window (look_of now))) none)
 
-module _ {V : Type 0} {H : V → Type 0} (loan : Taken V H → Loan) {W : Type 0} {K : W → Type 0} (menu_loan : TakenMenu W K → MenuLoan) {U : Type 0} {J : U → Type 0} (control_loan : TakenControl U J → ControlLoan) {X : Type 0} {L : X → Type 0} (list_loan : TakenList X L → ListLoan) (width height bar : ℤ) (font : List ℕ) where
+module _ {V : Type 0} {H : V → Type 0} (loan : TakenBox V H → WindowLoan) {W : Type 0} {K : W → Type 0} (menu_loan : TakenBox W K → MenuLoan) {U : Type 0} {J : U → Type 0} (control_loan : TakenBox U J → ControlLoan) {X : Type 0} {L : X → Type 0} (list_loan : TakenBox X L → ListLoan) (width height bar : ℤ) (font : List ℕ) where
   has_just_begun : (t : Toolbox V U W X H J K L) (stocks : AllSlots) → AreAllFull stocks → IsEmptyDesk loan width height bar font t.windows stocks.windows → t.activity ≡ Idle → t.events ≡ first_events → AreNoMenus width height t.menus
       → t.controls.list.items.items ≡ [] → t.controls.list.next ≡ Some 1 → t.lists.list.items.items ≡ [] → t.lists.list.next ≡ Some 1 → IsJustBegun (toolbox_state loan menu_loan control_loan list_loan t stocks)
   has_just_begun t stocks full empty idle events none bare next no_lists next_list =

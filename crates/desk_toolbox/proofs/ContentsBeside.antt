@@ -4,7 +4,7 @@ use Rattle.std.proofs.lemmas.Bool.{eqb-true}
 use Rattle.std.proofs.lemmas.List.Elements.{All-head, All-tail, All-weaker}
 use Rattle.std.specs.Prelude.{All}
 use Rattle.tb_geom.specs.declared.refusal.Refusal.{Refusal}
-use Rattle.def_iface.specs.News.{News, told_title, told_highlighted, told_tracked}
+use Rattle.def_iface.specs.WindowNews.{WindowNews, told_title, told_highlighted, told_tracked}
 use Rattle.window_items.specs.Items.{items_of}
 use Rattle.desk_call.specs.declared.frame.FrameCall.{FrameCall}
 use Rattle.desk_call.specs.declared.frame.FrameReply.{FrameReply}
@@ -125,7 +125,7 @@ none_of_missing n (c ∷ cs) ws there none =
 -- ---- definitions of windows that are told
 
 module _ (B : Bond) where
-  told_holds : (s : ℕ) (news : WindowRecord → News → News) (kept : WindowRecord → WindowRecord) → ((w : WindowRecord) → B w.serial w.floating w.layers → B (kept w).serial (kept w).floating (kept w).layers) → (before after : FullState) → IsFrameNotified s news kept before after → Every B before.desk.windows → Every B after.desk.windows
+  told_holds : (s : ℕ) (news : WindowRecord → WindowNews → WindowNews) (kept : WindowRecord → WindowRecord) → ((w : WindowRecord) → B w.serial w.floating w.layers → B (kept w).serial (kept w).floating (kept w).layers) → (before after : FullState) → IsFrameNotified s news kept before after → Every B before.desk.windows → Every B after.desk.windows
   told_holds s news kept same before after told h =
       subst (λ (d : FullDesk). Every B d.windows) (sym told.desk)
       (every_changed B s (λ w. record (kept w) { definition = told.definition }) same before.desk.windows h)

@@ -2,13 +2,11 @@
 use Rattle.std.proofs.Common.{◌≡◌, ◌⊎◌, ⊎_elim, inl, inr, ℕ, List, None, Result, Ok, Err, sym, ap, subst}
 use Rattle.tb_geom.specs.declared.refusal.Refusal.{Refusal}
 use Rattle.tb_geom.specs.Points.{PixelSet}
-use Rattle.def_iface.specs.declared.part.Part.{Part}
-use Rattle.def_iface.specs.Desk.{IsDesk}
-use Rattle.def_iface.specs.declared.taken.Taken.{Taken}
-use Rattle.def_iface.specs.declared.taken_control.TakenControl.{TakenControl}
-use Rattle.def_iface.specs.declared.taken_menu.TakenMenu.{TakenMenu}
+use Rattle.desk_layers.specs.declared.part.Part.{Part}
+use Rattle.desk_layers.specs.Desk.{IsDesk}
+use Rattle.def_iface.specs.Slots.{TakenBox}
 use Rattle.def_iface.specs.ControlMeaning.{ControlLoan}
-use Rattle.def_iface.specs.Meaning.{Loan}
+use Rattle.def_iface.specs.WindowMeaning.{WindowLoan}
 use Rattle.def_iface.specs.MenuMeaning.{MenuLoan}
 use Rattle.def_iface.specs.Stocked.{SlotView}
 use Rattle.desk_call.specs.declared.activity.Activity.{Activity}
@@ -50,8 +48,8 @@ control_leaves_lists call answer before after s distinct apart step whole =
 not_updating : (a : Activity) → AtMostControl a → UpdatesNone a
 not_updating a most = ⊎_elim (λ idle. subst UpdatesNone (sym idle) tt) (λ (k, is). subst UpdatesNone (sym is) tt) most
 
-module _ {V : Type 0} {H : V → Type 0} (loan : Taken V H → Loan) {W : Type 0} {K : W → Type 0} (menu_loan : TakenMenu W K → MenuLoan) {U : Type 0} {J : U → Type 0} (control_loan : TakenControl U J → ControlLoan) (others : List ℕ → Part → PixelSet)
-    (t new : WindowManager V H) (before after : List SlotView) (o n : Opened) (cs now : Controls (TakenControl U J)) (held left : List ControlSlot) where
+module _ {V : Type 0} {H : V → Type 0} (loan : TakenBox V H → WindowLoan) {W : Type 0} {K : W → Type 0} (menu_loan : TakenBox W K → MenuLoan) {U : Type 0} {J : U → Type 0} (control_loan : TakenBox U J → ControlLoan) (others : List ℕ → Part → PixelSet)
+    (t new : WindowManager V H) (before after : List SlotView) (o n : Opened) (cs now : Controls (TakenBox U J)) (held left : List ControlSlot) where
   abbrev first : ControlDesk
   first = control_desk control_loan loan others t o before cs held
 

@@ -2,7 +2,7 @@
 use Rattle.std.proofs.Common.{◌≡◌, ℕ, List, Option, None, Some, Result, Ok, Err, ap, ◌∙◌}
 use Rattle.tb_geom.specs.declared.refusal.Refusal.{Refusal}
 use Rattle.tb_geom.specs.Points.{PixelSet}
-use Rattle.def_iface.specs.declared.part.Part.{Part}
+use Rattle.desk_layers.specs.declared.part.Part.{Part}
 use Rattle.def_iface.specs.Stocked.{SlotView}
 use Rattle.desk_call.specs.declared.window.WindowCall.{WindowCall}
 use Rattle.desk_call.specs.declared.window.WindowReply.{WindowReply}

@@ -1,13 +1,10 @@
 -- What is kept for updates, and the menus, stay whole beside calls about lists, and so does the control that is tracked.
 use Rattle.std.proofs.Common.{◌≡◌, ◌⊎◌, ⊎_elim, inl, List, None, Result, Ok, Err, sym, ap, subst}
 use Rattle.tb_geom.specs.declared.refusal.Refusal.{Refusal}
-use Rattle.def_iface.specs.declared.taken.Taken.{Taken}
-use Rattle.def_iface.specs.declared.taken_control.TakenControl.{TakenControl}
-use Rattle.def_iface.specs.declared.taken_list.TakenList.{TakenList}
-use Rattle.def_iface.specs.declared.taken_menu.TakenMenu.{TakenMenu}
+use Rattle.def_iface.specs.Slots.{TakenBox}
 use Rattle.def_iface.specs.ControlMeaning.{ControlLoan}
 use Rattle.def_iface.specs.ListMeaning.{ListLoan}
-use Rattle.def_iface.specs.Meaning.{Loan}
+use Rattle.def_iface.specs.WindowMeaning.{WindowLoan}
 use Rattle.def_iface.specs.MenuMeaning.{MenuLoan}
 use Rattle.def_iface.specs.Stocked.{SlotView}
 use Rattle.desk_call.specs.declared.activity.Activity.TheVariants.{Idle}
@@ -38,8 +35,8 @@ use Rattle.desk_toolbox.proofs.ListStands.{list_comes_then}
 use Rattle.desk_toolbox.proofs.MenusBeside as menus
 use Rattle.desk_toolbox.proofs.UpdatesBeside as updates
 
-module _ {V : Type 0} {H : V → Type 0} (loan : Taken V H → Loan) {W : Type 0} {K : W → Type 0} (menu_loan : TakenMenu W K → MenuLoan) {U : Type 0} {J : U → Type 0} (control_loan : TakenControl U J → ControlLoan) {X : Type 0} {L : X → Type 0} (list_loan : TakenList X L → ListLoan)
-    (t new : WindowManager V H) (before after : List SlotView) (o : Opened) (cs now : Controls (TakenControl U J)) (held left : List ControlSlot) (ls rest : Lists (TakenList X L)) (kept put : List ListSlot) where
+module _ {V : Type 0} {H : V → Type 0} (loan : TakenBox V H → WindowLoan) {W : Type 0} {K : W → Type 0} (menu_loan : TakenBox W K → MenuLoan) {U : Type 0} {J : U → Type 0} (control_loan : TakenBox U J → ControlLoan) {X : Type 0} {L : X → Type 0} (list_loan : TakenBox X L → ListLoan)
+    (t new : WindowManager V H) (before after : List SlotView) (o : Opened) (cs now : Controls (TakenBox U J)) (held left : List ControlSlot) (ls rest : Lists (TakenBox X L)) (kept put : List ListSlot) where
   abbrev first : ListDesk
   first = list_desk list_loan loan t o before (controls_state control_loan cs held) ls kept
 

@@ -8,11 +8,10 @@ use Rattle.tb_geom.specs.declared.refusal.Refusal.TheVariants.{Busy}
 use Rattle.tb_geom.specs.Points.{PixelSet}
 use Rattle.tb_geom.specs.Rects.{rect_holds}
 use Rattle.bit_map.specs.Bits.{bit, is_below, on_map}
-use Rattle.def_iface.specs.declared.part.Part.{Part}
-use Rattle.def_iface.specs.declared.taken.Taken.{Taken}
-use Rattle.def_iface.specs.declared.taken_menu.TakenMenu.{TakenMenu}
-use Rattle.def_iface.specs.Desk.{on_screen}
-use Rattle.def_iface.specs.Meaning.{Loan}
+use Rattle.desk_layers.specs.declared.part.Part.{Part}
+use Rattle.def_iface.specs.Slots.{TakenBox}
+use Rattle.desk_layers.specs.Desk.{on_screen}
+use Rattle.def_iface.specs.WindowMeaning.{WindowLoan}
 use Rattle.def_iface.specs.MenuMeaning.{MenuLoan}
 use Rattle.def_iface.specs.Stocked.{SlotView}
 use Rattle.overlay.specs.Overlays.{Pulled, pulled_bit, pulled_rect, shown_bit}
@@ -188,7 +187,7 @@ outlined_on : (bar other : ℤ) (lines : List Rect) (a b : PixelSet) (p : Point)
 outlined_on bar other lines a b p same e = λ i. if outline_holds (sym same i) lines p then xor_bit (pattern_bit gray p) (sym e i) else sym e i
 
 -- `loan` says what a window's definition that was taken means, and `menu_loan` what a menu's
-module _ {V : Type 0} {H : V → Type 0} (loan : Taken V H → Loan) {W : Type 0} {K : W → Type 0} (menu_loan : TakenMenu W K → MenuLoan) where
+module _ {V : Type 0} {H : V → Type 0} (loan : TakenBox V H → WindowLoan) {W : Type 0} {K : W → Type 0} (menu_loan : TakenBox W K → MenuLoan) where
   -- the menus that a desk begins with
   pub menus_begin : (width height bar : ℤ) (font : List ℕ) (t : WindowManager V H) (m : Menus W K) (slots : List SlotView) (kept : List MenuSlot) → AreNoMenus width height m → IsEmptyDesk loan width height bar font t slots → AreMenusStocked [] kept → IsWholeMenus menu_loan t Idle m kept
   menus_begin width height bar font t m slots kept none empty stocked = record {

@@ -2,11 +2,10 @@
 use Rattle.std.proofs.Common.{◌≡◌, None, Some, List, [], Ok, Err, refl, sym, ap, subst}
 use Rattle.tb_geom.specs.declared.refusal.Refusal.{Refusal}
 use Rattle.tb_geom.specs.Points.{PixelSet}
-use Rattle.def_iface.specs.declared.part.Part.{Part}
-use Rattle.def_iface.specs.declared.taken.Taken.{Taken}
-use Rattle.def_iface.specs.declared.taken_menu.TakenMenu.{TakenMenu}
+use Rattle.desk_layers.specs.declared.part.Part.{Part}
+use Rattle.def_iface.specs.Slots.{TakenBox}
 use Rattle.def_iface.specs.MenuMeaning.{MenuLoan}
-use Rattle.def_iface.specs.Meaning.{Loan}
+use Rattle.def_iface.specs.WindowMeaning.{WindowLoan}
 use Rattle.def_iface.specs.Stocked.{SlotView}
 use Rattle.desk_call.specs.declared.activity.Activity.{Activity}
 use Rattle.desk_call.specs.declared.activity.Activity.TheVariants.{Idle, Updating, Tracking, Pulling, TrackingControl, Dragging, Growing}
@@ -66,14 +65,14 @@ outlining_updates_none (Tracking s) is = absurd is
 outlining_updates_none (TrackingControl c) is = absurd is
 outlining_updates_none (Pulling m) is = absurd is
 
-pub outlined_updates : {V : Type 0} {H : V → Type 0} (loan : Taken V H → Loan) (t : WindowManager V H) (u : Updates) (a b : Activity) → IsOutlining b → IsWholeUpdates loan a t u → IsWholeUpdates loan b t u
+pub outlined_updates : {V : Type 0} {H : V → Type 0} (loan : TakenBox V H → WindowLoan) (t : WindowManager V H) (u : Updates) (a b : Activity) → IsOutlining b → IsWholeUpdates loan a t u → IsWholeUpdates loan b t u
 outlined_updates loan t u a b is whole = updates.whole_unopened loan t t u [] [] a b (record { width = refl; height = refl }) (outlining_updates_none b is) whole
 
 pub unchanged : (s : FullState) → IsUnchanged s s
 unchanged s = record { desk = refl; stale = λ p on. refl; image = λ p on. refl }
 
 -- the same menus are listed
-pub same_menus : {W : Type 0} {K : W → Type 0} (menu_loan : TakenMenu W K → MenuLoan) (old new : Menus W K) (slots : List MenuSlot) → new.list ≡ old.list → menus_state menu_loan new slots ≡ menus_state menu_loan old slots
+pub same_menus : {W : Type 0} {K : W → Type 0} (menu_loan : TakenBox W K → MenuLoan) (old new : Menus W K) (slots : List MenuSlot) → new.list ≡ old.list → menus_state menu_loan new slots ≡ menus_state menu_loan old slots
 same_menus menu_loan old new slots e = λ i. record { menus = menus_of menu_loan (e i).menus.items; highlighted = (e i).highlighted; stock = slots }
 
 -- ---- the window that was dragged is let go
@@ -93,7 +92,7 @@ refused_drop move e before after activity (answered, rest) = record {
 }
 
 -- where what the windows show did not change, they did not
-pub unshown : {V : Type 0} {H : V → Type 0} (loan : Taken V H → Loan) (t new : WindowManager V H) (before after : List SlotView) (old_shows shows : Part → PixelSet)
+pub unshown : {V : Type 0} {H : V → Type 0} (loan : TakenBox V H → WindowLoan) (t new : WindowManager V H) (before after : List SlotView) (old_shows shows : Part → PixelSet)
     → IsUnchanged (record (state_of loan t before) { desk = record (desk_of loan t before) { shows = old_shows } }) (record (state_of loan new after) { desk = record (desk_of loan new after) { shows = shows } })
     → IsUnchanged (state_of loan t before) (state_of loan new after)
 unshown loan t new before after old_shows shows same = record {
@@ -102,7 +101,7 @@ unshown loan t new before after old_shows shows same = record {
   image = same.image;
 }
 
-pub dropped_menus : {V : Type 0} {H : V → Type 0} (loan : Taken V H → Loan) {W : Type 0} {K : W → Type 0} (menu_loan : TakenMenu W K → MenuLoan) (t new : WindowManager V H) (m other : Menus W K) (kept left : List MenuSlot) (before after : List SlotView) (a : Activity)
+pub dropped_menus : {V : Type 0} {H : V → Type 0} (loan : TakenBox V H → WindowLoan) {W : Type 0} {K : W → Type 0} (menu_loan : TakenBox W K → MenuLoan) (t new : WindowManager V H) (m other : Menus W K) (kept left : List MenuSlot) (before after : List SlotView) (a : Activity)
     → IsUnchanged (state_of loan t before) (state_of loan new after) → other ≡ m → left ≡ kept → IsWholeMenus menu_loan t a m kept → IsWholeMenus menu_loan new a other left
 dropped_menus loan menu_loan t new m other kept left before after a same menus slots whole =
     subst (λ (x : List MenuSlot). IsWholeMenus menu_loan new a other x) (sym slots)

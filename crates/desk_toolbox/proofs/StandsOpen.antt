@@ -5,7 +5,7 @@ use Rattle.std.specs.Prelude.{All}
 use Rattle.tb_geom.specs.declared.refusal.Refusal.{Refusal}
 use Rattle.tb_geom.specs.declared.refusal.Refusal.TheVariants.{NoSuchWindow, OutOfRange}
 use Rattle.tb_geom.specs.Rects.{in_plane}
-use Rattle.def_iface.specs.News.{News, told_title, told_highlighted, told_tracked}
+use Rattle.def_iface.specs.WindowNews.{WindowNews, told_title, told_highlighted, told_tracked}
 use Rattle.desk_call.specs.declared.activity.Activity.{Activity}
 use Rattle.desk_call.specs.declared.activity.Activity.TheVariants.{Idle, Updating, Tracking, Pulling, TrackingControl, Dragging, Growing}
 use Rattle.desk_call.specs.declared.activity.Standing.TheVariants.{Updates}
@@ -125,7 +125,7 @@ all_changed P s f keeps (w ∷ ws) h = by_this (w.serial == s) (all_changed P s 
 abbrev IsInformedOf : WindowRecord → Type 0
 IsInformedOf w = Knows Highlighting w × Knows Zooming w
 
-told_informs : (s : ℕ) (news : WindowRecord → News → News) (kept : WindowRecord → WindowRecord) → ((w : WindowRecord) → IsInformedOf w → IsInformedOf (kept w)) → (before after : FullState) → IsFrameNotified s news kept before after → AreInformed before.desk.windows → AreInformed after.desk.windows
+told_informs : (s : ℕ) (news : WindowRecord → WindowNews → WindowNews) (kept : WindowRecord → WindowRecord) → ((w : WindowRecord) → IsInformedOf w → IsInformedOf (kept w)) → (before after : FullState) → IsFrameNotified s news kept before after → AreInformed before.desk.windows → AreInformed after.desk.windows
 told_informs s news kept keeps before after told was =
     subst (λ (d : FullDesk). AreInformed d.windows) (sym told.desk)
     (all_changed IsInformedOf s (λ w. record (kept w) { definition = told.definition }) keeps before.desk.windows was)

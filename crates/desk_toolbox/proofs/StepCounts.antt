@@ -3,7 +3,7 @@ use Rattle.std.proofs.Common.{◌≡◌, ◌⊎◌, inl, inr, ℕ, ◌+◌, ◌�
 use Rattle.std.proofs.lemmas.Bool.Decides.{nat_tests}
 use Rattle.tb_geom.specs.declared.refusal.Refusal.{Refusal}
 use Rattle.tb_geom.specs.Points.{PixelSet}
-use Rattle.def_iface.specs.News.{News, told_title, told_highlighted, told_tracked}
+use Rattle.def_iface.specs.WindowNews.{WindowNews, told_title, told_highlighted, told_tracked}
 use Rattle.desk_call.specs.declared.activity.Activity.{Activity}
 use Rattle.desk_call.specs.declared.activity.Standing.{Standing}
 use Rattle.desk_call.specs.declared.frame.FrameCall.{FrameCall}
@@ -15,7 +15,7 @@ use Rattle.desk_call.specs.declared.window.WindowCall.TheVariants as asks
 use Rattle.desk_call.specs.declared.window.WindowReply.{WindowReply}
 use Rattle.desk_call.specs.Gates.{window_standing}
 use Rattle.window_list.specs.Lists.{serial_after}
-use Rattle.def_iface.specs.Desk as layers
+use Rattle.desk_layers.specs.Desk as layers
 use Rattle.vis_update.specs.Records.{Look, WindowRecord, layered_window}
 use Rattle.vis_update.specs.Touches.{is_this}
 use Rattle.window_mgr.specs.Effects.{effect_of, places}
@@ -78,7 +78,7 @@ recount_and_same (Some d) a b c first rest = record { floating = first.floating;
 -- ---- definitions that are told
 
 module _ (g : Weight) where
-  pub told_total : (s : ℕ) (news : WindowRecord → News → News) (kept : WindowRecord → WindowRecord) → ((w : WindowRecord) → w.serial ≡ s → weight_of g (kept w) ≡ weight_of g w) → (before after : FullState) → IsFrameNotified s news kept before after → total g after.desk.windows ≡ total g before.desk.windows
+  pub told_total : (s : ℕ) (news : WindowRecord → WindowNews → WindowNews) (kept : WindowRecord → WindowRecord) → ((w : WindowRecord) → w.serial ≡ s → weight_of g (kept w) ≡ weight_of g w) → (before after : FullState) → IsFrameNotified s news kept before after → total g after.desk.windows ≡ total g before.desk.windows
   told_total s news kept same before after told =
       ap (λ (d : FullDesk). total g d.windows) told.desk ∙ total_changed g s (λ w. record (kept w) { definition = told.definition }) same before.desk.windows
 
@@ -102,7 +102,7 @@ caught_up_counts standing before after told = record {
   count = λ c s. caught_up_total (counting c s) standing before after told;
 }
 
-told_counts : (s : ℕ) (news : WindowRecord → News → News) (kept : WindowRecord → WindowRecord) → ((c : Classing) (x : ℕ) (w : WindowRecord) → weight_of (counting c x) (kept w) ≡ weight_of (counting c x) w) → (before after : FullState) → IsFrameNotified s news kept before after → HasSame before.desk after.desk
+told_counts : (s : ℕ) (news : WindowRecord → WindowNews → WindowNews) (kept : WindowRecord → WindowRecord) → ((c : Classing) (x : ℕ) (w : WindowRecord) → weight_of (counting c x) (kept w) ≡ weight_of (counting c x) w) → (before after : FullState) → IsFrameNotified s news kept before after → HasSame before.desk after.desk
 told_counts s news kept same before after told = record {
   next = ap (λ (d : FullDesk). d.next) told.desk;
   count = λ c x. told_total (counting c x) s news kept (λ w its. same c x w) before after told;

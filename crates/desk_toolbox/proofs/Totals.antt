@@ -4,7 +4,7 @@ use Rattle.std.proofs.lemmas.Bool.{eqb-true}
 use Rattle.std.proofs.lemmas.Bool.Decides.{nat_tests}
 use Rattle.std.specs.Prelude.{is_none}
 use Rattle.std.specs.Option.{option_map}
-use Rattle.def_iface.specs.Desk as layers
+use Rattle.desk_layers.specs.Desk as layers
 use Rattle.desk_call.specs.declared.window.SendBehind.{SendBehind}
 use Rattle.window_list.specs.Classes.{back_place, front_place}
 use Rattle.std.specs.List.{insert}

@@ -4,10 +4,10 @@ use Rattle.std.proofs.Common.{◌≡◌, ◌⊎◌, ⊎_elim, inl, inr, ℕ, ℤ
 use Rattle.tb_geom.specs.declared.point.Point.{Point}
 use Rattle.tb_geom.specs.declared.refusal.Refusal.{Refusal}
 use Rattle.tb_geom.specs.Points.{PixelSet}
-use Rattle.def_iface.specs.declared.taken.Taken.{Taken}
-use Rattle.def_iface.specs.Desk.{LayeredDesk, on_screen}
-use Rattle.def_iface.specs.Meaning.{Loan}
-use Rattle.def_iface.specs.Owner.{owner}
+use Rattle.def_iface.specs.Slots.{TakenBox}
+use Rattle.desk_layers.specs.Desk.{LayeredDesk, on_screen}
+use Rattle.def_iface.specs.WindowMeaning.{WindowLoan}
+use Rattle.desk_layers.specs.Owner.{owner}
 use Rattle.def_iface.specs.Stocked.{SlotView}
 use Rattle.desk_call.specs.declared.activity.Activity.{Activity}
 use Rattle.desk_call.specs.declared.activity.Activity.TheVariants.{Idle, Updating, Tracking, Pulling, TrackingControl, Dragging, Growing}
@@ -181,7 +181,7 @@ module _ (s : ℕ) (desk : LayeredDesk) (old new : PixelSet) (c : Choices) (stal
 -- ---- what is kept for updates
 
 -- `loan` says what a window's definition that was taken means
-module _ {V : Type 0} {H : V → Type 0} (loan : Taken V H → Loan) where
+module _ {V : Type 0} {H : V → Type 0} (loan : TakenBox V H → WindowLoan) where
   -- where a desk begins
   pub updates_begin : (width height bar : ℤ) (font : List ℕ) (t : WindowManager V H) (u : Updates) (slots : List SlotView) → pos u.buffer.width ≡ width → pos u.buffer.height ≡ height → IsEmptyDesk loan width height bar font t slots → IsWholeUpdates loan Idle t u
   updates_begin width height bar font t u slots wide high empty = record {

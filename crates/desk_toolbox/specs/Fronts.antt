@@ -4,9 +4,9 @@ use Rattle.std.specs.Prelude.{◌≡◌, ℕ, Bool, true, false, not, ◌&&◌, 
 use Rattle.std.specs.Option.{option_map_or}
 use Rattle.tb_geom.specs.declared.point.Point.{Point}
 use Rattle.tb_geom.specs.Points.{PixelSet, plus}
-use Rattle.def_iface.specs.Desk.{on_screen}
-use Rattle.def_iface.specs.Owner.{Owner, own_bit, owner}
-use Rattle.def_iface.specs.Scratch.{scratch}
+use Rattle.desk_layers.specs.Desk.{on_screen}
+use Rattle.desk_layers.specs.Owner.{Owner, own_bit, owner}
+use Rattle.desk_layers.specs.Scratch.{scratch}
 use Rattle.desk_call.specs.declared.control.FoundControl.{FoundControl}
 use Rattle.desk_call.specs.declared.control.PointInWindow.{PointInWindow}
 use Rattle.desk_call.specs.declared.window.Found.{Found}

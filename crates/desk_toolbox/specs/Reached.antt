@@ -2,8 +2,8 @@
 use Rattle.std.specs.Prelude.{◌≡◌, ℕ, ◌+◌, ◌≤◌, pos, true, false, if◌then◌else◌, List, [], ◌∷◌, map, Option, None, Some, IfSome, All}
 use Rattle.std.specs.Option.{is_some}
 use Rattle.def_iface.specs.declared.window_def.Stage.TheVariants.{Live}
-use Rattle.def_iface.specs.Meaning.{Definition, GoesBy}
-use Rattle.def_iface.specs.News.{AllNews}
+use Rattle.def_iface.specs.WindowMeaning.{WindowDefinition, WindowGoesBy}
+use Rattle.def_iface.specs.WindowNews.{AllWindowNews}
 use Rattle.def_iface.specs.MenuMeaning.{MenuGoesBy}
 use Rattle.def_iface.specs.Stocked.{IsFull}
 use Rattle.event_queue.specs.Events.{is_posted}
@@ -50,12 +50,12 @@ IsTrackedIfHeard activity w = w.heard.tracked ≡ true → activity ≡ Tracking
 pub record HasLiveDefinition (w : WindowRecord) : Type 0 where
   pub live : w.definition.stage ≡ Live
   pub told : w.definition.size ≡ w.size
-  pub goes_by : GoesBy (news_of w) w.definition
+  pub goes_by : WindowGoesBy (news_of w) w.definition
 
 -- the empty slots of the stock are those of the windows' definitions, each of another, and the definitions in the other slots
 -- are fresh or closed
 abbrev pub AreWindowsStocked : FullDesk → Type 0
-AreWindowsStocked desk = AreStocked (λ (d : Definition). d.stage) (map (λ w. w.slot) desk.windows) desk.stock
+AreWindowsStocked desk = AreStocked (λ (d : WindowDefinition). d.stage) (map (λ w. w.slot) desk.windows) desk.stock
 
 -- how many of the menus have this number
 abbrev pub numbered : ℕ → List MenuRecord → ℕ
@@ -141,7 +141,7 @@ pub record IsJustBegun (s : ToolboxState) : Type 0 where
   pub events : s.events ≡ first_events
 
 -- all that there is to tell of a window, by how it stands, and by what its definition heard of its go-away box
-abbrev pub news_by_record : WindowRecord → AllNews
+abbrev pub news_by_record : WindowRecord → AllWindowNews
 news_by_record w = record {
   size = w.size;
   title = w.title;

@@ -1,12 +1,9 @@
 -- What holds of a Toolbox and its stock between calls, and its state.
 use Rattle.std.specs.Prelude.{[]}
-use Rattle.def_iface.specs.declared.taken.Taken.{Taken}
-use Rattle.def_iface.specs.declared.taken_control.TakenControl.{TakenControl}
-use Rattle.def_iface.specs.declared.taken_list.TakenList.{TakenList}
-use Rattle.def_iface.specs.declared.taken_menu.TakenMenu.{TakenMenu}
+use Rattle.def_iface.specs.Slots.{TakenBox}
 use Rattle.def_iface.specs.ControlMeaning.{ControlLoan}
 use Rattle.def_iface.specs.ListMeaning.{ListLoan}
-use Rattle.def_iface.specs.Meaning.{Loan}
+use Rattle.def_iface.specs.WindowMeaning.{WindowLoan}
 use Rattle.def_iface.specs.MenuMeaning.{MenuLoan}
 use Rattle.def_iface.specs.Stocks.{AllSlots}
 use Rattle.window_mgr.specs.FullDesk.{IsRightState}
@@ -25,8 +22,8 @@ use Rattle.desk_toolbox.specs.ToolboxStates.{ToolboxState}
 
 -- `loan` says what a window's definition that was taken means, `menu_loan` what a menu's, `control_loan` what a control's, and
 -- `list_loan` what a list's
-module _ {V : Type 0} {H : V → Type 0} (loan : Taken V H → Loan) {W : Type 0} {K : W → Type 0} (menu_loan : TakenMenu W K → MenuLoan)
-    {U : Type 0} {J : U → Type 0} (control_loan : TakenControl U J → ControlLoan) {X : Type 0} {L : X → Type 0} (list_loan : TakenList X L → ListLoan) where
+module _ {V : Type 0} {H : V → Type 0} (loan : TakenBox V H → WindowLoan) {W : Type 0} {K : W → Type 0} (menu_loan : TakenBox W K → MenuLoan)
+    {U : Type 0} {J : U → Type 0} (control_loan : TakenBox U J → ControlLoan) {X : Type 0} {L : X → Type 0} (list_loan : TakenBox X L → ListLoan) where
   -- a Toolbox and the slots of its stocks, of which each of its managers is whole
   pub record AreWholeManagers (t : Toolbox V U W X H J K L) (stocks : AllSlots) : Type 0 where
     pub windows : IsWholeManager loan t.windows stocks.windows

@@ -12,7 +12,9 @@ ghost use Rattle.window_frame.specs.Followers.{AreInformed};
 ghost use Rattle.window_frame.specs.Outcomes.{outcome_of};
 ghost use Rattle.desk_toolbox.specs.Economy.{IsCallEconomical};
 ghost use Rattle.desk_toolbox.specs.EventSteps.{events_left};
-ghost use Rattle.desk_toolbox.specs.Run.{AreControlsLeft, AreListsLeft, IsAdmitted, IsControlTold, IsEventAnswer, IsFormFault, IsListAnswer, IsUpdateTold, IsWindowTold, is_covered, is_hidden_by_menu, is_under_menu};
+ghost use Rattle.desk_toolbox.specs.Run.{AreControlsLeft, AreListsLeft, IsAdmitted, IsControlTold, IsEventAnswer};
+ghost use Rattle.desk_toolbox.specs.Run.{IsFormFault, IsListAnswer, IsUpdateTold, IsWindowTold, is_covered};
+ghost use Rattle.desk_toolbox.specs.Run.{is_hidden_by_menu, is_under_menu};
 ghost use Rattle.desk_toolbox.specs.ToolboxStates.{ToolboxState};
 
 use crate::events::Events;
@@ -22,8 +24,8 @@ use crate::{
 };
 use control_mgr::Controls;
 use def_iface::{
-    ControlStock, Defined, DefinedControl, DefinedList, ListStock, Stock, StockedAll,
-    StockedControls, StockedLists, Taken, TakenControl, TakenList,
+    ControlStock, Defined, ListStock, Stock, Stocked, StockedAll, TakenControl, TakenList,
+    TakenWindow,
 };
 use list_mgr::{Contents, Lists};
 use tb_geom::Refusal;
@@ -41,8 +43,8 @@ impl Toolbox {
         ensures step { IsAdmitted call.now result
             (⟦<Self as Desk>⟧.state self.old stock.old)
             (⟦<Self as Desk>⟧.state self.new stock.new) }
-        ensures economy { AreInformed (windows_of ⟦<Taken as Defined>⟧.loan self.old.windows)
-            → IsCallEconomical ⟦<Taken as Defined>⟧.loan call.now self.old.windows self.new.windows }
+        ensures economy { AreInformed (windows_of ⟦<TakenWindow as Defined>⟧.loan self.old.windows)
+            → IsCallEconomical ⟦<TakenWindow as Defined>⟧.loan call.now self.old.windows self.new.windows }
     {
         match call {
             Call::Window(call) => match self.tell_window(call, stock) {
@@ -103,8 +105,8 @@ impl Toolbox {
         ensures step { let before = ⟦<Self as Desk>⟧.state self.old stock.old in
             IsWindowTold (is_covered call.now before) call.now result before
             (⟦<Self as Desk>⟧.state self.new stock.new) }
-        ensures economy { AreInformed (windows_of ⟦<Taken as Defined>⟧.loan self.old.windows)
-            → IsEconomical ⟦<Taken as Defined>⟧.loan call.now self.old.windows self.new.windows }
+        ensures economy { AreInformed (windows_of ⟦<TakenWindow as Defined>⟧.loan self.old.windows)
+            → IsEconomical ⟦<TakenWindow as Defined>⟧.loan call.now self.old.windows self.new.windows }
         ensures aside { (self.new.menus ≡ self.old.menus)
             × ((self.new.updates ≡ self.old.updates) × (self.new.activity ≡ self.old.activity)) }
     {
@@ -265,25 +267,25 @@ fn forget(
     control_stock: &mut ControlStock,
     list_stock: &mut ListStock,
 )
-    requires live { AreLiveControls (records_of ⟦<TakenControl as DefinedControl>⟧.control_loan controls.old) }
+    requires live { AreLiveControls (records_of ⟦<TakenControl as Defined>⟧.loan controls.old) }
     requires stocked { AreStocked (λ d. d.stage)
-        (slots_of (records_of ⟦<TakenControl as DefinedControl>⟧.control_loan controls.old))
-        (⟦<ControlStock as StockedControls>⟧.control_slots control_stock.old) }
-    requires live_lists { AreLiveLists (whole_lists.records_of ⟦<TakenList as DefinedList>⟧.list_loan lists.old) }
+        (slots_of (records_of ⟦<TakenControl as Defined>⟧.loan controls.old))
+        (⟦<ControlStock as Stocked>⟧.slots control_stock.old) }
+    requires live_lists { AreLiveLists (whole_lists.records_of ⟦<TakenList as Defined>⟧.loan lists.old) }
     requires stocked_lists { AreStocked (λ d. d.stage)
-        (whole_lists.slots_of (whole_lists.records_of ⟦<TakenList as DefinedList>⟧.list_loan lists.old))
-        (⟦<ListStock as StockedLists>⟧.list_slots list_stock.old) }
+        (whole_lists.slots_of (whole_lists.records_of ⟦<TakenList as Defined>⟧.loan lists.old))
+        (⟦<ListStock as Stocked>⟧.slots list_stock.old) }
     ensures events { (call : Named) → outcome_of call ≡ outcome → events.new ≡ events_left call events.old }
     ensures controls { (call : Named) → outcome_of call ≡ outcome → AreControlsLeft call
-        (controls_state ⟦<TakenControl as DefinedControl>⟧.control_loan controls.old
-        (⟦<ControlStock as StockedControls>⟧.control_slots control_stock.old))
-        (controls_state ⟦<TakenControl as DefinedControl>⟧.control_loan controls.new
-        (⟦<ControlStock as StockedControls>⟧.control_slots control_stock.new)) }
+        (controls_state ⟦<TakenControl as Defined>⟧.loan controls.old
+        (⟦<ControlStock as Stocked>⟧.slots control_stock.old))
+        (controls_state ⟦<TakenControl as Defined>⟧.loan controls.new
+        (⟦<ControlStock as Stocked>⟧.slots control_stock.new)) }
     ensures lists { (call : Named) → outcome_of call ≡ outcome → AreListsLeft call
-        (lists_state ⟦<TakenList as DefinedList>⟧.list_loan lists.old
-        (⟦<ListStock as StockedLists>⟧.list_slots list_stock.old))
-        (lists_state ⟦<TakenList as DefinedList>⟧.list_loan lists.new
-        (⟦<ListStock as StockedLists>⟧.list_slots list_stock.new)) }
+        (lists_state ⟦<TakenList as Defined>⟧.loan lists.old
+        (⟦<ListStock as Stocked>⟧.slots list_stock.old))
+        (lists_state ⟦<TakenList as Defined>⟧.loan lists.new
+        (⟦<ListStock as Stocked>⟧.slots list_stock.new)) }
 {
     if let Outcome::Ended(window) = outcome {
         events.forget(window);

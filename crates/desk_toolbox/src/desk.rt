@@ -6,30 +6,34 @@ ghost use Rattle.desk_toolbox.specs.ToolboxStates.{ToolboxState};
 use crate::Toolbox;
 use def_iface::{ControlDef, ListDef, MenuDef, Stock, WindowDef};
 
-/// A desk over the stock that its definitions come from, as contracts see the two; over slots, where a
-/// clause speaks of any stock.
+/// A desk over the stock that its definitions come from, as contracts see the two. Where a clause speaks of any
+/// stock, it names the same over slots.
 pub trait Desk {
     /// What its definitions come from.
     type Stock;
     /// The boxes that its definitions lie in: what these mean, the members say.
     type Boxes;
 
-    /// Its state.
+    /// Its state, as plain data: what the calls of its managers act on.
     ghost state: { Self → Self.Stock → ToolboxState };
 
+    /// Its state over slots.
     ghost state_over: { Self → AllSlots → ToolboxState };
 
-    /// It and the stock are whole, as they are between calls.
+    /// It and the stock are whole, as they are between calls: each manager is whole, and the screen is right where
+    /// nothing is to be redrawn.
     ghost IsWhole: { Self → Self.Stock → Type 0 };
 
+    /// It is whole over slots.
     ghost IsWholeOver: { Self → AllSlots → Type 0 };
 
     /// It is whole over some slots.
     ghost IsKept: { Self → Type 0 };
 
-    /// Each of its managers is whole.
+    /// Each of its managers is whole, as in the midst of a call.
     ghost HasWholeManagers: { Self → Self.Stock → Type 0 };
 
+    /// Each of its managers is whole over slots.
     ghost HasWholeManagersOver: { Self → AllSlots → Type 0 };
 }
 

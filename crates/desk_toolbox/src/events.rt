@@ -1,6 +1,7 @@
 //! The calls about events: the queue of what was posted, and what is told of the active window.
 ghost use Rattle.std.specs.Prelude.{◌≡◌, nat_abs, true, IfOk};
-ghost use Rattle.desk_toolbox.specs.EventSteps.{asked_event, event_of, event_step, first_events, is_in_ranges, is_time, is_word, posting, without_window, word_of};
+ghost use Rattle.desk_toolbox.specs.EventSteps.{asked_event, event_of, event_step, first_events, is_in_ranges, is_time};
+ghost use Rattle.desk_toolbox.specs.EventSteps.{is_word, posting, without_window, word_of};
 
 use desk_call::{EventCall, EventReply, FlushEvents, PostEvent};
 use event_queue::{Event, EventError, EventKind, EventQueue, forget};

@@ -9,7 +9,8 @@
 //! Busy where it has to wait, NotBusy where what it goes on with is not open. A call that may not come is still refused first
 //! for what is wrong with it alone: a name that no table has, or bytes without their form.
 //!
-//! Definitions live outside, in a `Stock` that each call is handed; `Toolbox::close` puts them back Closed.
+//! Definitions live outside, in a `Stock` that each call is handed; `Toolbox::close` puts them back Closed. Contracts see the
+//! two together, as the members of `Desk` say.
 #![tactic(auto)]
 
 mod answering;

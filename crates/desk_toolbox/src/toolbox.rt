@@ -29,7 +29,7 @@ use crate::events::Events;
 use crate::{Activity, Call, Desk, Reply};
 use bit_map::BitMap;
 use control_mgr::Controls;
-use def_iface::{Defined, Stock, StockedAll, Taken, TakenControl, TakenList};
+use def_iface::{Defined, Stock, StockedAll, TakenControl, TakenList, TakenWindow};
 use desk_ground::is_screen;
 use list_mgr::{Contents, Lists};
 use menu_list::MenuList;
@@ -97,7 +97,7 @@ impl Toolbox {
         font: Font,
     ) -> Result<Toolbox, NotBegun>
         ensures begun { IfOk result (λ t. (slots : List SlotView) → All IsFull slots
-            → IsEmptyDesk ⟦<Taken as Defined>⟧.loan width height bar font t.windows slots) }
+            → IsEmptyDesk ⟦<TakenWindow as Defined>⟧.loan width height bar font t.windows slots) }
         ensures idle { IfOk result (λ t. t.activity ≡ Idle) }
         ensures events { IfOk result (λ t. t.events ≡ first_events) }
         ensures whole { IfOk result (λ t. (stocks : AllSlots) → AreAllFull stocks
@@ -136,7 +136,7 @@ impl Toolbox {
         requires height { pos parts.updates.buffer.height ≡ height }
         requires menus { AreNoMenus width height parts.menus }
         ensures begun { IfOk result (λ t. (slots : List SlotView) → All IsFull slots
-            → IsEmptyDesk ⟦<Taken as Defined>⟧.loan width height bar font t.windows slots) }
+            → IsEmptyDesk ⟦<TakenWindow as Defined>⟧.loan width height bar font t.windows slots) }
         ensures idle { IfOk result (λ t. t.activity ≡ Idle) }
         ensures events { IfOk result (λ t. t.events ≡ parts.events) }
         ensures menus { IfOk result (λ t. t.menus ≡ parts.menus) }
@@ -243,7 +243,7 @@ impl Toolbox {
         ensures right { IsRightState (⟦<Self as Desk>⟧.state self.old stock.old).desk.windows
             → IsRightState (⟦<Self as Desk>⟧.state self.new stock.new).desk.windows }
         ensures economy { IsConsistent (⟦<Self as Desk>⟧.state self.old stock.old)
-            → IsCallEconomical ⟦<Taken as Defined>⟧.loan call.now self.old.windows self.new.windows }
+            → IsCallEconomical ⟦<TakenWindow as Defined>⟧.loan call.now self.old.windows self.new.windows }
     {
         match self.activity.admit(call.standing()) {
             Ok(()) => self.perform(call, stock),

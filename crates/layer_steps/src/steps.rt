@@ -5,8 +5,9 @@ ghost use Rattle.window_mgr.specs.Whole.{IsWholeManager};
 ghost use Rattle.window_update.specs.WholeUpdates.{IsWholeUpdates};
 
 use bit_map::{BitMap, Mode, Pattern};
-use def_iface::{Defined, Part, Size, Stocked, Taken, WindowStock};
+use def_iface::{Defined, Size, Stocked, TakenWindow, WindowStock};
 use desk_call::{Activity, PictureRef};
+use desk_layers::Part;
 use draw_port::{Op, Picture, Shade, Shape as Form};
 use lent_ops::{OpRef, ShapeRef};
 use plain_layers::desk::{Owner, Painting, PlainDesk, PlainLayer, PlainWindow, seen_from};
@@ -106,7 +107,8 @@ impl Desk {
     /// yet.
     pub fn new(alloc: Global, stock: WindowStock) -> Result<Desk, Refusal>
         requires { All IsFull (⟦<WindowStock as Stocked>⟧.slots stock) }
-        ensures { IfOk result (λ d. IsWholeManager ⟦<Taken as Defined>⟧.loan d.windows (⟦<WindowStock as Stocked>⟧.slots d.stock)) }
+        ensures { IfOk result (λ d. IsWholeManager ⟦<TakenWindow as Defined>⟧.loan d.windows
+            (⟦<WindowStock as Stocked>⟧.slots d.stock)) }
     {
         let list = WindowList::new(Ranks::new(alloc));
         let font = Font::built_in(alloc)?;
@@ -129,8 +131,10 @@ impl Desk {
 
     /// Makes the window of the library that this one of the model is.
     fn open(&mut self, serial: u64) -> Result<(), Refusal>
-        requires { IsWholeManager ⟦<Taken as Defined>⟧.loan self.old.windows (⟦<WindowStock as Stocked>⟧.slots self.old.stock) }
-        ensures { IsWholeManager ⟦<Taken as Defined>⟧.loan self.new.windows (⟦<WindowStock as Stocked>⟧.slots self.new.stock) }
+        requires { IsWholeManager ⟦<TakenWindow as Defined>⟧.loan self.old.windows
+            (⟦<WindowStock as Stocked>⟧.slots self.old.stock) }
+        ensures { IsWholeManager ⟦<TakenWindow as Defined>⟧.loan self.new.windows
+            (⟦<WindowStock as Stocked>⟧.slots self.new.stock) }
     {
         let mut desk = self.plain.desk;
         let at = desk.index_of(serial);
@@ -153,7 +157,8 @@ impl Desk {
 
     /// Whether each pixel of the screen, and each region that is kept, is what the model has.
     pub fn agrees(&self) -> bool
-        requires { IsWholeManager ⟦<Taken as Defined>⟧.loan self.now.windows (⟦<WindowStock as Stocked>⟧.slots self.now.stock) }
+        requires { IsWholeManager ⟦<TakenWindow as Defined>⟧.loan self.now.windows
+            (⟦<WindowStock as Stocked>⟧.slots self.now.stock) }
     {
         for v in 0..16 {
             for h in 0..24 {
@@ -166,7 +171,8 @@ impl Desk {
     }
 
     fn agrees_at(&self, point: Point) -> bool
-        requires { IsWholeManager ⟦<Taken as Defined>⟧.loan self.now.windows (⟦<WindowStock as Stocked>⟧.slots self.now.stock) }
+        requires { IsWholeManager ⟦<TakenWindow as Defined>⟧.loan self.now.windows
+            (⟦<WindowStock as Stocked>⟧.slots self.now.stock) }
     {
         if is_black(self.windows.screen(), point) != self.plain.is_black(point) {
             return false;
@@ -211,8 +217,10 @@ impl Desk {
 
     /// Carries out a step, and answers whether the library and the model then agree.
     pub fn follows(&mut self, step: Step) -> Result<bool, Refusal>
-        requires { IsWholeManager ⟦<Taken as Defined>⟧.loan self.old.windows (⟦<WindowStock as Stocked>⟧.slots self.old.stock) }
-        ensures { IsWholeManager ⟦<Taken as Defined>⟧.loan self.new.windows (⟦<WindowStock as Stocked>⟧.slots self.new.stock) }
+        requires { IsWholeManager ⟦<TakenWindow as Defined>⟧.loan self.old.windows
+            (⟦<WindowStock as Stocked>⟧.slots self.old.stock) }
+        ensures { IsWholeManager ⟦<TakenWindow as Defined>⟧.loan self.new.windows
+            (⟦<WindowStock as Stocked>⟧.slots self.new.stock) }
     {
         match step {
             Step::Update(window, kinds) => return self.update(window, kinds),
@@ -226,8 +234,10 @@ impl Desk {
 
     /// Whether the library refuses a step as out of range, and stays as it was.
     pub fn refuses(&mut self, step: Step) -> bool
-        requires { IsWholeManager ⟦<Taken as Defined>⟧.loan self.old.windows (⟦<WindowStock as Stocked>⟧.slots self.old.stock) }
-        ensures { IsWholeManager ⟦<Taken as Defined>⟧.loan self.new.windows (⟦<WindowStock as Stocked>⟧.slots self.new.stock) }
+        requires { IsWholeManager ⟦<TakenWindow as Defined>⟧.loan self.old.windows
+            (⟦<WindowStock as Stocked>⟧.slots self.old.stock) }
+        ensures { IsWholeManager ⟦<TakenWindow as Defined>⟧.loan self.new.windows
+            (⟦<WindowStock as Stocked>⟧.slots self.new.stock) }
     {
         let answer = self.perform(step);
         is_out_of_range(answer) && self.agrees()
@@ -235,8 +245,10 @@ impl Desk {
 
     /// Carries out a step that is no update by the library.
     fn perform(&mut self, step: Step) -> Result<(), Refusal>
-        requires { IsWholeManager ⟦<Taken as Defined>⟧.loan self.old.windows (⟦<WindowStock as Stocked>⟧.slots self.old.stock) }
-        ensures { IsWholeManager ⟦<Taken as Defined>⟧.loan self.new.windows (⟦<WindowStock as Stocked>⟧.slots self.new.stock) }
+        requires { IsWholeManager ⟦<TakenWindow as Defined>⟧.loan self.old.windows
+            (⟦<WindowStock as Stocked>⟧.slots self.old.stock) }
+        ensures { IsWholeManager ⟦<TakenWindow as Defined>⟧.loan self.new.windows
+            (⟦<WindowStock as Stocked>⟧.slots self.new.stock) }
     {
         match step {
             Step::Put(window, part, shown, rect) => {
@@ -252,16 +264,20 @@ impl Desk {
     }
 
     fn call(&mut self, call: &WindowCall<'_>) -> Result<(), Refusal>
-        requires { IsWholeManager ⟦<Taken as Defined>⟧.loan self.old.windows (⟦<WindowStock as Stocked>⟧.slots self.old.stock) }
-        ensures { IsWholeManager ⟦<Taken as Defined>⟧.loan self.new.windows (⟦<WindowStock as Stocked>⟧.slots self.new.stock) }
+        requires { IsWholeManager ⟦<TakenWindow as Defined>⟧.loan self.old.windows
+            (⟦<WindowStock as Stocked>⟧.slots self.old.stock) }
+        ensures { IsWholeManager ⟦<TakenWindow as Defined>⟧.loan self.new.windows
+            (⟦<WindowStock as Stocked>⟧.slots self.new.stock) }
     {
         let _done = self.windows.perform(call, &mut self.stock)?;
         Ok(())
     }
 
     fn replace(&mut self, window: u64, painting: Painting, origin: Point) -> Result<(), Refusal>
-        requires { IsWholeManager ⟦<Taken as Defined>⟧.loan self.old.windows (⟦<WindowStock as Stocked>⟧.slots self.old.stock) }
-        ensures { IsWholeManager ⟦<Taken as Defined>⟧.loan self.new.windows (⟦<WindowStock as Stocked>⟧.slots self.new.stock) }
+        requires { IsWholeManager ⟦<TakenWindow as Defined>⟧.loan self.old.windows
+            (⟦<WindowStock as Stocked>⟧.slots self.old.stock) }
+        ensures { IsWholeManager ⟦<TakenWindow as Defined>⟧.loan self.new.windows
+            (⟦<WindowStock as Stocked>⟧.slots self.new.stock) }
     {
         let picture = picture(self.alloc, painting)?;
         self.call(&WindowCall::SetPicture(NewPicture {
@@ -278,18 +294,22 @@ impl Desk {
         activity: &mut Activity,
         call: &UpdateCall<'_>,
     ) -> Result<(), Refusal>
-        requires whole { IsWholeManager ⟦<Taken as Defined>⟧.loan self.old.windows (⟦<WindowStock as Stocked>⟧.slots self.old.stock) }
-        requires updates { IsWholeUpdates ⟦<Taken as Defined>⟧.loan activity.old self.old.windows updates.old }
-        ensures whole { IsWholeManager ⟦<Taken as Defined>⟧.loan self.new.windows (⟦<WindowStock as Stocked>⟧.slots self.new.stock) }
-        ensures updates { IsWholeUpdates ⟦<Taken as Defined>⟧.loan activity.new self.new.windows updates.new }
+        requires whole { IsWholeManager ⟦<TakenWindow as Defined>⟧.loan self.old.windows
+            (⟦<WindowStock as Stocked>⟧.slots self.old.stock) }
+        requires updates { IsWholeUpdates ⟦<TakenWindow as Defined>⟧.loan activity.old self.old.windows updates.old }
+        ensures whole { IsWholeManager ⟦<TakenWindow as Defined>⟧.loan self.new.windows
+            (⟦<WindowStock as Stocked>⟧.slots self.new.stock) }
+        ensures updates { IsWholeUpdates ⟦<TakenWindow as Defined>⟧.loan activity.new self.new.windows updates.new }
     {
         update(&mut self.windows, updates, activity, call)
     }
 
     /// Begins the update of a window, draws these kinds of layers, and ends it.
     fn update(&mut self, window: u64, kinds: &[Kind]) -> Result<bool, Refusal>
-        requires { IsWholeManager ⟦<Taken as Defined>⟧.loan self.old.windows (⟦<WindowStock as Stocked>⟧.slots self.old.stock) }
-        ensures { IsWholeManager ⟦<Taken as Defined>⟧.loan self.new.windows (⟦<WindowStock as Stocked>⟧.slots self.new.stock) }
+        requires { IsWholeManager ⟦<TakenWindow as Defined>⟧.loan self.old.windows
+            (⟦<WindowStock as Stocked>⟧.slots self.old.stock) }
+        ensures { IsWholeManager ⟦<TakenWindow as Defined>⟧.loan self.new.windows
+            (⟦<WindowStock as Stocked>⟧.slots self.new.stock) }
     {
         let mut updates = updates_for(self.alloc, &self.windows)?;
         let mut activity = Activity::Idle;
@@ -310,16 +330,20 @@ impl Desk {
 
     /// Performs a call on updates while none is open.
     fn update_at_once(&mut self, call: &UpdateCall<'_>) -> Result<(), Refusal>
-        requires { IsWholeManager ⟦<Taken as Defined>⟧.loan self.old.windows (⟦<WindowStock as Stocked>⟧.slots self.old.stock) }
-        ensures { IsWholeManager ⟦<Taken as Defined>⟧.loan self.new.windows (⟦<WindowStock as Stocked>⟧.slots self.new.stock) }
+        requires { IsWholeManager ⟦<TakenWindow as Defined>⟧.loan self.old.windows
+            (⟦<WindowStock as Stocked>⟧.slots self.old.stock) }
+        ensures { IsWholeManager ⟦<TakenWindow as Defined>⟧.loan self.new.windows
+            (⟦<WindowStock as Stocked>⟧.slots self.new.stock) }
     {
         update_at_once(self.alloc, &mut self.windows, call)
     }
 
     /// Serves a window.
     fn serve(&mut self, window: u64) -> Result<bool, Refusal>
-        requires { IsWholeManager ⟦<Taken as Defined>⟧.loan self.old.windows (⟦<WindowStock as Stocked>⟧.slots self.old.stock) }
-        ensures { IsWholeManager ⟦<Taken as Defined>⟧.loan self.new.windows (⟦<WindowStock as Stocked>⟧.slots self.new.stock) }
+        requires { IsWholeManager ⟦<TakenWindow as Defined>⟧.loan self.old.windows
+            (⟦<WindowStock as Stocked>⟧.slots self.old.stock) }
+        ensures { IsWholeManager ⟦<TakenWindow as Defined>⟧.loan self.new.windows
+            (⟦<WindowStock as Stocked>⟧.slots self.new.stock) }
     {
         self.update_at_once(&UpdateCall::Serve(window))?;
         self.plain = self.plain.served(self.alloc, window)?;

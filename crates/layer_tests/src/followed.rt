@@ -3,7 +3,8 @@
 ghost use Rattle.std.specs.Prelude.{All, IfOk};
 ghost use Rattle.def_iface.specs.Stocked.{IsFull};
 
-use def_iface::{Part, Size, Stocked, WindowDef, WindowStock};
+use def_iface::{Size, Stocked, WindowDef, WindowStock};
+use desk_layers::Part;
 use layer_steps::steps::Desk;
 use plain_layers::desk::Painting;
 use plain_layers::steps::Step;

@@ -1,5 +1,6 @@
 mod HexLaws
 mod HexLemmas
+mod HexOut
 pub mod Mapped
 mod NumberLaws
 pub mod Spelled

@@ -7,7 +7,9 @@
 ghost use Rattle.std.specs.Prelude.{◌≡◌};
 ghost use Rattle.std.specs.Char.{is_ascii_alphanumeric};
 ghost use Rattle.std.specs.List.{list_all};
-ghost use Rattle.line_words.specs.Words.{word_at, number_at, number_said, serial_at, point_at, rect_at, last, flag_at, name_at, is_name, hex_at, text_at, quoted_at, after_quote, is_plain, digits_of, end_at};
+ghost use Rattle.line_words.specs.Words.{word_at, number_at, number_said, serial_at, point_at};
+ghost use Rattle.line_words.specs.Words.{rect_at, last, flag_at, name_at, is_name, hex_at};
+ghost use Rattle.line_words.specs.Words.{text_at, quoted_at, after_quote, is_plain, digits_of, end_at};
 
 use crate::hex::hex_bytes;
 use crate::piece::Piece;

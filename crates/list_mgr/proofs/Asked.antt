@@ -4,10 +4,9 @@ use Rattle.std.specs.Option.{option_map_or}
 use Rattle.std.specs.Prelude.{slice_get}
 use Rattle.std.specs.Str.{bytes_eq}
 use Rattle.tb_geom.specs.Refusals.{first_refusal}
-use Rattle.def_iface.specs.declared.taken.Taken.{Taken}
-use Rattle.def_iface.specs.declared.taken_list.TakenList.{TakenList}
+use Rattle.def_iface.specs.Slots.{TakenBox}
 use Rattle.def_iface.specs.ListMeaning.{ListLoan}
-use Rattle.def_iface.specs.Meaning.{Loan}
+use Rattle.def_iface.specs.WindowMeaning.{WindowLoan}
 use Rattle.list_cells.specs.declared.cell.Cell.{Cell}
 use Rattle.list_cells.specs.Grids.{content_of, first_from, is_cell, search_refusals}
 use Rattle.window_items.specs.declared.item.Item.{Item}
@@ -28,15 +27,15 @@ use Rattle.list_mgr.specs.Spots.{IsSpotOf}
 use Rattle.list_mgr.specs.WholeLists.{IsToldOver, records_of}
 use Rattle.list_mgr.proofs.Steps.{cell_there, its_reasons, list_named, list_read, told, unchanged}
 
-module _ {V : Type 0} {H : V → Type 0} (loan : Taken V H → Loan) {X : Type 0} {L : X → Type 0} (list_loan : TakenList X L → ListLoan)
-    (t : WindowManager V H) (m : Lists (TakenList X L)) where
+module _ {V : Type 0} {H : V → Type 0} (loan : TakenBox V H → WindowLoan) {X : Type 0} {L : X → Type 0} (list_loan : TakenBox X L → ListLoan)
+    (t : WindowManager V H) (m : Lists (TakenBox X L)) where
   -- what is told of the list that stands here
-  told_is : (l : ListOf) (s : ListAt) (x : Item (ListRecord (TakenList X L))) → IsSpotOf loan list_loan l t m s → x ≡ get_or m.list.items.items s.list x
+  told_is : (l : ListOf) (s : ListAt) (x : Item (ListRecord (TakenBox X L))) → IsSpotOf loan list_loan l t m s → x ≡ get_or m.list.items.items s.list x
       → (f : KeptList → ListReply) → told_of l f (records_of list_loan m) ≡ f (seen list_loan x)
   told_is l s x is read f =
       ap (λ o. option_map_or f o reply.Done) (list_named loan list_loan l t m s is (seen list_loan x) (list_read loan list_loan l t m s is x read))
 
-  module _ (c : CellOf) (s : ListAt) (x : Item (ListRecord (TakenList X L))) (is : IsSpotOf loan list_loan c.list t m s) (read : x ≡ get_or m.list.items.items s.list x) where
+  module _ (c : CellOf) (s : ListAt) (x : Item (ListRecord (TakenBox X L))) (is : IsSpotOf loan list_loan c.list t m s) (read : x ≡ get_or m.list.items.items s.list x) where
     abbrev its : KeptList
     its = seen list_loan x
 
@@ -48,7 +47,7 @@ module _ {V : Type 0} {H : V → Type 0} (loan : Taken V H → Loan) {X : Type 0
         told loan list_loan (asks.GetCell c) answer t m (λ o slots cs kept. cell_there loan list_loan c.list t m s is c.cell its there has)
         (λ o slots cs kept. ((its, list_named loan list_loan c.list t m s is its there, are), unchanged loan list_loan t o slots cs m kept))
 
-  module _ (c : CellText) (s : ListAt) (x : Item (ListRecord (TakenList X L))) (is : IsSpotOf loan list_loan c.cell.list t m s) (read : x ≡ get_or m.list.items.items s.list x) where
+  module _ (c : CellText) (s : ListAt) (x : Item (ListRecord (TakenBox X L))) (is : IsSpotOf loan list_loan c.cell.list t m s) (read : x ≡ get_or m.list.items.items s.list x) where
     search_there : slice_get (records_of list_loan m) s.list ≡ Some (seen list_loan x)
     search_there = list_read loan list_loan c.cell.list t m s is x read
 

@@ -5,15 +5,12 @@ use Rattle.tb_geom.specs.Pixels.{Pixels}
 use Rattle.tb_geom.specs.Rects.{is_in_range, moved_rect}
 use Rattle.tb_geom.specs.Refusals.{first_refusal}
 use Rattle.control_mgr.specs.Seen.{all_seen}
-use Rattle.def_iface.specs.declared.part.Part.TheVariants as part
-use Rattle.def_iface.specs.declared.taken.Taken.{Taken}
-use Rattle.def_iface.specs.declared.taken_control.TakenControl.{TakenControl}
-use Rattle.def_iface.specs.declared.taken_list.TakenList.{TakenList}
+use Rattle.desk_layers.specs.declared.part.Part.TheVariants as part
 use Rattle.def_iface.specs.ControlMeaning.{ControlDefinition, ControlLoan}
-use Rattle.def_iface.specs.Desk.{same_part}
+use Rattle.desk_layers.specs.Desk.{same_part}
 use Rattle.def_iface.specs.ListMeaning.{ListLoan}
-use Rattle.def_iface.specs.Meaning.{Loan}
-use Rattle.def_iface.specs.Slots.{IsTaken}
+use Rattle.def_iface.specs.WindowMeaning.{WindowLoan}
+use Rattle.def_iface.specs.Slots.{IsTaken, TakenBox}
 use Rattle.window_list.specs.declared.layer.Layer.{Layer}
 use Rattle.window_list.specs.Holders.{PlacedLayers}
 use Rattle.list_view.specs.Views.{view_rect}
@@ -65,13 +62,13 @@ may_lay_after k n d j ls a grown may = record {
 }
 
 -- a bar is planned, whatever the code calls it and what it is given
-pub bar_planned : {V : Type 0} {H : V → Type 0} (loan : Taken V H → Loan) {W : Type 0} {K : W → Type 0} (control_loan : TakenControl W K → ControlLoan)
+pub bar_planned : {V : Type 0} {H : V → Type 0} (loan : TakenBox V H → WindowLoan) {W : Type 0} {K : W → Type 0} (control_loan : TakenBox W K → ControlLoan)
     (window : ℕ) (b : Bar) (d : ControlDefinition) (k given : Ticket) (control : NewControl) (ls was : PlacedLayers) (update stale : Pixels) (t : WindowManager V H) (a : Addition)
     → control ≡ bar_control window b → given ≡ k → was ≡ ls → stale ≡ update → IsGrown control d given was a
-    → ((u : WindowManager V H) (c : Controls (TakenControl W K)) → IsReadyToAdd loan control_loan control d given was stale t u c → IsAddition loan control_loan control d u c a)
+    → ((u : WindowManager V H) (c : Controls (TakenBox W K)) → IsReadyToAdd loan control_loan control d given was stale t u c → IsAddition loan control_loan control d u c a)
     → IsBarPlanned loan control_loan window b d k ls update t a
 bar_planned {V} {H} loan {W} {K} control_loan window b d k given control ls was update stale t a control_is given_is ls_is update_is grown planned =
-    let both = subst (λ (x : NewControl × Ticket × PlacedLayers × Pixels). IsGrown x.0 d x.1 x.2 a × ((u : WindowManager V H) (c : Controls (TakenControl W K)) → IsReadyToAdd loan control_loan x.0 d x.1 x.2 x.3 t u c → IsAddition loan control_loan x.0 d u c a))
+    let both = subst (λ (x : NewControl × Ticket × PlacedLayers × Pixels). IsGrown x.0 d x.1 x.2 a × ((u : WindowManager V H) (c : Controls (TakenBox W K)) → IsReadyToAdd loan control_loan x.0 d x.1 x.2 x.3 t u c → IsAddition loan control_loan x.0 d u c a))
     (λ i. (control_is i, given_is i, ls_is i, update_is i)) (grown, planned) in
     record { grown = both.0; planned = both.1 }
 
@@ -95,10 +92,10 @@ place_after {V} {H} n k u v m layers update put place = record {
 
 -- ---- a bar that was added
 
-module _ {V : Type 0} {H : V → Type 0} (loan : Taken V H → Loan) {W : Type 0} {K : W → Type 0} (control_loan : TakenControl W K → ControlLoan)
-    (window : ℕ) (b : Bar) (good : IsGoodBar b) (d : ControlLoan) (k : Ticket) (few : k.layer < 64) (ls : PlacedLayers) (update : Pixels) (t u : WindowManager V H) (c c' : Controls (TakenControl W K)) (same : IsRoomier c c')
+module _ {V : Type 0} {H : V → Type 0} (loan : TakenBox V H → WindowLoan) {W : Type 0} {K : W → Type 0} (control_loan : TakenBox W K → ControlLoan)
+    (window : ℕ) (b : Bar) (good : IsGoodBar b) (d : ControlLoan) (k : Ticket) (few : k.layer < 64) (ls : PlacedLayers) (update : Pixels) (t u : WindowManager V H) (c c' : Controls (TakenBox W K)) (same : IsRoomier c c')
     (ready : IsReadyToAdd loan control_loan (bar_control window b) d.definition k ls update t u c') (a : Addition) (grown : IsGrown (bar_control window b) d.definition k ls a)
-    (v : WindowManager V H) (e : Controls (TakenControl W K))
+    (v : WindowManager V H) (e : Controls (TakenBox W K))
     (added : (before left : List ControlSlot) → IsTaken (λ (x : ControlDefinition). x.stage) scroll_kind d before left → (o : Opened) → LeavesOver control_loan loan before left (IsControlMade (bar_control window b) a.ticket.serial) u o c' v o e) where
   abbrev new : NewControl
   new = bar_control window b
@@ -124,7 +121,7 @@ module _ {V : Type 0} {H : V → Type 0} (loan : Taken V H → Loan) {W : Type 0
     controls_with_bar = left_whole loan control_loan (IsControlMade new a.ticket.serial) before left u v idle_now idle_now c' e made ready.laid.has.kept whole
 
     -- the lists beside it are as they were
-    pub lists_with_bar : {X : Type 0} {L : X → Type 0} (list_loan : TakenList X L → ListLoan) (n : NewList) (m : Lists (TakenList X L)) → AreBeside list_loan loan u m → AreBeside list_loan loan v m
+    pub lists_with_bar : {X : Type 0} {L : X → Type 0} (list_loan : TakenBox X L → ListLoan) (n : NewList) (m : Lists (TakenBox X L)) → AreBeside list_loan loan u m → AreBeside list_loan loan v m
     lists_with_bar list_loan n m beside = record {
       slots = beside.slots;
       whole = (bar_done loan list_loan control_loan n 0 new a.ticket.serial u v idle_now ready.laid.has.kept.slots c e before left m beside.slots (bar_step before left taken idle_now) ready.laid.has.kept.whole

@@ -5,11 +5,10 @@ use Rattle.std.specs.declared.alloc.AllocError.{AllocError}
 use Rattle.tb_geom.specs.declared.refusal.Refusal.TheVariants.{NoSuchControl, NoSuchWindow}
 use Rattle.tb_geom.specs.Pixels.{Pixels}
 use Rattle.tb_geom.specs.Refusals.{first_refusal}
-use Rattle.def_iface.specs.declared.taken.Taken.{Taken}
-use Rattle.def_iface.specs.declared.taken_control.TakenControl.{TakenControl}
+use Rattle.def_iface.specs.Slots.{TakenBox}
 use Rattle.def_iface.specs.ControlMeaning.{ControlLoan}
-use Rattle.def_iface.specs.Desk.{IsDesk}
-use Rattle.def_iface.specs.Meaning.{Loan}
+use Rattle.desk_layers.specs.Desk.{IsDesk}
+use Rattle.def_iface.specs.WindowMeaning.{WindowLoan}
 use Rattle.window_list.specs.Holders.{PlacedLayers}
 use Rattle.desk_call.specs.declared.activity.Activity.TheVariants.{Idle}
 use Rattle.desk_call.specs.declared.control.ControlCall.TheVariants.{Dispose}
@@ -95,22 +94,22 @@ pub bar_out : (n : ℕ) (bar : Option ℕ) → bar ≡ Some n → (at : ℕ) (ls
     → IfOk result (λ planned. IfSome planned (IsTakenOut at (bar_serial bar) ls))
 bar_out n bar is at ls result out = subst (λ b. IfOk result (λ planned. IfSome planned (IsTakenOut at (bar_serial b) ls))) (sym is) out
 
-module _ {W : Type 0} {K : W → Type 0} (control_loan : TakenControl W K → ControlLoan) {V : Type 0} {H : V → Type 0} (loan : Taken V H → Loan) where
+module _ {W : Type 0} {K : W → Type 0} (control_loan : TakenBox W K → ControlLoan) {V : Type 0} {H : V → Type 0} (loan : TakenBox V H → WindowLoan) where
   module _ (window n : ℕ) (bar : Option ℕ) (is : bar ≡ Some n) where
     abbrev c : ControlOf
     c = record { window = window; control = n }
 
     pub bar_planned : (at : ℕ) (ls : PlacedLayers) (update : Pixels) (t : WindowManager V H) (result : Result (Option Ending) AllocError)
-        → IfOk result (λ planned. (u : WindowManager V H) (m : Controls (TakenControl W K)) → IsReadyToEnd loan control_loan c at ls update t u m → IsPlannedEnd loan control_loan c u m planned)
+        → IfOk result (λ planned. (u : WindowManager V H) (m : Controls (TakenBox W K)) → IsReadyToEnd loan control_loan c at ls update t u m → IsPlannedEnd loan control_loan c u m planned)
         → IfOk result (IsBarPlanned control_loan loan window bar at ls update t)
     bar_planned at ls update t result planned = subst (λ b. IfOk result (IsBarPlanned control_loan loan window b at ls update t)) (sym is) planned
 
     -- ---- and is made
 
-    pub to_end : (t : WindowManager V H) (m : Controls (TakenControl W K)) (planned : Option Ending) → IsBarToEnd control_loan loan window bar t m planned → IsPlannedEnd loan control_loan c t m planned
+    pub to_end : (t : WindowManager V H) (m : Controls (TakenBox W K)) (planned : Option Ending) → IsBarToEnd control_loan loan window bar t m planned → IsPlannedEnd loan control_loan c t m planned
     to_end t m planned ends = subst (λ b. IsBarToEnd control_loan loan window b t m planned) is ends
 
-    pub bar_gone : (t u : WindowManager V H) (m k : Controls (TakenControl W K)) (held left : List ControlSlot)
+    pub bar_gone : (t u : WindowManager V H) (m k : Controls (TakenBox W K)) (held left : List ControlSlot)
         → ((o : Opened) → LeavesOver control_loan loan held left (IsEndedIfThere c) t o m u o k) → IsBarGoneOver control_loan loan held left window bar t m u k
     bar_gone t u m k held left ended o slots lists whole controls =
         let done = ended o (lists_show lists.lists) slots whole controls in (
@@ -124,7 +123,7 @@ module _ {W : Type 0} {K : W → Type 0} (control_loan : TakenControl W K → Co
     pub none_planned : (at : ℕ) (ls : PlacedLayers) (update : Pixels) (t : WindowManager V H) → IsBarPlanned control_loan loan window bar at ls update t None
     none_planned at ls update t = subst (λ b. IsBarPlanned control_loan loan window b at ls update t None) (sym none) (λ u m ready. refl)
 
-    pub none_gone : (t : WindowManager V H) (m : Controls (TakenControl W K)) (held : List ControlSlot) → IsBarGoneOver control_loan loan held held window bar t m t m
+    pub none_gone : (t : WindowManager V H) (m : Controls (TakenBox W K)) (held : List ControlSlot) → IsBarGoneOver control_loan loan held held window bar t m t m
     none_gone t m held o slots lists whole controls = (
       whole,
       controls,
@@ -135,12 +134,12 @@ module _ {W : Type 0} {K : W → Type 0} (control_loan : TakenControl W K → Co
       }),
     )
 
-    pub none_put : (t : WindowManager V H) (m : Controls (TakenControl W K)) (planned : Option Ending) → IsBarToEnd control_loan loan window bar t m planned → IsPutIfPlanned planned t t
+    pub none_put : (t : WindowManager V H) (m : Controls (TakenBox W K)) (planned : Option Ending) → IsBarToEnd control_loan loan window bar t m planned → IsPutIfPlanned planned t t
     none_put t m planned ends = subst (λ p. IsPutIfPlanned p t t) (sym (subst (λ b. IsBarToEnd control_loan loan window b t m planned) none ends)) refl
 
   -- ---- what holds of windows and controls once a bar is there no more
 
-  module _ (held left : List ControlSlot) (window : ℕ) (bar : Option ℕ) (t u : WindowManager V H) (m k : Controls (TakenControl W K)) (gone : IsBarGoneOver control_loan loan held left window bar t m u k)
+  module _ (held left : List ControlSlot) (window : ℕ) (bar : Option ℕ) (t u : WindowManager V H) (m k : Controls (TakenBox W K)) (gone : IsBarGoneOver control_loan loan held left window bar t m u k)
       (kept : IsKept loan t) (whole : AreWholeControls (desk_of loan t []).windows (controls_state control_loan m held)) where
     pub kept_gone : IsKept loan u
     kept_gone = record { slots = kept.slots; whole = (gone (record { activity = Idle; begun = λ p. false }) kept.slots (record { lists = []; next = None; stock = [] }) kept.whole whole).0 }

@@ -4,12 +4,10 @@ use Rattle.std.specs.Prelude.{nat_lt, vec_capacity}
 use Rattle.std.proofs.lemmas.Bool.{ltb-true}
 use Rattle.std.proofs.lemmas.Option.{cond_some, same_Some}
 use Rattle.window_items.specs.Items.{count_of, serial_after}
-use Rattle.def_iface.specs.declared.taken.Taken.{Taken}
-use Rattle.def_iface.specs.declared.taken_control.TakenControl.{TakenControl}
-use Rattle.def_iface.specs.declared.taken_list.TakenList.{TakenList}
+use Rattle.def_iface.specs.Slots.{TakenBox}
 use Rattle.def_iface.specs.ControlMeaning.{ControlLoan}
 use Rattle.def_iface.specs.ListMeaning.{ListLoan}
-use Rattle.def_iface.specs.Meaning.{Loan}
+use Rattle.def_iface.specs.WindowMeaning.{WindowLoan}
 use Rattle.list_cells.specs.Grids.{Grid, empty_grid}
 use Rattle.list_view.specs.Views.{View}
 use Rattle.list_view.specs.Bars.{horizontal_bar, vertical_bar}
@@ -46,8 +44,8 @@ use Rattle.list_mgr.proofs.GoodBars.{IsRoomFor, bar_placed, first_ticket, good_h
 use Rattle.list_mgr.proofs.ListLayers.{may_lay}
 use Rattle.list_mgr.proofs.NewLists.{horizontal_may, room_for, vertical_may}
 
-module _ {V : Type 0} {H : V → Type 0} (loan : Taken V H → Loan) {W : Type 0} {K : W → Type 0} (control_loan : TakenControl W K → ControlLoan) {X : Type 0} {L : X → Type 0} (list_loan : TakenList X L → ListLoan)
-    (n : NewList) (k : ListTicket) (d e : ControlLoan) (t : WindowManager V H) (c : Controls (TakenControl W K)) (m : Lists (TakenList X L)) (kept : IsKept loan t) (took : AreBarsTaken loan control_loan d e t c)
+module _ {V : Type 0} {H : V → Type 0} (loan : TakenBox V H → WindowLoan) {W : Type 0} {K : W → Type 0} (control_loan : TakenBox W K → ControlLoan) {X : Type 0} {L : X → Type 0} (list_loan : TakenBox X L → ListLoan)
+    (n : NewList) (k : ListTicket) (d e : ControlLoan) (t : WindowManager V H) (c : Controls (TakenBox W K)) (m : Lists (TakenBox X L)) (kept : IsKept loan t) (took : AreBarsTaken loan control_loan d e t c)
     (lists : AreBeside list_loan loan t m) (may : IsTwoBarTicket loan control_loan list_loan n d.definition e.definition t c m k) where
   pub place : IsPlace n t m k
   place = place_of loan control_loan list_loan n (Some d.definition) (Some e.definition) t c m k kept may.ticket
@@ -162,11 +160,11 @@ module _ {V : Type 0} {H : V → Type 0} (loan : Taken V H → Loan) {W : Type 0
           (second_may w lies s s_is one
           (subst (λ (x : NewControl × Ticket). IsGrown x.0 d.definition x.1 w.layers one) (λ i. ((new_is ∙ ap (bar_control n.window) b_is) i, (j_is ∙ ap (bar_ticket k.window s k.controls) b_is) i)) grown))
 
-      pub so_planned : (c1 : Controls (TakenControl W K)) (m1 : Lists (TakenList X L)) → IsRoomier c c1 → length c1.list.items.items + 2 ≤ vec_capacity c1.list.items → length m1.list.items.items < vec_capacity m1.list.items
+      pub so_planned : (c1 : Controls (TakenBox W K)) (m1 : Lists (TakenBox X L)) → IsRoomier c c1 → length c1.list.items.items + 2 ≤ vec_capacity c1.list.items → length m1.list.items.items < vec_capacity m1.list.items
           → (a : Area) → a ≡ get_or t.areas.items k.window a
-          → ((u : WindowManager V H) (r : Controls (TakenControl W K)) → IsReadyToAdd loan control_loan new d.definition j w.layers a.update t u r → IsAddition loan control_loan new d.definition u r one)
+          → ((u : WindowManager V H) (r : Controls (TakenBox W K)) → IsReadyToAdd loan control_loan new d.definition j w.layers a.update t u r → IsAddition loan control_loan new d.definition u r one)
           → (two : Addition) → IsGrown next e.definition l one.layers two
-          → ((u : WindowManager V H) (r : Controls (TakenControl W K)) → IsReadyToAdd loan control_loan next e.definition l one.layers one.relaying.update t u r → IsAddition loan control_loan next e.definition u r two)
+          → ((u : WindowManager V H) (r : Controls (TakenBox W K)) → IsReadyToAdd loan control_loan next e.definition l one.layers one.relaying.update t u r → IsAddition loan control_loan next e.definition u r two)
           → (p : Planned) → p.cells ≡ empty_grid (nat_abs n.columns) (nat_abs n.rows) → ((u : WindowManager V H) → IsLaidSo loan k.window two.layers two.relaying.update t u → IsPlanOfList loan k two.layers u p.laid)
           → IsPlannedWithBars loan control_loan n k d.definition e.definition t c1 m1 (record { first = b; vertical = one; second = e_bar; horizontal = two; list = p })
       so_planned c1 m1 same space list_space a read planned two next_grown next_planned p cells laid = record {

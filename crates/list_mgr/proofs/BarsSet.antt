@@ -3,12 +3,10 @@ use Rattle.std.specs.Prelude.{get_or, slice_get}
 use Rattle.std.specs.Option.{option_and_then}
 use Rattle.std.proofs.Common.{◌≡◌, ℕ, false, [], Option, Some, None, refl, sym, ap, ◌∙◌, subst}
 use Rattle.control_values.specs.Settings.{Setting}
-use Rattle.def_iface.specs.declared.taken.Taken.{Taken}
-use Rattle.def_iface.specs.declared.taken_control.TakenControl.{TakenControl}
-use Rattle.def_iface.specs.declared.taken_list.TakenList.{TakenList}
+use Rattle.def_iface.specs.Slots.{TakenBox}
 use Rattle.def_iface.specs.ControlMeaning.{ControlLoan}
 use Rattle.def_iface.specs.ListMeaning.{ListLoan}
-use Rattle.def_iface.specs.Meaning.{Loan}
+use Rattle.def_iface.specs.WindowMeaning.{WindowLoan}
 use Rattle.desk_call.specs.declared.activity.Activity.TheVariants.{Idle}
 use Rattle.desk_call.specs.declared.list.ListOf.{ListOf}
 use Rattle.window_items.specs.declared.item.Item.{Item}
@@ -37,8 +35,8 @@ use Rattle.list_mgr.proofs.Edited.{named_settled}
 use Rattle.list_mgr.proofs.ListsBars.{bar_set_keeps}
 use Rattle.list_mgr.proofs.ListsKept.{IsRightLists}
 
-module _ {W : Type 0} {K : W → Type 0} (control_loan : TakenControl W K → ControlLoan) {V : Type 0} {H : V → Type 0} (loan : Taken V H → Loan) where
-  pub bar_set : (window : ℕ) (bar : Option ℕ) (n : ℕ) (setting : Setting) (t u : WindowManager V H) (c d : Controls (TakenControl W K)) → bar ≡ Some n
+module _ {W : Type 0} {K : W → Type 0} (control_loan : TakenBox W K → ControlLoan) {V : Type 0} {H : V → Type 0} (loan : TakenBox V H → WindowLoan) where
+  pub bar_set : (window : ℕ) (bar : Option ℕ) (n : ℕ) (setting : Setting) (t u : WindowManager V H) (c d : Controls (TakenBox W K)) → bar ≡ Some n
       → ((o r : Opened) → LeavesControls control_loan loan (IsSettingGiven (record { window = window; control = n }) setting) t o c u r d)
       → IsBarSetOver control_loan loan window bar setting t c u d
   bar_set window bar n setting t u c d is leaves o slots held lists whole controls =
@@ -50,9 +48,9 @@ module _ {W : Type 0} {K : W → Type 0} (control_loan : TakenControl W K → Co
       )
 
   -- both bars of a list
-  module _ {X : Type 0} {L : X → Type 0} (list_loan : TakenList X L → ListLoan) (l : ListOf) (m : Lists (TakenList X L)) (x : KeptList) (there : list_of l (records_of list_loan m) ≡ Some x)
+  module _ {X : Type 0} {L : X → Type 0} (list_loan : TakenBox X L → ListLoan) (l : ListOf) (m : Lists (TakenBox X L)) (x : KeptList) (there : list_of l (records_of list_loan m) ≡ Some x)
       (window : ℕ) (named : window ≡ l.window) (down across : Setting) (down_is : down ≡ vertical_setting x.kept.cells.rows x.kept.view) (across_is : across ≡ horizontal_setting x.kept.cells.columns x.kept.view) where
-    pub bars_set : (t u v : WindowManager V H) (c d e : Controls (TakenControl W K)) → IsBarSetOver control_loan loan window x.kept.vertical down t c u d
+    pub bars_set : (t u v : WindowManager V H) (c d e : Controls (TakenBox W K)) → IsBarSetOver control_loan loan window x.kept.vertical down t c u d
         → IsBarSetOver control_loan loan window x.kept.horizontal across u d v e → LeavesLists list_loan loan control_loan (IsWhereRight (AreBarsSet l)) t c m v e m
     bars_set t u v c d e first second held kept o slots whole controls lists =
         let once = first o slots held (lists_state list_loan m kept) whole controls in
@@ -77,20 +75,20 @@ module _ {W : Type 0} {K : W → Type 0} (control_loan : TakenControl W K → Co
         )
 
   -- what holds of windows and controls once a bar was set
-  pub kept_then : (window : ℕ) (bar : Option ℕ) (setting : Setting) (t u : WindowManager V H) (c d : Controls (TakenControl W K)) → IsBarSetOver control_loan loan window bar setting t c u d → IsKept loan t → AreControlsBeside control_loan loan t c
+  pub kept_then : (window : ℕ) (bar : Option ℕ) (setting : Setting) (t u : WindowManager V H) (c d : Controls (TakenBox W K)) → IsBarSetOver control_loan loan window bar setting t c u d → IsKept loan t → AreControlsBeside control_loan loan t c
       → IsKept loan u × AreControlsBeside control_loan loan u d
   kept_then window bar setting t u c d set kept beside =
       let left = set (record { activity = Idle; begun = λ p. false }) kept.slots beside.slots (record { lists = []; next = None; stock = [] }) kept.whole beside.whole in
       (record { slots = kept.slots; whole = left.0 }, record { slots = beside.slots; whole = left.1 })
 
   -- those of a list that stands here, as the code reads it
-  module _ {X : Type 0} {L : X → Type 0} (list_loan : TakenList X L → ListLoan) (l : ListOf) (t : WindowManager V H) (m : Lists (TakenList X L)) (s : ListAt) (is : IsSpotOf loan list_loan l t m s)
-      (x : Item (ListRecord (TakenList X L))) (read : x ≡ get_or m.list.items.items s.list x) where
+  module _ {X : Type 0} {L : X → Type 0} (list_loan : TakenBox X L → ListLoan) (l : ListOf) (t : WindowManager V H) (m : Lists (TakenBox X L)) (s : ListAt) (is : IsSpotOf loan list_loan l t m s)
+      (x : Item (ListRecord (TakenBox X L))) (read : x ≡ get_or m.list.items.items s.list x) where
     there : slice_get (records_of list_loan m) s.list ≡ Some (seen list_loan x)
     there = list_read loan list_loan l t m s is x read
 
     pub bars_set_there : (rows columns : ℕ) (down across : Setting) → rows ≡ x.kept.cells.rows → columns ≡ x.kept.cells.columns → down ≡ vertical_setting rows x.kept.view → across ≡ horizontal_setting columns x.kept.view
-        → (u v : WindowManager V H) (c d e : Controls (TakenControl W K)) → IsBarSetOver control_loan loan x.window x.kept.vertical down t c u d → IsBarSetOver control_loan loan x.window x.kept.horizontal across u d v e
+        → (u v : WindowManager V H) (c d e : Controls (TakenBox W K)) → IsBarSetOver control_loan loan x.window x.kept.vertical down t c u d → IsBarSetOver control_loan loan x.window x.kept.horizontal across u d v e
         → LeavesLists list_loan loan control_loan (IsWhereRight (AreBarsSet l)) t c m v e m
     bars_set_there rows columns down across rows_are columns_are down_is across_is =
         bars_set list_loan l m (seen list_loan x) (ap (option_and_then (slice_get (records_of list_loan m))) is.list ∙ there)

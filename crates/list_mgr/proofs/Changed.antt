@@ -11,13 +11,12 @@ use Rattle.tb_geom.specs.declared.rect.Rect.{Rect}
 use Rattle.tb_geom.specs.Pixels.{Pixels, holds}
 use Rattle.tb_geom.specs.Rects.{rect_holds}
 use Rattle.tb_geom.specs.Refusals.{first_refusal}
-use Rattle.def_iface.specs.declared.part.Part.TheVariants as part
-use Rattle.def_iface.specs.declared.taken.Taken.{Taken}
-use Rattle.def_iface.specs.declared.taken_list.TakenList.{TakenList}
+use Rattle.desk_layers.specs.declared.part.Part.TheVariants as part
+use Rattle.def_iface.specs.Slots.{TakenBox}
 use Rattle.def_iface.specs.ListMeaning.{ListLoan}
-use Rattle.def_iface.specs.Meaning.{Loan}
+use Rattle.def_iface.specs.WindowMeaning.{WindowLoan}
 use Rattle.def_iface.specs.Stocked.{SlotView}
-use Rattle.def_iface.proofs.Owning.{same_number}
+use Rattle.desk_layers.proofs.Owning.{same_number}
 use Rattle.list_cells.specs.Grids.{Grid}
 use Rattle.window_items.specs.declared.item.Item.{Item}
 use Rattle.list_mgr.specs.declared.list_record.ListRecord.{ListRecord}
@@ -50,7 +49,7 @@ use Rattle.list_mgr.specs.Spots.{IsSpot, IsSpotOf}
 use Rattle.list_mgr.specs.WholeLists.{AreBeside, AreWholeLists, IsChangedOver, IsSettledList, list_desk, lists_state, records_of}
 use Rattle.list_mgr.specs.Within.{IsSameOutside, IsWhereRight}
 use Rattle.list_mgr.proofs.Edited.{Keeps, whole_edited}
-use Rattle.list_mgr.proofs.ListsFound.{with_own}
+use Rattle.window_items.proofs.SerialLemmas.{with_there}
 use Rattle.list_mgr.proofs.Places.{found_names}
 use Rattle.list_mgr.proofs.Steps.{IsTold, list_named, list_there}
 use Rattle.window_items.proofs.EditLemmas.{All-there, edit_alike, edit_nothing, there_edited}
@@ -68,8 +67,8 @@ grid_or_not false g x same = ap (λ (cells : Grid). with_cells cells x) same
 
 -- ---- lists of which the cells of one were written over
 
-module _ {X : Type 0} {L : X → Type 0} (list_loan : TakenList X L → ListLoan) where
-  pub cells_written : (g : Grid → Grid) (xs : List (Item (ListRecord (TakenList X L)))) (at : ℕ) (x : Item (ListRecord (TakenList X L))) (cells : Grid) → x ≡ get_or xs at x → at < length xs
+module _ {X : Type 0} {L : X → Type 0} (list_loan : TakenBox X L → ListLoan) where
+  pub cells_written : (g : Grid → Grid) (xs : List (Item (ListRecord (TakenBox X L)))) (at : ℕ) (x : Item (ListRecord (TakenBox X L))) (cells : Grid) → x ≡ get_or xs at x → at < length xs
       → slice_get (all_seen list_loan xs) at ≡ Some (seen list_loan x) → cells ≡ g x.kept.cells → all_seen list_loan (set xs at (with_cells cells x)) ≡ edit_at (with_grid g) at (all_seen list_loan xs)
   cells_written g xs at x cells read low there now =
       ap (all_seen list_loan) (set_is_edit (with_cells cells) xs at x read)
@@ -78,17 +77,17 @@ module _ {X : Type 0} {L : X → Type 0} (list_loan : TakenList X L → ListLoan
       (λ y e. let same : seen list_loan x ≡ y = same_item (all_seen list_loan xs) at (seen list_loan x) y there e in ap (λ (k : Grid). with_cells k y) (now ∙ ap (λ (z : KeptList). g z.kept.cells) same))
 
   -- by what they were
-  pub cells_kept : (xs : List (Item (ListRecord (TakenList X L)))) (at : ℕ) (x : Item (ListRecord (TakenList X L))) (cells : Grid) → x ≡ get_or xs at x → cells ≡ x.kept.cells
+  pub cells_kept : (xs : List (Item (ListRecord (TakenBox X L)))) (at : ℕ) (x : Item (ListRecord (TakenBox X L))) (cells : Grid) → x ≡ get_or xs at x → cells ≡ x.kept.cells
       → all_seen list_loan (set xs at (with_cells cells x)) ≡ all_seen list_loan xs
   cells_kept xs at x cells read same =
       ap (λ (k : Grid). all_seen list_loan (set xs at (with_cells k x))) same
-      ∙ ap (λ (y : Item (ListRecord (TakenList X L))). all_seen list_loan (set xs at y)) read
+      ∙ ap (λ (y : Item (ListRecord (TakenBox X L))). all_seen list_loan (set xs at y)) read
       ∙ ap (all_seen list_loan) (set-get_or xs at x)
 
 -- ---- steps that change nothing
 
-module _ {V : Type 0} {H : V → Type 0} (loan : Taken V H → Loan) {X : Type 0} {L : X → Type 0} (list_loan : TakenList X L → ListLoan)
-    (t : WindowManager V H) (m n : Lists (TakenList X L)) (same : records_of list_loan n ≡ records_of list_loan m) (next : n.list.next ≡ m.list.next) where
+module _ {V : Type 0} {H : V → Type 0} (loan : TakenBox V H → WindowLoan) {X : Type 0} {L : X → Type 0} (list_loan : TakenBox X L → ListLoan)
+    (t : WindowManager V H) (m n : Lists (TakenBox X L)) (same : records_of list_loan n ≡ records_of list_loan m) (next : n.list.next ≡ m.list.next) where
   lists_same : (kept : List ListSlot) → lists_state list_loan n kept ≡ lists_state list_loan m kept
   lists_same kept = λ i. record { lists = same i; next = next i; stock = kept }
 
@@ -140,8 +139,8 @@ module _ {V : Type 0} {H : V → Type 0} (loan : Taken V H → Loan) {X : Type 0
 
 -- ---- a list that was changed
 
-module _ {V : Type 0} {H : V → Type 0} (loan : Taken V H → Loan) {X : Type 0} {L : X → Type 0} (list_loan : TakenList X L → ListLoan)
-    (l : ListOf) (t : WindowManager V H) (m n : Lists (TakenList X L)) (s : ListAt) (is : IsSpotOf loan list_loan l t m s)
+module _ {V : Type 0} {H : V → Type 0} (loan : TakenBox V H → WindowLoan) {X : Type 0} {L : X → Type 0} (list_loan : TakenBox X L → ListLoan)
+    (l : ListOf) (t : WindowManager V H) (m n : Lists (TakenBox X L)) (s : ListAt) (is : IsSpotOf loan list_loan l t m s)
     (f : KeptList → KeptList) (keeps : Keeps f) (edited : records_of list_loan n ≡ edit_at f s.list (records_of list_loan m)) (next : n.list.next ≡ m.list.next)
     (stays : (x : KeptList) → slice_get (records_of list_loan m) s.list ≡ Some x → IsSettledList x → IsSettledList (f x)) where
   abbrev its : IsThere (records_of list_loan m) s.list
@@ -239,9 +238,9 @@ module _ {V : Type 0} {H : V → Type 0} (loan : Taken V H → Loan) {X : Type 0
       let fonts : u.font ≡ t.font = ap (λ (d : FullDesk). d.font) left.1.desk in
       let same : (p : Point) → rect_holds within p ≡ false → now u.font (part.List (f x).serial) p ≡ was t.font (part.List (f x).serial) p = λ p out.
       ap (λ font. list_bit font (with_serial (f x).serial (records_of list_loan n)) p) fonts
-      ∙ ap (λ y. list_bit t.font y p) (with_own (f x).serial s.list (records_of list_loan n) (f x) after.apart (there_after x there) (same_number (f x).serial))
+      ∙ ap (λ y. list_bit t.font y p) (with_there (f x).serial s.list (records_of list_loan n) (f x) after.apart (there_after x there) (same_number (f x).serial))
       ∙ outside x there (All-there IsSettledList s.list (records_of list_loan m) x there lists.settled) t.font p out
-      ∙ sym (ap (λ y. list_bit t.font y p) (with_own (f x).serial s.list (records_of list_loan m) x lists.apart there (ap (λ k. k == (f x).serial) (sym (keeps.serial x)) ∙ same_number (f x).serial))) in
+      ∙ sym (ap (λ y. list_bit t.font y p) (with_there (f x).serial s.list (records_of list_loan m) x lists.apart there (ap (λ k. k == (f x).serial) (sym (keeps.serial x)) ∙ same_number (f x).serial))) in
       let redrawn : IsRightState (state_showing was (state_of loan t slots)) → IsLayerRedrawn l.window (part.List l.list) (state_showing was (state_of loan t slots)) (state_showing now (state_of loan u slots)) = λ right.
       subst (λ k. IsLayerRedrawn k (part.List l.list) (state_showing was (state_of loan t slots)) (state_showing now (state_of loan u slots))) (keeps.window x ∙ names.0)
       (subst (λ k. IsLayerRedrawn (f x).window (part.List k) (state_showing was (state_of loan t slots)) (state_showing now (state_of loan u slots))) (keeps.serial x ∙ names.1) (left.1.redrawn right same)) in (
@@ -257,15 +256,15 @@ module _ {V : Type 0} {H : V → Type 0} (loan : Taken V H → Loan) {X : Type 0
       )
 
 -- a call that asks for memory only where the drawing of the list that stands here is off may ask for it
-pub grows_off : {V : Type 0} {H : V → Type 0} (loan : Taken V H → Loan) {X : Type 0} {L : X → Type 0} (list_loan : TakenList X L → ListLoan)
-    (l : ListOf) (t : WindowManager V H) (m : Lists (TakenList X L)) (s : ListAt) → IsSpotOf loan list_loan l t m s → IsDrawing list_loan false m s
+pub grows_off : {V : Type 0} {H : V → Type 0} (loan : TakenBox V H → WindowLoan) {X : Type 0} {L : X → Type 0} (list_loan : TakenBox X L → ListLoan)
+    (l : ListOf) (t : WindowManager V H) (m : Lists (TakenBox X L)) (s : ListAt) → IsSpotOf loan list_loan l t m s → IsDrawing list_loan false m s
     → (kept : List ListSlot) → is_drawing_off l (lists_state list_loan m kept) ≡ true
 grows_off loan list_loan l t m s is (x, there, off) kept =
     ap (λ o. option_map_or (λ (y : KeptList). not y.kept.drawing) o false) (list_named loan list_loan l t m s is x there) ∙ ap not off
 
 -- what a call leaves is a step of another kind as well
-pub changed_as : {V : Type 0} {H : V → Type 0} (loan : Taken V H → Loan) {X : Type 0} {L : X → Type 0} (list_loan : TakenList X L → ListLoan)
-    (t u : WindowManager V H) (m n : Lists (TakenList X L)) (P Q : ListDesk → ListDesk → Type 0)
+pub changed_as : {V : Type 0} {H : V → Type 0} (loan : TakenBox V H → WindowLoan) {X : Type 0} {L : X → Type 0} (list_loan : TakenBox X L → ListLoan)
+    (t u : WindowManager V H) (m n : Lists (TakenBox X L)) (P Q : ListDesk → ListDesk → Type 0)
     → ((o : Opened) (slots : List SlotView) (cs : ControlsState) (kept : List ListSlot) → P (list_desk list_loan loan t o slots cs m kept) (list_desk list_loan loan u o slots cs n kept)
     → Q (list_desk list_loan loan t o slots cs m kept) (list_desk list_loan loan u o slots cs n kept))
     → IsChangedOver list_loan loan P t m u n → IsChangedOver list_loan loan Q t m u n
@@ -278,14 +277,14 @@ changed_as loan list_loan t u m n P Q same over o slots cs kept whole lists = ag
     again (a, b, c, p) = (a, b, c, same o slots cs kept p)
 
 -- so where the screen was right
-pub right_as : {V : Type 0} {H : V → Type 0} (loan : Taken V H → Loan) {X : Type 0} {L : X → Type 0} (list_loan : TakenList X L → ListLoan)
-    (t u : WindowManager V H) (m n : Lists (TakenList X L)) (P Q : ListDesk → ListDesk → Type 0)
+pub right_as : {V : Type 0} {H : V → Type 0} (loan : TakenBox V H → WindowLoan) {X : Type 0} {L : X → Type 0} (list_loan : TakenBox X L → ListLoan)
+    (t u : WindowManager V H) (m n : Lists (TakenBox X L)) (P Q : ListDesk → ListDesk → Type 0)
     → ((o : Opened) (slots : List SlotView) (cs : ControlsState) (kept : List ListSlot) → P (list_desk list_loan loan t o slots cs m kept) (list_desk list_loan loan u o slots cs n kept)
     → Q (list_desk list_loan loan t o slots cs m kept) (list_desk list_loan loan u o slots cs n kept))
     → IsChangedOver list_loan loan (IsWhereRight P) t m u n → IsChangedOver list_loan loan (IsWhereRight Q) t m u n
 right_as loan list_loan t u m n P Q same = changed_as loan list_loan t u m n (IsWhereRight P) (IsWhereRight Q) (λ o slots cs kept made right. same o slots cs kept (made right))
 
 -- what is made, also where the screen was right
-pub over_right : {V : Type 0} {H : V → Type 0} (loan : Taken V H → Loan) {X : Type 0} {L : X → Type 0} (list_loan : TakenList X L → ListLoan)
-    (t u : WindowManager V H) (m n : Lists (TakenList X L)) (P : ListDesk → ListDesk → Type 0) → IsChangedOver list_loan loan P t m u n → IsChangedOver list_loan loan (IsWhereRight P) t m u n
+pub over_right : {V : Type 0} {H : V → Type 0} (loan : TakenBox V H → WindowLoan) {X : Type 0} {L : X → Type 0} (list_loan : TakenBox X L → ListLoan)
+    (t u : WindowManager V H) (m n : Lists (TakenBox X L)) (P : ListDesk → ListDesk → Type 0) → IsChangedOver list_loan loan P t m u n → IsChangedOver list_loan loan (IsWhereRight P) t m u n
 over_right loan list_loan t u m n P = changed_as loan list_loan t u m n P (IsWhereRight P) (λ o slots cs kept made right. made)

@@ -7,10 +7,9 @@ use Rattle.tb_geom.specs.declared.refusal.Refusal.{Refusal}
 use Rattle.tb_geom.specs.declared.refusal.Refusal.TheVariants.{OutOfRange}
 use Rattle.tb_geom.specs.Rects.{in_plane}
 use Rattle.tb_geom.specs.Refusals.{first_refusal}
-use Rattle.def_iface.specs.declared.taken.Taken.{Taken}
-use Rattle.def_iface.specs.declared.taken_list.TakenList.{TakenList}
+use Rattle.def_iface.specs.Slots.{TakenBox}
 use Rattle.def_iface.specs.ListMeaning.{ListLoan}
-use Rattle.def_iface.specs.Meaning.{Loan}
+use Rattle.def_iface.specs.WindowMeaning.{WindowLoan}
 use Rattle.list_cells.specs.declared.cell.Cell.{Cell}
 use Rattle.list_cells.specs.declared.click.SelectionFlags.{SelectionFlags}
 use Rattle.list_cells.specs.Blocks.{clicked_cell}
@@ -59,8 +58,8 @@ a_word (pos n) h = by_tests (int_le (pos 0) (pos n)) (int_le (pos n) (pos 65535)
     by_tests false b e f = absurd (grind (arith, ints, e))
 a_word (negsuc n) h = absurd h
 
-module _ {V : Type 0} {H : V → Type 0} (loan : Taken V H → Loan) {X : Type 0} {L : X → Type 0} (list_loan : TakenList X L → ListLoan)
-    (k : ListClick) (t : WindowManager V H) (m : Lists (TakenList X L)) where
+module _ {V : Type 0} {H : V → Type 0} (loan : TakenBox V H → WindowLoan) {X : Type 0} {L : X → Type 0} (list_loan : TakenBox X L → ListLoan)
+    (k : ListClick) (t : WindowManager V H) (m : Lists (TakenBox X L)) where
   -- what is looked at where nothing is missing
   abbrev others : List (Bool × Refusal)
   others = (not (in_plane k.point), OutOfRange) ∷ (not (is_word k.modifiers), OutOfRange) ∷ []
@@ -85,7 +84,7 @@ module _ {V : Type 0} {H : V → Type 0} (loan : Taken V H → Loan) {X : Type 0
         ∙ first_fails (not (in_plane k.point)) OutOfRange ((not (is_word k.modifiers), OutOfRange) ∷ []) (ap not inside)
         ∙ one_fails (not (is_word k.modifiers)) OutOfRange (ap not word)
 
-    module _ (x : Item (ListRecord (TakenList X L))) (read : x ≡ get_or m.list.items.items s.list x) (inside : in_plane k.point ≡ true) (word : is_word k.modifiers ≡ true) where
+    module _ (x : Item (ListRecord (TakenBox X L))) (read : x ≡ get_or m.list.items.items s.list x) (inside : in_plane k.point ≡ true) (word : is_word k.modifiers ≡ true) where
       -- on no cell
       pub clicked_none : clicked_at k (seen list_loan x) ≡ None → IsChangedOver list_loan loan (IsListStep (asks.Click k) (Ok (reply.Clicked false))) t m t m
       clicked_none none o slots cs kept whole lists = (
@@ -104,7 +103,7 @@ module _ {V : Type 0} {H : V → Type 0} (loan : Taken V H → Loan) {X : Type 0
       )
 
       -- on one
-      pub clicked_on : (cell : Cell) → clicked_at k (seen list_loan x) ≡ Some cell → (u : WindowManager V H) (n : Lists (TakenList X L))
+      pub clicked_on : (cell : Cell) → clicked_at k (seen list_loan x) ≡ Some cell → (u : WindowManager V H) (n : Lists (TakenBox X L))
           → IsChangedOver list_loan loan (IsSelectionChanged k.list (λ (flags : SelectionFlags). clicked_cell flags (keys_of (nat_abs k.modifiers)) cell)) t m u n
           → IsChangedOver list_loan loan (IsListStep (asks.Click k) (Ok (reply.Clicked true))) t m u n
       clicked_on cell some u n changed =

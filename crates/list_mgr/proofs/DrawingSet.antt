@@ -4,12 +4,11 @@ use Rattle.std.specs.Prelude.{slice_get}
 use Rattle.std.specs.List.{position_or_len}
 use Rattle.std.specs.Option.{option_and_then}
 use Rattle.tb_geom.specs.declared.point.Point.{Point}
-use Rattle.def_iface.specs.declared.part.Part.{Part}
-use Rattle.def_iface.specs.declared.part.Part.TheVariants as part
-use Rattle.def_iface.specs.declared.taken.Taken.{Taken}
-use Rattle.def_iface.specs.declared.taken_list.TakenList.{TakenList}
+use Rattle.desk_layers.specs.declared.part.Part.{Part}
+use Rattle.desk_layers.specs.declared.part.Part.TheVariants as part
+use Rattle.def_iface.specs.Slots.{TakenBox}
 use Rattle.def_iface.specs.ListMeaning.{ListLoan}
-use Rattle.def_iface.specs.Meaning.{Loan}
+use Rattle.def_iface.specs.WindowMeaning.{WindowLoan}
 use Rattle.window_items.specs.Items.{edit_at, has_serial}
 use Rattle.list_mgr.specs.Fields.{with_drawing}
 use Rattle.window_items.proofs.ListLemmas.{length-edit_at}
@@ -70,8 +69,8 @@ both_show cs xs ys font same part.Picture p = same part.Picture p
 both_show cs xs ys font same (part.Control n) p = refl
 both_show cs xs ys font same (part.List n) p = same (part.List n) p
 
-module _ {V : Type 0} {H : V → Type 0} (loan : Taken V H → Loan) {X : Type 0} {L : X → Type 0} (list_loan : TakenList X L → ListLoan)
-    (t : WindowManager V H) (m n : Lists (TakenList X L)) (d : ListDrawing) (s : ListAt) (is : IsSpotOf loan list_loan d.list t m s)
+module _ {V : Type 0} {H : V → Type 0} (loan : TakenBox V H → WindowLoan) {X : Type 0} {L : X → Type 0} (list_loan : TakenBox X L → ListLoan)
+    (t : WindowManager V H) (m n : Lists (TakenBox X L)) (d : ListDrawing) (s : ListAt) (is : IsSpotOf loan list_loan d.list t m s)
     (edited : records_of list_loan n ≡ edit_at (with_drawing d.drawing) s.list (records_of list_loan m)) (next : n.list.next ≡ m.list.next) where
   shows : (cs : List ControlRecord) (q : Part) (p : Point) → controls_show (lists_show (records_of list_loan n)) cs t.font q p ≡ controls_show (lists_show (records_of list_loan m)) cs t.font q p
   shows cs q p =

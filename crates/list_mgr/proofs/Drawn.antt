@@ -13,8 +13,8 @@ use Rattle.list_mgr.specs.declared.list_record.ListRecord.{ListRecord}
 use Rattle.window_items.specs.Items.{has_serial}
 use Rattle.list_mgr.specs.Seen.{all_seen, seen, kept_seen}
 use Rattle.window_items.proofs.SeenLemmas.{length-seen, slice_get-seen}
-use Rattle.def_iface.specs.declared.part.Part.{Part}
-use Rattle.def_iface.specs.declared.part.Part.TheVariants as part
+use Rattle.desk_layers.specs.declared.part.Part.{Part}
+use Rattle.desk_layers.specs.declared.part.Part.TheVariants as part
 use Rattle.def_iface.specs.ControlMeaning.{is_control_extent, is_control_size}
 use Rattle.def_iface.specs.ListMeaning.{ListLoan}
 use Rattle.control_mgr.proofs.Places.{get_is}

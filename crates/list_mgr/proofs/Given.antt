@@ -4,10 +4,9 @@ use Rattle.std.specs.Prelude.{slice_get}
 use Rattle.std.specs.Vec.{with_item}
 use Rattle.tb_geom.specs.declared.rect.Rect.{Rect}
 use Rattle.tb_geom.specs.Pixels.{Pixels}
-use Rattle.def_iface.specs.declared.taken.Taken.{Taken}
-use Rattle.def_iface.specs.declared.taken_list.TakenList.{TakenList}
+use Rattle.def_iface.specs.Slots.{TakenBox}
 use Rattle.def_iface.specs.ListMeaning.{ListLoan}
-use Rattle.def_iface.specs.Meaning.{Loan}
+use Rattle.def_iface.specs.WindowMeaning.{WindowLoan}
 use Rattle.list_cells.specs.Grids.{Grid, IsGrid}
 use Rattle.window_items.specs.declared.item.Item.{Item}
 use Rattle.list_mgr.specs.declared.list_record.ListRecord.{ListRecord}
@@ -29,11 +28,11 @@ use Rattle.list_mgr.proofs.Drawn.{settled_there}
 use Rattle.list_mgr.proofs.Steps.{list_read}
 use Rattle.list_mgr.specs.Fields.{with_cells}
 
-module _ {V : Type 0} {H : V → Type 0} (loan : Taken V H → Loan) {X : Type 0} {L : X → Type 0} (list_loan : TakenList X L → ListLoan)
-    (l : ListOf) (t : WindowManager V H) (m : Lists (TakenList X L)) (s : ListAt) (is : IsSpotOf loan list_loan l t m s)
-    (x : Item (ListRecord (TakenList X L))) (read : x ≡ get_or m.list.items.items s.list x) where
+module _ {V : Type 0} {H : V → Type 0} (loan : TakenBox V H → WindowLoan) {X : Type 0} {L : X → Type 0} (list_loan : TakenBox X L → ListLoan)
+    (l : ListOf) (t : WindowManager V H) (m : Lists (TakenBox X L)) (s : ListAt) (is : IsSpotOf loan list_loan l t m s)
+    (x : Item (ListRecord (TakenBox X L))) (read : x ≡ get_or m.list.items.items s.list x) where
   -- the lists, with these cells in the one that stands here
-  abbrev pub with_cells_there : Grid → Lists (TakenList X L)
+  abbrev pub with_cells_there : Grid → Lists (TakenBox X L)
   with_cells_there cells = record m { list = record m.list { items = with_item m.list.items s.list (with_cells cells x) } }
 
   x_there : slice_get (records_of list_loan m) s.list ≡ Some (seen list_loan x)
@@ -59,7 +58,7 @@ module _ {V : Type 0} {H : V → Type 0} (loan : Taken V H → Loan) {X : Type 0
   stays_but g good = of_read (λ y. IsSettledList y → IsSettledBut (with_grid g y)) (λ settled. grid_settles g (seen list_loan x) settled (good settled.grid))
 
   module _ (g : Grid → Grid) (cells : Grid) (now : cells ≡ g x.kept.cells) (good : IsGrid x.kept.cells → MayBecomeWider x.kept.flags x.kept.cells (g x.kept.cells)) where
-    abbrev pub n : Lists (TakenList X L)
+    abbrev pub n : Lists (TakenBox X L)
     n = with_cells_there cells
 
     pub stays : (y : KeptList) → slice_get (records_of list_loan m) s.list ≡ Some y → IsSettledList y → IsSettledList (with_grid g y)

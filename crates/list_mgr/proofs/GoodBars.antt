@@ -7,12 +7,10 @@ use Rattle.tb_geom.specs.declared.rect.Rect.{Rect}
 use Rattle.window_items.specs.Items.{serial_after}
 use Rattle.window_items.proofs.SeenLemmas.{count_of-seen}
 use Rattle.control_values.specs.Settings.{is_in_range, nearest, settled}
-use Rattle.def_iface.specs.declared.taken.Taken.{Taken}
-use Rattle.def_iface.specs.declared.taken_control.TakenControl.{TakenControl}
-use Rattle.def_iface.specs.declared.taken_list.TakenList.{TakenList}
+use Rattle.def_iface.specs.Slots.{TakenBox}
 use Rattle.def_iface.specs.ControlMeaning.{ControlDefinition, ControlLoan}
 use Rattle.def_iface.specs.ListMeaning.{ListLoan}
-use Rattle.def_iface.specs.Meaning.{Loan}
+use Rattle.def_iface.specs.WindowMeaning.{WindowLoan}
 use Rattle.window_items.proofs.SeenLemmas as lists_seen
 use Rattle.list_view.specs.declared.axis.Axis.{Axis}
 use Rattle.list_view.specs.Axes.{bound}
@@ -107,9 +105,9 @@ room_of more count (Some s) e =
 
 -- ---- tickets
 
-module _ {V : Type 0} {H : V → Type 0} (loan : Taken V H → Loan) {W : Type 0} {K : W → Type 0} (control_loan : TakenControl W K → ControlLoan) where
+module _ {V : Type 0} {H : V → Type 0} (loan : TakenBox V H → WindowLoan) {W : Type 0} {K : W → Type 0} (control_loan : TakenBox W K → ControlLoan) where
   -- nothing but its kind and memory refuses a bar that has its ticket, where its window has fewer controls than it may have
-  pub bar_judged : (window : ℕ) (b : Bar) (d : ControlDefinition) (t : WindowManager V H) (c : Controls (TakenControl W K)) (k : Ticket) → IsKept loan t → IsGoodBar b
+  pub bar_judged : (window : ℕ) (b : Bar) (d : ControlDefinition) (t : WindowManager V H) (c : Controls (TakenBox W K)) (k : Ticket) → IsKept loan t → IsGoodBar b
       → IsTicket control_loan (bar_control window b) (Some d) t c k → k.layer < 64 → control_making.judged_by loan control_loan (bar_control window b) (Some d) t c ≡ None
   bar_judged window b d t c k kept good ticket few =
       let there = there_is t.windows.records.items k.window ticket.window.0 in
@@ -118,7 +116,7 @@ module _ {V : Type 0} {H : V → Type 0} (loan : Taken V H → Loan) {W : Type 0
       is_given loan control_loan (bar_control window b) (Some d) t c kept k.window ticket.window w lies (ticket.placed w lies) good.setting (omega arith) k.serial ticket.serial
       (let count = ticket.layer ∙ count_of-seen (control_kept_seen control_loan) window c.list.items.items in omega (arith, count, few))
 
-  module _ {X : Type 0} {L : X → Type 0} (list_loan : TakenList X L → ListLoan) (n : NewList) (vertical horizontal : Option ControlDefinition) (t : WindowManager V H) (c : Controls (TakenControl W K)) (m : Lists (TakenList X L)) (k : ListTicket)
+  module _ {X : Type 0} {L : X → Type 0} (list_loan : TakenBox X L → ListLoan) (n : NewList) (vertical horizontal : Option ControlDefinition) (t : WindowManager V H) (c : Controls (TakenBox W K)) (m : Lists (TakenBox X L)) (k : ListTicket)
       (kept : IsKept loan t) (ticket : IsListTicket loan control_loan list_loan n vertical horizontal t c m k) where
     window_is : (w : Window V H) → IsWindowAt t.windows.records.items k.window w → record_with n.window (desk_of loan t []).windows ≡ Some (record_of loan w)
     window_is w lies = found loan t t kept.slots kept.whole k.window n.window w ticket.window.0 lies (ticket.window.1 w lies)

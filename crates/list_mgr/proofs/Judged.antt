@@ -10,12 +10,10 @@ use Rattle.tb_geom.specs.declared.refusal.Refusal.TheVariants.{NoSuchWindow, Out
 use Rattle.tb_geom.specs.Rects.{is_in_range, moved_rect}
 use Rattle.tb_geom.specs.Refusals.{first_refusal}
 use Rattle.def_iface.specs.declared.size.Size.{Size}
-use Rattle.def_iface.specs.declared.taken.Taken.{Taken}
-use Rattle.def_iface.specs.declared.taken_control.TakenControl.{TakenControl}
-use Rattle.def_iface.specs.declared.taken_list.TakenList.{TakenList}
+use Rattle.def_iface.specs.Slots.{TakenBox}
 use Rattle.def_iface.specs.ControlMeaning.{ControlDefinition, ControlLoan, is_control_extent, is_control_size}
 use Rattle.def_iface.specs.ListMeaning.{ListLoan}
-use Rattle.def_iface.specs.Meaning.{Loan}
+use Rattle.def_iface.specs.WindowMeaning.{WindowLoan}
 use Rattle.window_items.specs.Items as controls
 use Rattle.window_items.specs.Items.{count_of}
 use Rattle.window_items.proofs.SeenLemmas.{count_of-seen}
@@ -124,7 +122,7 @@ module _ (n : NewList) (vertical horizontal : Option ControlDefinition) (w : Win
 
 -- ---- room
 
-module _ {X : Type 0} {L : X → Type 0} (list_loan : TakenList X L → ListLoan) (n : NewList) (m : Lists (TakenList X L)) (count : ℕ) (bar : Option ℕ) where
+module _ {X : Type 0} {L : X → Type 0} (list_loan : TakenBox X L → ListLoan) (n : NewList) (m : Lists (TakenBox X L)) (count : ℕ) (bar : Option ℕ) where
   abbrev why : Bool → Bool → Option Refusal
   why full room = first_refusal ((full || is_none m.list.next, TooMany) ∷ (not room, TooMany) ∷ [])
 
@@ -168,8 +166,8 @@ module _ {X : Type 0} {L : X → Type 0} (list_loan : TakenList X L → ListLoan
 
 -- ---- a new list
 
-module _ {V : Type 0} {H : V → Type 0} (loan : Taken V H → Loan) {W : Type 0} {K : W → Type 0} (control_loan : TakenControl W K → ControlLoan) {X : Type 0} {L : X → Type 0} (list_loan : TakenList X L → ListLoan)
-    (n : NewList) (vertical horizontal : Option ControlDefinition) (t : WindowManager V H) (c : Controls (TakenControl W K)) (m : Lists (TakenList X L)) where
+module _ {V : Type 0} {H : V → Type 0} (loan : TakenBox V H → WindowLoan) {W : Type 0} {K : W → Type 0} (control_loan : TakenBox W K → ControlLoan) {X : Type 0} {L : X → Type 0} (list_loan : TakenBox X L → ListLoan)
+    (n : NewList) (vertical horizontal : Option ControlDefinition) (t : WindowManager V H) (c : Controls (TakenBox W K)) (m : Lists (TakenBox X L)) where
   abbrev rooms : List (Bool × Refusal)
   rooms = room_refusals n (controls.count_of n.window (control_records.records_of control_loan c)) c.list.next (records_of list_loan m) m.list.next
 

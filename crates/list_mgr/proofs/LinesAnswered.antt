@@ -4,12 +4,10 @@ use Rattle.std.specs.Option.{option_map_or}
 use Rattle.tb_geom.specs.declared.refusal.Refusal.{Refusal}
 use Rattle.tb_geom.specs.declared.refusal.Refusal.TheVariants.{NoMemory}
 use Rattle.tb_geom.specs.Refusals.{first_refusal}
-use Rattle.def_iface.specs.declared.taken.Taken.{Taken}
-use Rattle.def_iface.specs.declared.taken_control.TakenControl.{TakenControl}
-use Rattle.def_iface.specs.declared.taken_list.TakenList.{TakenList}
+use Rattle.def_iface.specs.Slots.{TakenBox}
 use Rattle.def_iface.specs.ControlMeaning.{ControlLoan}
 use Rattle.def_iface.specs.ListMeaning.{ListLoan}
-use Rattle.def_iface.specs.Meaning.{Loan}
+use Rattle.def_iface.specs.WindowMeaning.{WindowLoan}
 use Rattle.desk_call.specs.declared.list.ListCall.{ListCall}
 use Rattle.desk_call.specs.declared.list.ListOf.{ListOf}
 use Rattle.desk_call.specs.declared.list.ListReply.{ListReply}
@@ -38,10 +36,10 @@ use Rattle.list_mgr.proofs.Steps.{IsTold, its_reasons, list_named, list_read}
 pub none_refused : (o p : Option Refusal) (e : Refusal) → None ≡ o → o ≡ p → p ≡ Some e → ⊥
 none_refused o p e a b c = let both : None ≡ Some e = a ∙ b ∙ c in absurd (cc)
 
-module _ {V : Type 0} {H : V → Type 0} (loan : Taken V H → Loan) {X : Type 0} {L : X → Type 0} (list_loan : TakenList X L → ListLoan) where
+module _ {V : Type 0} {H : V → Type 0} (loan : TakenBox V H → WindowLoan) {X : Type 0} {L : X → Type 0} (list_loan : TakenBox X L → ListLoan) where
   -- ---- what is told of a list that is there
 
-  module _ (l : ListOf) (t : WindowManager V H) (m : Lists (TakenList X L)) (s : ListAt) (is : IsSpotOf loan list_loan l t m s) (x : Item (ListRecord (TakenList X L))) (read : x ≡ get_or m.list.items.items s.list x) where
+  module _ (l : ListOf) (t : WindowManager V H) (m : Lists (TakenBox X L)) (s : ListAt) (is : IsSpotOf loan list_loan l t m s) (x : Item (ListRecord (TakenBox X L))) (read : x ≡ get_or m.list.items.items s.list x) where
     -- why a call is refused that is judged by the list
     pub judged : (call : ListCall) (f : KeptList → List (Bool × Refusal)) → ((desk : FullDesk) (cs : ControlsState) (state : ListsState) → list_refusals call desk cs state ≡ list_reasons l f desk state.lists)
         → IsTold loan list_loan call t m (λ why. first_refusal why ≡ first_refusal (f (seen list_loan x)))
@@ -55,18 +53,18 @@ module _ {V : Type 0} {H : V → Type 0} (loan : Taken V H → Loan) {X : Type 0
 
   -- ---- answers
 
-  module _ {W : Type 0} {K : W → Type 0} (control_loan : TakenControl W K → ControlLoan) (call : ListCall) (t : WindowManager V H) (m : Lists (TakenList X L)) (c : Controls (TakenControl W K)) where
+  module _ {W : Type 0} {K : W → Type 0} (control_loan : TakenBox W K → ControlLoan) (call : ListCall) (t : WindowManager V H) (m : Lists (TakenBox X L)) (c : Controls (TakenBox W K)) where
     pub refused_lines : (result : Result ListReply Refusal) (e : Refusal) → result ≡ Err e → IsTold loan list_loan call t m (λ why. first_refusal why ≡ Some e)
         → LeavesLists list_loan loan control_loan (IsWhereRight (IsListStep call result)) t c m t c m
     refused_lines result e is why = leaves_controls loan list_loan control_loan (IsWhereRight (IsListStep call result)) t t m m c (refused_over_right loan list_loan t m m refl refl call result e is why)
 
-    pub short_lines : (n : Lists (TakenList X L)) → records_of list_loan n ≡ records_of list_loan m → n.list.next ≡ m.list.next → (result : Result ListReply Refusal) (e : Refusal) → result ≡ Err e → e ≡ NoMemory
+    pub short_lines : (n : Lists (TakenBox X L)) → records_of list_loan n ≡ records_of list_loan m → n.list.next ≡ m.list.next → (result : Result ListReply Refusal) (e : Refusal) → result ≡ Err e → e ≡ NoMemory
         → ((kept : List ListSlot) → may_list_grow call (lists_state list_loan m kept) ≡ true) → IsTold loan list_loan call t m (λ why. first_refusal why ≡ None)
         → LeavesLists list_loan loan control_loan (IsWhereRight (IsListStep call result)) t c m t c n
     short_lines n same next result e is memory grows why =
         leaves_controls loan list_loan control_loan (IsWhereRight (IsListStep call result)) t t m n c (short_over_right loan list_loan t m n same next call result e is memory grows why)
 
-    pub relined_lines : (l : ListOf) (f : KeptList → KeptList) (answer : ListReply) (u : WindowManager V H) (d : Controls (TakenControl W K)) (n : Lists (TakenList X L))
+    pub relined_lines : (l : ListOf) (f : KeptList → KeptList) (answer : ListReply) (u : WindowManager V H) (d : Controls (TakenBox W K)) (n : Lists (TakenBox X L))
         → IsTold loan list_loan call t m (λ why. first_refusal why ≡ None)
         → ((before after : ListDesk) → before.lists.lists ≡ records_of list_loan m → IsRelined l f before after → IsListEffect call answer before after)
         → LeavesLists list_loan loan control_loan (IsWhereRight (IsRelined l f)) t c m u d n → LeavesLists list_loan loan control_loan (IsWhereRight (IsListStep call (Ok answer))) t c m u d n

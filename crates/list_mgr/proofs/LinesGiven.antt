@@ -2,10 +2,9 @@
 use Rattle.std.proofs.Common.{◌≡◌, ℕ, zero, suc, ℤ, pos, Bool, true, List, [], ◌∷◌, get_or, None, Some, refl, sym, ap, ◌∙◌, subst}
 use Rattle.std.specs.Prelude.{IfSome, nat_abs, slice_get}
 use Rattle.tb_geom.specs.Refusals.{first_refusal}
-use Rattle.def_iface.specs.declared.taken.Taken.{Taken}
-use Rattle.def_iface.specs.declared.taken_list.TakenList.{TakenList}
+use Rattle.def_iface.specs.Slots.{TakenBox}
 use Rattle.def_iface.specs.ListMeaning.{ListLoan}
-use Rattle.def_iface.specs.Meaning.{Loan}
+use Rattle.def_iface.specs.WindowMeaning.{WindowLoan}
 use Rattle.list_cells.specs.Grids.{Grid, IsGrid, columns_added, columns_deleted, rows_added, rows_deleted}
 use Rattle.list_cells.specs.Runs.{add_refusals, count_to_delete, delete_refusals, place_to_add}
 use Rattle.window_items.specs.declared.item.Item.{Item}
@@ -35,16 +34,16 @@ edit_twice f g zero (x ∷ xs) = refl
 edit_twice f g (suc i) (x ∷ xs) = ap (λ ys. x ∷ ys) (edit_twice f g i xs)
 
 -- whether a list that was scrolled is scrolled otherwise
-pub scroll_agrees : {X : Type 0} {L : X → Type 0} (list_loan : TakenList X L → ListLoan) (m : Lists (TakenList X L)) (s : ListAt) (columns rows : ℤ) (changes : Bool)
+pub scroll_agrees : {X : Type 0} {L : X → Type 0} (list_loan : TakenBox X L → ListLoan) (m : Lists (TakenBox X L)) (s : ListAt) (columns rows : ℤ) (changes : Bool)
     → IfSome (slice_get (records_of list_loan m) s.list) (λ x. IsSameOrNot changes (with_scroll columns rows x) x)
     → (x : KeptList) → slice_get (records_of list_loan m) s.list ≡ Some x → IsSameOrNot changes (with_scroll columns rows x) x
 scroll_agrees list_loan m s columns rows changes agree x there = subst (λ o. IfSome o (λ y. IsSameOrNot changes (with_scroll columns rows y) y)) there agree
 
-module _ {V : Type 0} {H : V → Type 0} (loan : Taken V H → Loan) {X : Type 0} {L : X → Type 0} (list_loan : TakenList X L → ListLoan) where
+module _ {V : Type 0} {H : V → Type 0} (loan : TakenBox V H → WindowLoan) {X : Type 0} {L : X → Type 0} (list_loan : TakenBox X L → ListLoan) where
   -- ---- scrolled
 
   -- the list that stands here was changed so, which keeps its place and its drawing, and leaves it settled once it is scrolled back
-  record IsChangeBut (l : ListOf) (t : WindowManager V H) (m n : Lists (TakenList X L)) (s : ListAt) (f : KeptList → KeptList) : Type 0 where
+  record IsChangeBut (l : ListOf) (t : WindowManager V H) (m n : Lists (TakenBox X L)) (s : ListAt) (f : KeptList → KeptList) : Type 0 where
     pub is : IsSpotOf loan list_loan l t m s
     pub keeps : Keeps f
     pub draws : (x : KeptList) → (f x).kept.drawing ≡ x.kept.drawing
@@ -53,7 +52,7 @@ module _ {V : Type 0} {H : V → Type 0} (loan : Taken V H → Loan) {X : Type 0
     pub stays : (x : KeptList) → slice_get (records_of list_loan m) s.list ≡ Some x → IsSettledList x → IsSettledBut (f x)
 
   -- a changed list that was scrolled as well
-  then_scrolled : (l : ListOf) (t : WindowManager V H) (m n k : Lists (TakenList X L)) (s : ListAt) (f : KeptList → KeptList) (columns rows : ℤ) → IsChangeBut l t m n s f
+  then_scrolled : (l : ListOf) (t : WindowManager V H) (m n k : Lists (TakenBox X L)) (s : ListAt) (f : KeptList → KeptList) (columns rows : ℤ) → IsChangeBut l t m n s f
       → records_of list_loan k ≡ edit_at (with_scroll columns rows) s.list (records_of list_loan n) → k.list.next ≡ n.list.next
       → IsChange loan list_loan l t m k s (λ x. with_scroll columns rows (f x))
   then_scrolled l t m n k s f columns rows change scrolled next = record {
@@ -71,7 +70,7 @@ module _ {V : Type 0} {H : V → Type 0} (loan : Taken V H → Loan) {X : Type 0
   }
 
   -- a list that was scrolled
-  pub scroll_change : (l : ListOf) (t : WindowManager V H) (m n : Lists (TakenList X L)) (s : ListAt) (columns rows : ℤ) → IsSpotOf loan list_loan l t m s
+  pub scroll_change : (l : ListOf) (t : WindowManager V H) (m n : Lists (TakenBox X L)) (s : ListAt) (columns rows : ℤ) → IsSpotOf loan list_loan l t m s
       → records_of list_loan n ≡ edit_at (with_scroll columns rows) s.list (records_of list_loan m) → n.list.next ≡ m.list.next → IsChange loan list_loan l t m n s (with_scroll columns rows)
   scroll_change l t m n s columns rows is =
       then_scrolled l t m m n s (λ x. x) columns rows (record {
@@ -85,9 +84,9 @@ module _ {V : Type 0} {H : V → Type 0} (loan : Taken V H → Loan) {X : Type 0
 
   -- ---- given other cells
 
-  module _ (l : ListOf) (t : WindowManager V H) (m : Lists (TakenList X L)) (s : ListAt) (is : IsSpotOf loan list_loan l t m s)
-      (x : Item (ListRecord (TakenList X L))) (read : x ≡ get_or m.list.items.items s.list x) (cells : Grid) where
-    abbrev n : Lists (TakenList X L)
+  module _ (l : ListOf) (t : WindowManager V H) (m : Lists (TakenBox X L)) (s : ListAt) (is : IsSpotOf loan list_loan l t m s)
+      (x : Item (ListRecord (TakenBox X L))) (read : x ≡ get_or m.list.items.items s.list x) (cells : Grid) where
+    abbrev n : Lists (TakenBox X L)
     n = given.with_cells_there loan list_loan l t m s is x read cells
 
     given_change : (g : Grid → Grid) → cells ≡ g x.kept.cells → (IsGrid x.kept.cells → MayBecomeWider x.kept.flags x.kept.cells (g x.kept.cells)) → IsChange loan list_loan l t m n s (with_grid g)
@@ -137,7 +136,7 @@ module _ {V : Type 0} {H : V → Type 0} (loan : Taken V H → Loan) {X : Type 0
           (λ same. lines.columns_added_other x.kept.cells (place_to_add x.kept.cells.columns at) count (lines.may_add x.kept.cells.columns x.kept.cells.rows count at none) (ap (λ (y : KeptList). y.kept.cells) same))
 
     -- fewer, after which the list is scrolled no further than there are cells
-    module _ (count first : ℤ) (k : Lists (TakenList X L)) (scrolled : records_of list_loan k ≡ edit_at (with_scroll (pos 0) (pos 0)) s.list (records_of list_loan n)) (next : k.list.next ≡ n.list.next) where
+    module _ (count first : ℤ) (k : Lists (TakenBox X L)) (scrolled : records_of list_loan k ≡ edit_at (with_scroll (pos 0) (pos 0)) s.list (records_of list_loan n)) (next : k.list.next ≡ n.list.next) where
       pub rows_fewer_change : cells ≡ rows_deleted (nat_abs first) (count_to_delete x.kept.cells.rows count first) x.kept.cells → first_refusal (delete_refusals x.kept.cells.rows count first) ≡ None
           → IsChange loan list_loan l t m k s (with_rows_fewer count first)
       rows_fewer_change now none =

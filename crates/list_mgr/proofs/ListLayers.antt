@@ -9,13 +9,12 @@ use Rattle.tb_geom.specs.declared.rect.Rect.{Rect}
 use Rattle.tb_geom.specs.Points.{minus}
 use Rattle.tb_geom.specs.Pixels.{Pixels, holds}
 use Rattle.tb_geom.specs.Rects.{is_in_range, moved_rect, rect_holds}
-use Rattle.def_iface.specs.declared.part.Part.{Part}
-use Rattle.def_iface.specs.declared.part.Part.TheVariants as part
-use Rattle.def_iface.specs.declared.taken.Taken.{Taken}
-use Rattle.def_iface.specs.declared.taken_list.TakenList.{TakenList}
-use Rattle.def_iface.specs.Desk.{same_part}
+use Rattle.desk_layers.specs.declared.part.Part.{Part}
+use Rattle.desk_layers.specs.declared.part.Part.TheVariants as part
+use Rattle.def_iface.specs.Slots.{TakenBox}
+use Rattle.desk_layers.specs.Desk.{same_part}
 use Rattle.def_iface.specs.ListMeaning.{ListLoan}
-use Rattle.def_iface.specs.Meaning.{Loan}
+use Rattle.def_iface.specs.WindowMeaning.{WindowLoan}
 use Rattle.window_list.specs.declared.layer.Layer.{Layer}
 use Rattle.window_list.specs.declared.layers.Relaid.{Relaid}
 use Rattle.window_list.specs.LayerChanges.{is_gained}
@@ -34,7 +33,6 @@ use Rattle.window_mgr.specs.Relayered.{HasUpdate, IsGainedAt, IsPartAt, IsPlanOf
 use Rattle.window_mgr.proofs.Contents as contents
 use Rattle.control_mgr.specs.ControlSteps.{behind_controls}
 use Rattle.control_mgr.specs.Planned.{IsLaidSo}
-use Rattle.control_mgr.proofs.Added.{or_parts}
 use Rattle.control_mgr.proofs.LayerIn.{apart_in, low_in, may_in, planned_in}
 use Rattle.control_mgr.proofs.Places.{at_window}
 use Rattle.list_mgr.specs.declared.judging.ListTicket.{ListTicket}
@@ -43,7 +41,7 @@ use Rattle.list_mgr.specs.ListDesks.{KeptList}
 use Rattle.list_mgr.specs.ListSteps.{AreListLayers, IsLayerOf}
 use Rattle.list_mgr.specs.Putting.{IsPlace, IsPlanOfList, MayLay}
 use Rattle.list_mgr.specs.WholeLists.{AreBeside, records_of}
-use Rattle.list_mgr.proofs.ListsFound.{none_in_window}
+use Rattle.window_items.proofs.SerialLemmas.{none_in_window, or_parts}
 
 -- ---- layers of other lists
 
@@ -125,7 +123,7 @@ module _ (k : ListTicket) (ls : PlacedLayers) (may : MayLay k ls) (r : Pixels) (
       pub own_low : at < length relaid.layers.layers
       own_low = low_in ls at own index relaid layers_are
 
-      module _ {V : Type 0} {H : V → Type 0} (loan : Taken V H → Loan) (update : Pixels) (t u : WindowManager V H) (laid : IsLaidSo loan k.window ls update t u) where
+      module _ {V : Type 0} {H : V → Type 0} (loan : TakenBox V H → WindowLoan) (update : Pixels) (t u : WindowManager V H) (laid : IsLaidSo loan k.window ls update t u) where
         pub planned : ((p : Point) → holds relaid.gained p ≡ is_gained (Some (part.List k.serial)) ls.layers relaid.layers.layers (minus p ls.place)) → (relaying : Relaying)
             → ((v : WindowManager V H) → HasUpdate loan k.window update t v → MayHaveLayers k.window v relaid.layers
             → (afresh : Option Part) → IsPartAt relaid.layers.layers (Some at) afresh → IsGainedAt k.window afresh v relaid → IsPlanOfLayers loan k.window relaid.layers.layers afresh v relaying)
@@ -143,8 +141,8 @@ module _ (k : ListTicket) (ls : PlacedLayers) (may : MayLay k ls) (r : Pixels) (
 
 -- ---- a window as it is
 
-module _ {V : Type 0} {H : V → Type 0} (loan : Taken V H → Loan) {X : Type 0} {L : X → Type 0} (list_loan : TakenList X L → ListLoan)
-    (n : NewList) (t : WindowManager V H) (m : Lists (TakenList X L)) (k : ListTicket) (kept : IsKept loan t) (beside : AreBeside list_loan loan t m) (place : IsPlace n t m k) where
+module _ {V : Type 0} {H : V → Type 0} (loan : TakenBox V H → WindowLoan) {X : Type 0} {L : X → Type 0} (list_loan : TakenBox X L → ListLoan)
+    (n : NewList) (t : WindowManager V H) (m : Lists (TakenBox X L)) (k : ListTicket) (kept : IsKept loan t) (beside : AreBeside list_loan loan t m) (place : IsPlace n t m k) where
   abbrev ls : List KeptList
   ls = records_of list_loan m
 

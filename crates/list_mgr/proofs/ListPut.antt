@@ -4,16 +4,14 @@ use Rattle.std.specs.Prelude.{is_none}
 use Rattle.std.specs.List.{insert}
 use Rattle.std.proofs.lemmas.List.Edits.{get_or-insert_at}
 use Rattle.tb_geom.specs.Points.{PixelSet}
-use Rattle.def_iface.specs.declared.part.Part.{Part}
-use Rattle.def_iface.specs.declared.part.Part.TheVariants as part
-use Rattle.def_iface.specs.declared.taken.Taken.{Taken}
-use Rattle.def_iface.specs.declared.taken_list.TakenList.{TakenList}
+use Rattle.desk_layers.specs.declared.part.Part.{Part}
+use Rattle.desk_layers.specs.declared.part.Part.TheVariants as part
 use Rattle.def_iface.specs.ControlMeaning.{is_control_size}
 use Rattle.def_iface.specs.ListMeaning.{IsListBegun, ListDefinition, ListLoan}
-use Rattle.def_iface.specs.Meaning.{Loan}
-use Rattle.def_iface.specs.Slots.{IsTaken}
+use Rattle.def_iface.specs.WindowMeaning.{WindowLoan}
+use Rattle.def_iface.specs.Slots.{IsTaken, TakenBox}
 use Rattle.def_iface.specs.Stocked.{SlotView}
-use Rattle.def_iface.proofs.Owning.{same_number}
+use Rattle.desk_layers.proofs.Owning.{same_number}
 use Rattle.window_list.specs.declared.layer.Layer.{Layer}
 use Rattle.window_list.specs.Holders.{PlacedLayers}
 use Rattle.window_items.specs.Items.{items_of, are_before, serial_after}
@@ -64,8 +62,8 @@ cells_fit n good = λ i. extent_of n.cell_size.width good.view.across.cell_some 
 
 -- ---- the code's new list
 
-module _ {X : Type 0} {L : X → Type 0} (list_loan : TakenList X L → ListLoan) where
-  pub list_seen : (n : NewList) (k : ListTicket) (cells : Grid) (vertical horizontal : Option ℕ) (taken : TakenList X L) (slot : ℕ) → k.view ≡ view_of n → cells ≡ empty_grid (nat_abs n.columns) (nat_abs n.rows)
+module _ {X : Type 0} {L : X → Type 0} (list_loan : TakenBox X L → ListLoan) where
+  pub list_seen : (n : NewList) (k : ListTicket) (cells : Grid) (vertical horizontal : Option ℕ) (taken : TakenBox X L) (slot : ℕ) → k.view ≡ view_of n → cells ≡ empty_grid (nat_abs n.columns) (nat_abs n.rows)
       → (list_loan taken).slot ≡ slot
       → seen list_loan (record { serial = k.serial; window = n.window; kept = record { view = k.view; cells = cells; flags = k.flags; drawing = true; vertical = vertical; horizontal = horizontal; definition = taken } })
       ≡ new_list n k.serial k.flags vertical horizontal (record { definition = (list_loan taken).definition; slot = slot })
@@ -84,14 +82,14 @@ module _ {X : Type 0} {L : X → Type 0} (list_loan : TakenList X L → ListLoan
   }
 
   -- what is left of the lists where it was put behind the others
-  pub pushed : (m : Lists (TakenList X L)) (xs : List (Item (ListRecord (TakenList X L)))) (x : Item (ListRecord (TakenList X L))) (l : KeptList) → xs ≡ m.list.items.items ++ x ∷ [] → seen list_loan x ≡ l
+  pub pushed : (m : Lists (TakenBox X L)) (xs : List (Item (ListRecord (TakenBox X L)))) (x : Item (ListRecord (TakenBox X L))) (l : KeptList) → xs ≡ m.list.items.items ++ x ∷ [] → seen list_loan x ≡ l
       → all_seen list_loan xs ≡ records_of list_loan m ++ l ∷ []
   pushed m xs x l is same = ap (all_seen list_loan) is ∙ append-seen (kept_seen list_loan) m.list.items.items (x ∷ []) ∙ ap (λ y. records_of list_loan m ++ y ∷ []) same
 
 -- ---- the list put
 
-module _ {V : Type 0} {H : V → Type 0} (loan : Taken V H → Loan) {X : Type 0} {L : X → Type 0} (list_loan : TakenList X L → ListLoan)
-    (n : NewList) (k : ListTicket) (t : WindowManager V H) (m : Lists (TakenList X L)) (p : Planned) (ready : IsReadyToPut loan n k t m p) where
+module _ {V : Type 0} {H : V → Type 0} (loan : TakenBox V H → WindowLoan) {X : Type 0} {L : X → Type 0} (list_loan : TakenBox X L → ListLoan)
+    (n : NewList) (k : ListTicket) (t : WindowManager V H) (m : Lists (TakenBox X L)) (p : Planned) (ready : IsReadyToPut loan n k t m p) where
   abbrev layers : List Layer
   layers = p.laid.layers.layers
 
@@ -120,7 +118,7 @@ module _ {V : Type 0} {H : V → Type 0} (loan : Taken V H → Loan) {X : Type 0
     pub settled_put : AreBeside list_loan loan t m → AreSettled (records_of list_loan m ++ one ∷ [])
     settled_put beside = All-more IsSettledList (records_of list_loan m) one beside.whole.settled (new_settled n ready.place.good k.serial slot k.flags vertical horizontal old begun live)
 
-    module _ (u : WindowManager V H) (m' : Lists (TakenList X L)) (lists_are : records_of list_loan m' ≡ records_of list_loan m ++ one ∷ []) (next_is : m'.list.next ≡ serial_after k.serial)
+    module _ (u : WindowManager V H) (m' : Lists (TakenBox X L)) (lists_are : records_of list_loan m' ≡ records_of list_loan m ++ one ∷ []) (next_is : m'.list.next ≡ serial_after k.serial)
         (set : (w : Window V H) → IsWindowAt t.windows.records.items k.window w → (q : Option Part) → IsPartAt layers (Some p.laid.at) q → (was : List ℕ → Part → PixelSet) (slots : List SlotView) → IsWholeManager loan t slots
         → IsWholeManager loan u slots × AreLayersSet w.serial layers q (state_showing was (state_of loan t slots)) (state_showing (lists_show (records_of list_loan m')) (state_of loan u slots))) where
       -- what was drawn afresh is the list, which shows the same with the controls and without

@@ -6,10 +6,10 @@ use Rattle.std.proofs.lemmas.Bool.{false≢true}
 use Rattle.std.proofs.lemmas.List.Elements.{All-head, All-tail}
 use Rattle.tb_geom.specs.Points.{PixelSet}
 use Rattle.window_items.specs.Items as controls
-use Rattle.window_items.specs.Items.{has_serial, is_in, items_of}
-use Rattle.def_iface.specs.declared.part.Part.{Part}
-use Rattle.def_iface.specs.declared.part.Part.TheVariants as part
-use Rattle.def_iface.specs.Desk as layers
+use Rattle.window_items.specs.Items.{has_serial, items_of}
+use Rattle.desk_layers.specs.declared.part.Part.{Part}
+use Rattle.desk_layers.specs.declared.part.Part.TheVariants as part
+use Rattle.desk_layers.specs.Desk as layers
 use Rattle.window_list.specs.declared.layer.Layer.{Layer}
 use Rattle.desk_call.specs.declared.update.LayerKind.TheVariants.{Controls}
 use Rattle.vis_update.specs.Records.{Look, WindowRecord, content_layer, layered_window}
@@ -17,17 +17,17 @@ use Rattle.window_paint.specs.Kinds.{is_of}
 use Rattle.window_mgr.specs.Finding.{record_with}
 use Rattle.window_mgr.specs.Refused.{is_missing}
 use Rattle.window_mgr.proofs.LayerParts.{layers_with}
+use Rattle.window_items.proofs.SerialLemmas.{apart_among, or_parts}
 use Rattle.control_mgr.specs.ControlDesks.{ControlRecord}
 use Rattle.control_mgr.specs.ControlSteps.{AreLayersOf, behind_controls}
 use Rattle.control_mgr.specs.WholeControls as kept
-use Rattle.control_mgr.proofs.Added.{none_in_window as no_control_in, or_parts, others_named}
+use Rattle.control_mgr.proofs.Added.{others_named}
 use Rattle.control_mgr.proofs.ControlBits.{bare, missing_alike}
 use Rattle.control_mgr.proofs.Edited.{AreNoControls}
 use Rattle.control_mgr.proofs.Settled.{AreJoined}
 use Rattle.list_mgr.specs.ListDesks.{KeptList}
 use Rattle.list_mgr.specs.ListSteps.{AreListLayers, IsLayerOf}
 use Rattle.list_mgr.specs.WholeLists.{AreListsApart}
-use Rattle.list_mgr.proofs.ListsFound.{none_in_window}
 use Rattle.list_mgr.proofs.ListsStay.{AreListsJoined}
 
 -- ---- the layers of one window
@@ -87,26 +87,6 @@ module _ (look : Look) (content : PixelSet) (w : WindowRecord) where
     all_parts cs ls ks h.1 (subst (λ b. AllZip IsLayerOf ls (cond (not b) (k ∷ behind_controls ks) (behind_controls ks))) (ap (is_of Controls) h.0.part) g) apart.1 away,
   )
 
--- ---- those of one window
-
--- the controls of one window are apart where all are
-controls_apart : (window : ℕ) (cs : List ControlRecord) → kept.AreControlsApart cs → kept.AreControlsApart (controls.items_of window cs)
-controls_apart window [] apart = tt
-controls_apart window (c ∷ cs) apart = by_test (controls.is_in window c) (controls_apart window cs apart.1)
-  where
-    by_test : (b : Bool) → kept.AreControlsApart (controls.items_of window cs) → kept.AreControlsApart (cond b (c ∷ controls.items_of window cs) (controls.items_of window cs))
-    by_test true rest = (no_control_in c.serial window cs apart.0, rest)
-    by_test false rest = rest
-
--- and so are its lists
-pub lists_apart : (window : ℕ) (ls : List KeptList) → AreListsApart ls → AreListsApart (items_of window ls)
-lists_apart window [] apart = tt
-lists_apart window (l ∷ ls) apart = by_test (is_in window l) (lists_apart window ls apart.1)
-  where
-    by_test : (b : Bool) → AreListsApart (items_of window ls) → AreListsApart (cond b (l ∷ items_of window ls) (items_of window ls))
-    by_test true rest = (none_in_window l.serial window ls apart.0, rest)
-    by_test false rest = rest
-
 -- ---- all windows
 
 -- a window is missing among layered ones where it is missing
@@ -137,7 +117,7 @@ distinct_windows look other cs ls (w ∷ ws) (v ∷ vs) apart away same joined i
       (
         all_parts other (v.definition.content v.size) v (controls.items_of v.serial cs) (items_of v.serial ls) v.layers
             (All-head (λ x. AreLayersOf (controls.items_of x.serial cs) x.layers) v vs joined) (All-head (λ x. AreListLayers (items_of x.serial ls) x.layers) v vs its)
-            (controls_apart v.serial cs apart) (lists_apart v.serial ls away),
+            (apart_among v.serial cs apart) (apart_among v.serial ls away),
         distinct_windows look other cs ls ws vs apart away rest (All-tail (λ x. AreLayersOf (controls.items_of x.serial cs) x.layers) v vs joined)
             (All-tail (λ x. AreListLayers (items_of x.serial ls) x.layers) v vs its) distinct.1.1,
       ),

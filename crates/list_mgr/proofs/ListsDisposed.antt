@@ -7,13 +7,11 @@ use Rattle.tb_geom.specs.declared.point.Point.{Point}
 use Rattle.tb_geom.specs.Points.{PixelSet, minus}
 use Rattle.tb_geom.specs.Pixels.{Pixels, holds}
 use Rattle.window_items.specs.Items.{items_of, is_in_at}
-use Rattle.def_iface.specs.declared.part.Part.{Part}
-use Rattle.def_iface.specs.declared.taken.Taken.{Taken}
-use Rattle.def_iface.specs.declared.taken_control.TakenControl.{TakenControl}
-use Rattle.def_iface.specs.declared.taken_list.TakenList.{TakenList}
+use Rattle.desk_layers.specs.declared.part.Part.{Part}
+use Rattle.def_iface.specs.Slots.{TakenBox}
 use Rattle.def_iface.specs.ControlMeaning.{ControlLoan}
 use Rattle.def_iface.specs.ListMeaning.{ListLoan}
-use Rattle.def_iface.specs.Meaning.{Loan}
+use Rattle.def_iface.specs.WindowMeaning.{WindowLoan}
 use Rattle.def_iface.specs.Stocked.{SlotView}
 use Rattle.window_list.specs.declared.layer.Layer.{Layer}
 use Rattle.window_list.specs.declared.layers.Relaid.{Relaid}
@@ -71,8 +69,8 @@ use Rattle.list_mgr.proofs.LayerTaken.{layers_left_are}
 use Rattle.list_mgr.proofs.ListsWhole.{whole_gone}
 use Rattle.list_mgr.proofs.Steps.{nothing_missing}
 
-module _ {V : Type 0} {H : V → Type 0} (loan : Taken V H → Loan) {X : Type 0} {L : X → Type 0} (list_loan : TakenList X L → ListLoan) {W : Type 0} {K : W → Type 0} (control_loan : TakenControl W K → ControlLoan)
-    (l : ListOf) (t : WindowManager V H) (m : Lists (TakenList X L)) (s : ListAt) (is : IsSpotOf loan list_loan l t m s) (kept : IsKept loan t)
+module _ {V : Type 0} {H : V → Type 0} (loan : TakenBox V H → WindowLoan) {X : Type 0} {L : X → Type 0} (list_loan : TakenBox X L → ListLoan) {W : Type 0} {K : W → Type 0} (control_loan : TakenBox W K → ControlLoan)
+    (l : ListOf) (t : WindowManager V H) (m : Lists (TakenBox X L)) (s : ListAt) (is : IsSpotOf loan list_loan l t m s) (kept : IsKept loan t)
     (w : Window V H) (lies : IsWindowAt t.windows.records.items s.window w) (layer : ℕ) (its : IsItsLayer list_loan m s w.layers.layers layer) where
   abbrev at : ℕ
   at = s.window
@@ -119,12 +117,12 @@ module _ {V : Type 0} {H : V → Type 0} (loan : Taken V H → Loan) {X : Type 0
 
       -- ---- the list, taken out
 
-      module _ (r : Relaying) (n : Lists (TakenList X L)) (x : Item (ListRecord (TakenList X L))) (x_there : slice_get m.list.items.items s.list ≡ Some x)
+      module _ (r : Relaying) (n : Lists (TakenBox X L)) (x : Item (ListRecord (TakenBox X L))) (x_there : slice_get m.list.items.items s.list ≡ Some x)
           (lists_are : n.list.items.items ≡ remove m.list.items.items s.list) (next_is : n.list.next ≡ m.list.next)
           (t1 : WindowManager V H) (put : AreLayersPut at relaid.layers r.update t t1)
           (set : (v : Window V H) → IsWindowAt t.windows.records.items at v → (q : Option Part) → IsPartAt relaid.layers.layers None q → (was : List ℕ → Part → PixelSet) (slots : List SlotView) → IsWholeManager loan t slots
           → IsWholeManager loan t1 slots × AreLayersSet v.serial relaid.layers.layers q (state_showing was (state_of loan t slots)) (state_showing (lists_show (records_of list_loan n)) (state_of loan t1 slots)))
-          (c : Controls (TakenControl W K)) (held : List ControlSlot) (controls : AreWholeControls (desk_of loan t []).windows (controls_state control_loan c held))
+          (c : Controls (TakenBox W K)) (held : List ControlSlot) (controls : AreWholeControls (desk_of loan t []).windows (controls_state control_loan c held))
           (stock : List ListSlot) (lists : AreWholeLists (desk_of loan t []).windows (lists_state list_loan m stock)) where
         serial : w.serial ≡ l.window
         serial = is.window.1 w lies
@@ -212,7 +210,7 @@ module _ {V : Type 0} {H : V → Type 0} (loan : Taken V H → Loan) {X : Type 0
 
           -- ---- its bars, ended
 
-          module _ (vertical : Option ℕ) (one : Option Ending) (taken : IfSome one (IsTakenOut at (bar_serial vertical) relaid.layers)) (t2 : WindowManager V H) (c2 : Controls (TakenControl W K)) (held2 : List ControlSlot)
+          module _ (vertical : Option ℕ) (one : Option Ending) (taken : IfSome one (IsTakenOut at (bar_serial vertical) relaid.layers)) (t2 : WindowManager V H) (c2 : Controls (TakenBox W K)) (held2 : List ControlSlot)
               (gone : IsBarGoneOver control_loan loan held held2 l.window vertical t1 c t2 c2) (next_put : IsPutIfPlanned one t1 t2) where
             pub kept_second : IsKept loan t2
             kept_second = kept_gone control_loan loan held held2 l.window vertical t1 t2 c c2 gone kept_first controls_first
@@ -225,9 +223,9 @@ module _ {V : Type 0} {H : V → Type 0} (loan : Taken V H → Loan) {X : Type 0
                 subst (λ (y : PlacedLayers × Pixels). IsReadyToEnd loan control_loan (bar_of l.window bar) at y.0 y.1 t t2 c2) (λ i. (sym ls_is i, sym update_is i))
                 (ending_left loan control_loan (bar_of l.window bar) at (bar_serial vertical) relaid.layers r.update t t1 t2 c c2 one (ready_first bar) taken next_put kept_second (record { slots = held2; whole = controls_second }))
 
-            module _ (horizontal : Option ℕ) (t3 : WindowManager V H) (c3 : Controls (TakenControl W K)) (held3 : List ControlSlot) (other_gone : IsBarGoneOver control_loan loan held2 held3 l.window horizontal t2 c2 t3 c3)
+            module _ (horizontal : Option ℕ) (t3 : WindowManager V H) (c3 : Controls (TakenBox W K)) (held3 : List ControlSlot) (other_gone : IsBarGoneOver control_loan loan held2 held3 l.window horizontal t2 c2 t3 c3)
                 (vertical_is : vertical ≡ x.kept.vertical) (horizontal_is : horizontal ≡ x.kept.horizontal) where
-              abbrev shows : Controls (TakenControl W K) → List ℕ → Part → PixelSet
+              abbrev shows : Controls (TakenBox W K) → List ℕ → Part → PixelSet
               shows k = controls_show (lists_show (records_of list_loan n)) (controls_kept control_loan k)
 
               pub disposed : LeavesOver list_loan loan control_loan held held3 stock rest (IsListStep (Dispose l) (Ok Done)) t c m t3 c3 n

@@ -20,7 +20,7 @@ use Rattle.list_mgr.specs.ListDesks.{IsListDeskUnchanged, KeptList, ListDesk, Li
 use Rattle.list_mgr.specs.ListSteps.{IsChangedTo, IsListChanged, IsListMarked, IsSeenOrNot, IsShown, IsToggled, IsToggledOrNot, IsUnseen}
 use Rattle.list_mgr.specs.WholeLists.{AreWholeLists, IsSettledList}
 use Rattle.list_mgr.proofs.Edited.{Keeps}
-use Rattle.list_mgr.proofs.ListsFound.{with_own}
+use Rattle.window_items.proofs.SerialLemmas.{with_there}
 use Rattle.list_mgr.proofs.ListsRight.{marked_right, redrawn_right, toggled_right, unchanged_right}
 use Rattle.list_mgr.proofs.ListsStay.{lists_edited}
 use Rattle.list_mgr.proofs.ListsWhole.{edited_whole, same_whole}
@@ -144,8 +144,8 @@ module _ (before after : ListDesk) (was : IsRightLists before) where
         record {
           desk = record {
             right = toggled_right before after was.desk.right was.desk.shows its.shows its.changed.beside.controls was.desk.whole.joined controls.joined l x (g x.kept.cells) selects.0 selects.1
-                (with_own l.list its.changed.at before.lists.lists x was.lists.apart there serial)
-                (with_own l.list its.changed.at after.lists.lists (f x) lists.apart there_after serial)
+                (with_there l.list its.changed.at before.lists.lists x was.lists.apart there serial)
+                (with_there l.list its.changed.at after.lists.lists (f x) lists.apart there_after serial)
                 window.0 window.1 toggled
                 (lists_edited before.desk.windows.desk after.desk.windows.desk l f keeps.serial before after was.lists.apart its.changed was.lists.joined lists.joined);
             shows = its.shows;

@@ -4,9 +4,9 @@ use Rattle.std.specs.List.{remove}
 use Rattle.window_items.specs.Items.{are_before, count_of, items_of}
 use Rattle.window_items.proofs.LawLemmas.{no_others}
 use Rattle.window_items.proofs.WindowLemmas.{found_in}
-use Rattle.def_iface.specs.declared.part.Part.{Part}
-use Rattle.def_iface.specs.declared.part.Part.TheVariants as part
-use Rattle.def_iface.specs.Desk.{IsDesk}
+use Rattle.desk_layers.specs.declared.part.Part.{Part}
+use Rattle.desk_layers.specs.declared.part.Part.TheVariants as part
+use Rattle.desk_layers.specs.Desk.{IsDesk}
 use Rattle.window_list.specs.declared.layer.Layer.{Layer}
 use Rattle.desk_call.specs.declared.list.ListOf.{ListOf}
 use Rattle.desk_call.specs.declared.list.NewList.{NewList}

@@ -21,7 +21,8 @@ use Rattle.list_mgr.specs.ListDesks.{KeptList, ListsState, lists_show, with_seri
 use Rattle.list_mgr.specs.ListRefusals.{most_lists}
 use Rattle.list_mgr.specs.ListSteps.{AreListLayers}
 use Rattle.list_mgr.specs.WholeLists.{AreListsApart, AreSettled, AreWholeLists, IsSettledList}
-use Rattle.list_mgr.proofs.ListsFound.{StaySame, with_among}
+use Rattle.window_items.proofs.SerialLemmas.{with_among}
+use Rattle.list_mgr.proofs.ListsFound.{StaySame}
 use Rattle.list_mgr.proofs.ListsStay.{AreListsJoined, lists_stay}
 
 -- where a window has no list, each list is in another

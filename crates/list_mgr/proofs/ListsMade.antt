@@ -4,8 +4,8 @@ use Rattle.std.proofs.Common.{◌≡◌, ℕ, ◌<◌, zero, suc, Bool, true, fa
 use Rattle.tb_geom.specs.declared.point.Point.{Point}
 use Rattle.window_items.specs.Items.{count_of, edit_at, has_serial}
 use Rattle.list_mgr.specs.Fields.{with_drawing}
-use Rattle.def_iface.specs.declared.part.Part.{Part}
-use Rattle.def_iface.specs.declared.part.Part.TheVariants as part
+use Rattle.desk_layers.specs.declared.part.Part.{Part}
+use Rattle.desk_layers.specs.declared.part.Part.TheVariants as part
 use Rattle.desk_call.specs.declared.list.ListOf.{ListOf}
 use Rattle.desk_call.specs.declared.list.NewList.{NewList}
 use Rattle.window_mgr.specs.DeskStates.{IsDeskUnchanged}
@@ -19,7 +19,7 @@ use Rattle.list_mgr.specs.ListSteps.{IsChangedTo, IsListDisposed, IsListMade, Is
 use Rattle.list_mgr.specs.WholeLists.{IsSettledList}
 use Rattle.list_mgr.proofs.Edited.{Keeps}
 use Rattle.list_mgr.proofs.ListsBars.{bar_gone_keeps, bar_made_keeps, bar_made_lists, bar_made_missing}
-use Rattle.list_mgr.proofs.ListsFound.{with_first}
+use Rattle.window_items.proofs.SerialLemmas.{with_first}
 use Rattle.list_mgr.proofs.ListsKept.{IsRightLists, controls_same}
 use Rattle.list_mgr.proofs.ListsLaid.{gone_keeps, put_keeps}
 use Rattle.list_mgr.proofs.ListsWhole.{edited_whole}

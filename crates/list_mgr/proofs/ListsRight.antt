@@ -3,14 +3,14 @@ use Rattle.std.proofs.Common.{◌≡◌, ℕ, Bool, true, false, not, ◌&&◌, 
 use Rattle.std.proofs.lemmas.Bool.{and_parts}
 use Rattle.tb_geom.specs.declared.point.Point.{Point}
 use Rattle.tb_geom.specs.Points.{PixelSet, minus}
-use Rattle.def_iface.specs.declared.part.Part.{Part}
-use Rattle.def_iface.specs.declared.part.Part.TheVariants as part
-use Rattle.def_iface.specs.Desk.{IsDesk, on_screen}
-use Rattle.def_iface.specs.Owner.{Owner, is_content, own_bit, owner, same_owner}
-use Rattle.def_iface.specs.Owner.Owner.{Content}
-use Rattle.def_iface.specs.Change as plain
-use Rattle.def_iface.proofs.Changing.{stays_right}
-use Rattle.def_iface.proofs.Owning.{same_owner-true}
+use Rattle.desk_layers.specs.declared.part.Part.{Part}
+use Rattle.desk_layers.specs.declared.part.Part.TheVariants as part
+use Rattle.desk_layers.specs.Desk.{IsDesk, on_screen}
+use Rattle.desk_layers.specs.Owner.{Owner, is_content, own_bit, owner, same_owner}
+use Rattle.desk_layers.specs.Owner.Owner.{Content}
+use Rattle.desk_layers.specs.Change as plain
+use Rattle.desk_layers.proofs.Changing.{stays_right}
+use Rattle.desk_layers.proofs.Owning.{same_owner-true}
 use Rattle.window_list.specs.declared.layer.Layer.{Layer}
 use Rattle.desk_call.specs.declared.list.ListOf.{ListOf}
 use Rattle.list_cells.specs.declared.selecting.Selecting.{Selecting}

@@ -7,9 +7,9 @@ use Rattle.std.proofs.lemmas.Bool.Decides.{nat_tests}
 use Rattle.tb_geom.specs.declared.point.Point.{Point}
 use Rattle.tb_geom.specs.Points.{minus}
 use Rattle.window_items.specs.Items.{has_serial, items_of}
-use Rattle.def_iface.specs.declared.part.Part.TheVariants as part
-use Rattle.def_iface.specs.Owner.{Owner, same_owner}
-use Rattle.def_iface.specs.Owner.Owner.{Content}
+use Rattle.desk_layers.specs.declared.part.Part.TheVariants as part
+use Rattle.desk_layers.specs.Owner.{Owner, same_owner}
+use Rattle.desk_layers.specs.Owner.Owner.{Content}
 use Rattle.window_list.specs.declared.layer.Layer.{Layer}
 use Rattle.window_list.specs.Holders.{layer_has, part_at}
 use Rattle.desk_call.specs.declared.list.ListOf.{ListOf}

@@ -1,14 +1,14 @@
 -- Lists that are whole are whole where one of them is changed, put in or taken out, and where controls are called.
-use Rattle.std.proofs.Common.{◌≡◌, ℕ, zero, suc, ◌<◌, ◌≤◌, Bool, true, false, ◌||◌, ◌==◌, cond, List, [], ◌∷◌, ◌++◌, map, Some, refl, sym, ap, ◌∙◌, subst, arith, eqb-true}
+use Rattle.std.proofs.Common.{◌≡◌, ℕ, zero, suc, ◌<◌, ◌≤◌, Bool, true, false, ◌==◌, cond, List, [], ◌∷◌, ◌++◌, map, Some, refl, sym, ap, ◌∙◌, subst, arith, eqb-true}
 use Rattle.std.specs.Prelude.{All, slice_get}
 use Rattle.std.specs.List.{AllZip, list_any, remove}
 use Rattle.std.specs.Option.{option_and_then}
 use Rattle.std.proofs.lemmas.Bool.{false≢true}
 use Rattle.std.proofs.lemmas.Bool.Decides.{nat_tests}
 use Rattle.std.proofs.lemmas.List.Elements.{All-append, All-cons, All-head, All-map, All-nil, All-tail, All-weaker}
-use Rattle.std.proofs.lemmas.List.Folds.{list_any-append}
 use Rattle.window_items.specs.Items.{are_before, count_of, has_serial, is_before, is_in_at, items_of, serial_after}
 use Rattle.window_items.proofs.LawLemmas.{still_before}
+use Rattle.window_items.proofs.SerialLemmas.{apart-remove, apart_more}
 use Rattle.window_items.proofs.WindowLemmas.{count_of-push, count_of-push_other, count_of-remove, count_of-remove_other, is_in_at-other, items_of-push_other, items_of-remove_other}
 use Rattle.def_iface.specs.ListMeaning.{ListDefinition}
 use Rattle.def_iface.specs.Slots.{IsTaken}
@@ -18,7 +18,6 @@ use Rattle.vis_update.specs.Records.{WindowRecord}
 use Rattle.vis_update.specs.Relayings.{with_layers_of}
 use Rattle.window_mgr.specs.Refused.{is_missing}
 use Rattle.control_mgr.specs.InUse.{AreStocked}
-use Rattle.control_mgr.proofs.Added.{or_parts}
 use Rattle.control_mgr.proofs.ControlBits.{bare, missing_alike}
 use Rattle.control_mgr.proofs.ControlsKept.{uncontrolled}
 use Rattle.control_mgr.proofs.LayerOut.{all-remove}
@@ -27,7 +26,7 @@ use Rattle.control_mgr.proofs.Stocks.{stocked_with, stocked_without}
 use Rattle.list_mgr.specs.ListDesks.{KeptList, ListDesk, ListSlot, ListsState, list_of}
 use Rattle.list_mgr.specs.ListRefusals.{most_lists}
 use Rattle.list_mgr.specs.ListSteps.{AreListLayers, IsChangedTo, IsLayerOf, IsListShut}
-use Rattle.list_mgr.specs.WholeLists.{AreListsApart, AreWholeLists, IsSettledList, slots_of}
+use Rattle.list_mgr.specs.WholeLists.{AreWholeLists, IsSettledList, slots_of}
 use Rattle.list_mgr.proofs.Edited.{Keeps, whole_edited}
 use Rattle.list_mgr.proofs.ListsStay.{AreListsJoined}
 use Rattle.window_items.proofs.EditLemmas.{All-remove}
@@ -39,9 +38,6 @@ same_number a b e = grind (arith, nat_tests)
 
 other_number : (a b : ℕ) → (b ≡ a → ⊥) → (a == b) ≡ false
 other_number a b e = grind (arith, nat_tests)
-
-other_way : (a b : ℕ) → (a == b) ≡ false → (b == a) ≡ false
-other_way a b e = grind (arith, nat_tests)
 
 -- where a window's layers come to be those of its lists as they are now, and the lists of other windows stay
 joined_laid : (s : ℕ) (ks : List Layer) (ls now : List KeptList) (ws : List WindowRecord) → AreListLayers (items_of s now) ks
@@ -62,12 +58,6 @@ somewhere_laid s ks ws ls h =
     (λ l e. missing-layers s l.window ks ws ∙ e) ls h
 
 -- ---- lists with one more behind
-
-apart_more : (l : KeptList) (ls : List KeptList) → list_any (has_serial l.serial) ls ≡ false → AreListsApart ls → AreListsApart (ls ++ l ∷ [])
-apart_more l [] e h = (refl, tt)
-apart_more l (x ∷ xs) e h =
-    let both = or_parts (x.serial == l.serial) (list_any (has_serial l.serial) xs) e in
-    (list_any-append (has_serial x.serial) xs (l ∷ []) ∙ (λ i. h.0 i || (other_way x.serial l.serial both.0 i || false)), apart_more l xs both.1 h.1)
 
 slots_more : (l : KeptList) (ls : List KeptList) → slots_of (ls ++ l ∷ []) ≡ slots_of ls ++ l.kept.definition.slot ∷ []
 slots_more l [] = refl
@@ -108,20 +98,6 @@ whole_put l old kind ks ws state left whole next unused settled there room took 
 }
 
 -- ---- lists without one
-
-none-remove : (n i : ℕ) (ls : List KeptList) → list_any (has_serial n) ls ≡ false → list_any (has_serial n) (remove ls i) ≡ false
-none-remove n zero [] h = refl
-none-remove n (suc i) [] h = refl
-none-remove n zero (l ∷ ls) h = (or_parts (has_serial n l) (list_any (has_serial n) ls) h).1
-none-remove n (suc i) (l ∷ ls) h =
-    let parts = or_parts (has_serial n l) (list_any (has_serial n) ls) h in
-    let rest = none-remove n i ls parts.1 in (λ t. parts.0 t || rest t)
-
-pub apart-remove : (i : ℕ) (ls : List KeptList) → AreListsApart ls → AreListsApart (remove ls i)
-apart-remove zero [] h = tt
-apart-remove (suc i) [] h = tt
-apart-remove zero (l ∷ ls) h = h.1
-apart-remove (suc i) (l ∷ ls) h = (none-remove l.serial i ls h.0, apart-remove i ls h.1)
 
 pub slot_at : (ls : List KeptList) (i : ℕ) (l : KeptList) → slice_get ls i ≡ Some l → slice_get (slots_of ls) i ≡ Some l.kept.definition.slot
 slot_at [] i l e = absurd (cc)

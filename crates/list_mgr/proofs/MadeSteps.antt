@@ -6,12 +6,10 @@ use Rattle.std.specs.Option.{option_copied, option_map}
 use Rattle.tb_geom.specs.declared.refusal.Refusal.{Refusal}
 use Rattle.tb_geom.specs.declared.refusal.Refusal.TheVariants.{NoDefinition, NoSuchName}
 use Rattle.tb_geom.specs.Refusals.{first_refusal}
-use Rattle.def_iface.specs.declared.taken.Taken.{Taken}
-use Rattle.def_iface.specs.declared.taken_control.TakenControl.{TakenControl}
-use Rattle.def_iface.specs.declared.taken_list.TakenList.{TakenList}
+use Rattle.def_iface.specs.Slots.{TakenBox}
 use Rattle.def_iface.specs.ControlMeaning.{ControlLoan}
 use Rattle.def_iface.specs.ListMeaning.{ListDefinition, ListLoan}
-use Rattle.def_iface.specs.Meaning.{Loan}
+use Rattle.def_iface.specs.WindowMeaning.{WindowLoan}
 use Rattle.def_iface.specs.Stocked.{SlotView}
 use Rattle.list_mgr.specs.Seen.{all_seen}
 use Rattle.desk_call.specs.declared.list.ListCall.TheVariants.{New}
@@ -42,7 +40,7 @@ none_mapped : {A B : Type 0} (f : A → B) (o : Option A) → is_none (option_ma
 none_mapped f None = refl
 none_mapped f (Some x) = refl
 
-module _ {V : Type 0} {H : V → Type 0} (loan : Taken V H → Loan) {W : Type 0} {K : W → Type 0} (control_loan : TakenControl W K → ControlLoan) {X : Type 0} {L : X → Type 0} (list_loan : TakenList X L → ListLoan) where
+module _ {V : Type 0} {H : V → Type 0} (loan : TakenBox V H → WindowLoan) {W : Type 0} {K : W → Type 0} (control_loan : TakenBox W K → ControlLoan) {X : Type 0} {L : X → Type 0} (list_loan : TakenBox X L → ListLoan) where
   -- ---- where nothing but room changed
 
   -- windows with these controls and these lists, as a desk
@@ -54,11 +52,11 @@ module _ {V : Type 0} {H : V → Type 0} (loan : Taken V H → Loan) {W : Type 0
   }
 
   -- the lists are the same, and their stock
-  lists_same : (m n : Lists (TakenList X L)) → AreRoomier m n → (kept rest : List ListSlot) → rest ≡ kept → lists_state list_loan n rest ≡ lists_state list_loan m kept
+  lists_same : (m n : Lists (TakenBox X L)) → AreRoomier m n → (kept rest : List ListSlot) → rest ≡ kept → lists_state list_loan n rest ≡ lists_state list_loan m kept
   lists_same m n same kept rest e = λ i. record { lists = all_seen list_loan (same.lists i); next = same.next i; stock = e i }
 
   -- a call that made room at most leaves windows, controls and lists whole, and the desk as it was
-  pub leaves_all : (t : WindowManager V H) (c d : Controls (TakenControl W K)) (m n : Lists (TakenList X L)) (held left : List ControlSlot) (kept rest : List ListSlot)
+  pub leaves_all : (t : WindowManager V H) (c d : Controls (TakenBox W K)) (m n : Lists (TakenBox X L)) (held left : List ControlSlot) (kept rest : List ListSlot)
       → IsRoomier c d → AreRoomier m n → left ≡ held → rest ≡ kept
       → LeavesOver list_loan loan control_loan held left kept rest IsListDeskUnchanged t c m t d n
   leaves_all t c d m n held left kept rest controls lists same_left same_rest o slots whole were were_lists =
@@ -72,21 +70,21 @@ module _ {V : Type 0} {H : V → Type 0} (loan : Taken V H → Loan) {W : Type 0
       )
 
   -- a step over a stock of controls that is as it was
-  pub over_same : (step : ListDesk → ListDesk → Type 0) (held left : List ControlSlot) (kept rest : List ListSlot) (t : WindowManager V H) (c : Controls (TakenControl W K)) (m : Lists (TakenList X L))
-      (u : WindowManager V H) (d : Controls (TakenControl W K)) (n : Lists (TakenList X L)) → left ≡ held
+  pub over_same : (step : ListDesk → ListDesk → Type 0) (held left : List ControlSlot) (kept rest : List ListSlot) (t : WindowManager V H) (c : Controls (TakenBox W K)) (m : Lists (TakenBox X L))
+      (u : WindowManager V H) (d : Controls (TakenBox W K)) (n : Lists (TakenBox X L)) → left ≡ held
       → LeavesOver list_loan loan control_loan held held kept rest step t c m u d n → LeavesOver list_loan loan control_loan held left kept rest step t c m u d n
   over_same step held left kept rest t c m u d n e leaves = subst (λ left. LeavesOver list_loan loan control_loan held left kept rest step t c m u d n) (sym e) leaves
 
   -- ---- why it is not made
 
-  module _ (n : NewList) (t : WindowManager V H) (c : Controls (TakenControl W K)) (m : Lists (TakenList X L)) where
+  module _ (n : NewList) (t : WindowManager V H) (c : Controls (TakenBox W K)) (m : Lists (TakenBox X L)) where
     -- what its bars would have is judged with what they are offered
-    pub judged_with : (r s : Option (Bor (TakenControl W K))) (v h : Option (TakenControl W K)) → option_copied r ≡ v → option_copied s ≡ h
+    pub judged_with : (r s : Option (Bor (TakenBox W K))) (v h : Option (TakenBox W K)) → option_copied r ≡ v → option_copied s ≡ h
         → judged_by loan control_loan list_loan n (definition_if control_loan r) (definition_if control_loan s) t c m
         ≡ judged_by loan control_loan list_loan n (definition_of (option_map control_loan v)) (definition_of (option_map control_loan h)) t c m
     judged_with r s v h e f = λ i. judged_by loan control_loan list_loan n ((copied r ∙ ap (λ o. definition_of (option_map control_loan o)) e) i) ((copied s ∙ ap (λ o. definition_of (option_map control_loan o)) f) i) t c m
       where
-        copied : (r : Option (Bor (TakenControl W K))) → definition_if control_loan r ≡ definition_of (option_map control_loan (option_copied r))
+        copied : (r : Option (Bor (TakenBox W K))) → definition_if control_loan r ≡ definition_of (option_map control_loan (option_copied r))
         copied None = refl
         copied (Some b) = refl
 
@@ -119,14 +117,14 @@ module _ {V : Type 0} {H : V → Type 0} (loan : Taken V H → Loan) {W : Type 0
             (desk_of loan t []) (control_records.records_of control_loan c) c.list.next (records_of list_loan m) m.list.next ++ (lacks_is i, NoDefinition) ∷ []))
 
         -- the list was made
-        pub made_step : (u : WindowManager V H) (d : Controls (TakenControl W K)) (made : Lists (TakenList X L)) (serial : ℕ) → why_not control_loan list_loan loan n x t c m ≡ None
+        pub made_step : (u : WindowManager V H) (d : Controls (TakenBox W K)) (made : Lists (TakenBox X L)) (serial : ℕ) → why_not control_loan list_loan loan n x t c m ≡ None
             → LeavesOver list_loan loan control_loan held left kept rest (IsListMade n serial) t c m u d made
             → LeavesOver list_loan loan control_loan held left kept rest (IsListStep (New n) (Ok (reply.Made serial))) t c m u d made
         made_step u d made serial none leaves o slots whole controls lists =
             let after = leaves o slots whole controls lists in (after.0, after.1, after.2, (why_is ∙ none, (serial, refl, after.3)))
 
         -- it was not, and all went back
-        pub unmade_step : (u : WindowManager V H) (d : Controls (TakenControl W K)) (roomier : Lists (TakenList X L)) (back : List ControlSlot) (stock : List ListSlot) (e : Refusal)
+        pub unmade_step : (u : WindowManager V H) (d : Controls (TakenBox W K)) (roomier : Lists (TakenBox X L)) (back : List ControlSlot) (stock : List ListSlot) (e : Refusal)
             → IsNotMade control_loan list_loan loan n x t c m e → u ≡ t → IsRoomier c d → AreRoomier m roomier → back ≡ held → stock ≡ kept
             → LeavesOver list_loan loan control_loan held back kept stock (IsListStep (New n) (Err e)) t c m u d roomier
         unmade_step u d roomier back stock e why same same_controls same_lists same_back same_stock =

@@ -5,18 +5,17 @@ use Rattle.tb_geom.specs.declared.point.Point.{Point}
 use Rattle.tb_geom.specs.declared.rect.Rect.{Rect}
 use Rattle.tb_geom.specs.Points.{PixelSet, minus}
 use Rattle.tb_geom.specs.Pixels.{Pixels, holds}
-use Rattle.def_iface.specs.declared.part.Part.{Part}
-use Rattle.def_iface.specs.declared.taken.Taken.{Taken}
-use Rattle.def_iface.specs.declared.taken_list.TakenList.{TakenList}
+use Rattle.desk_layers.specs.declared.part.Part.{Part}
+use Rattle.def_iface.specs.Slots.{TakenBox}
 use Rattle.def_iface.specs.ListMeaning.{ListLoan}
-use Rattle.def_iface.specs.Change as plain
-use Rattle.def_iface.specs.Desk as layers
-use Rattle.def_iface.specs.Meaning.{Loan}
-use Rattle.def_iface.specs.Owner.{Owner, is_content, owner, same_owner}
-use Rattle.def_iface.specs.Owner.Owner.{Content}
-use Rattle.def_iface.specs.Scratch.{scratch}
+use Rattle.desk_layers.specs.Change as plain
+use Rattle.desk_layers.specs.Desk as layers
+use Rattle.def_iface.specs.WindowMeaning.{WindowLoan}
+use Rattle.desk_layers.specs.Owner.{Owner, is_content, owner, same_owner}
+use Rattle.desk_layers.specs.Owner.Owner.{Content}
+use Rattle.desk_layers.specs.Scratch.{scratch}
 use Rattle.def_iface.specs.Stocked.{SlotView}
-use Rattle.def_iface.proofs.Owning.{same_number, same_owner-true}
+use Rattle.desk_layers.proofs.Owning.{same_number, same_owner-true}
 use Rattle.window_list.specs.Holders.{belongs_to}
 use Rattle.vis_update.specs.declared.area.Area.{Area}
 use Rattle.vis_update.specs.Areas.{is_content_of, stale_in}
@@ -58,7 +57,7 @@ module _ (was is : List ℕ → Part → PixelSet) (before : FullState) (these :
 
 -- ---- all that a part of a window owns
 
-module _ {V : Type 0} {H : V → Type 0} (loan : Taken V H → Loan) (t : WindowManager V H) (at : ℕ) (low : at < length t.windows.records.items) (w : Window V H) (lies : IsWindowAt t.windows.records.items at w)
+module _ {V : Type 0} {H : V → Type 0} (loan : TakenBox V H → WindowLoan) (t : WindowManager V H) (at : ℕ) (low : at < length t.windows.records.items) (w : Window V H) (lies : IsWindowAt t.windows.records.items at w)
     (a : Area) (read : a ≡ get_or t.areas.items at a) (q : Part) (update : Pixels)
     (region : (p : Point) → holds update p ≡ (holds a.update p || (holds a.visible p && belongs_to q w.layers.layers (minus p w.layers.place)))) where
   -- the region is of the window's content
@@ -96,7 +95,7 @@ module _ {V : Type 0} {H : V → Type 0} (loan : Taken V H → Loan) (t : Window
     }
 
   -- where the region was made the window's update region
-  pub leaves_marked : {X : Type 0} {L : X → Type 0} (list_loan : TakenList X L → ListLoan) (window : ℕ) → w.serial ≡ window → (u : WindowManager V H) → LeavesState loan (IsRemarked w.serial update) t u
+  pub leaves_marked : {X : Type 0} {L : X → Type 0} (list_loan : TakenBox X L → ListLoan) (window : ℕ) → w.serial ≡ window → (u : WindowManager V H) → LeavesState loan (IsRemarked w.serial update) t u
       → (was is : List ℕ → Part → PixelSet) → LeavesShown list_loan loan (IsLayerMarked window q) was is t u
   leaves_marked list_loan window named u leaves was is slots whole =
       let left = leaves slots whole in
@@ -104,8 +103,8 @@ module _ {V : Type 0} {H : V → Type 0} (loan : Taken V H → Loan) (t : Window
 
 -- ---- a part that was shown anew, where controls and lists show together what that showed by itself
 
-module _ {V : Type 0} {H : V → Type 0} (loan : Taken V H → Loan) where
-  pub leaves_redrawn : {X : Type 0} {L : X → Type 0} (list_loan : TakenList X L → ListLoan) (t u : WindowManager V H) (s : ℕ) (q : Part) (within : Rect) (f was is : List ℕ → Part → PixelSet) → LeavesShown list_loan loan (IsPartDrawnWithin within s q) was f t u
+module _ {V : Type 0} {H : V → Type 0} (loan : TakenBox V H → WindowLoan) where
+  pub leaves_redrawn : {X : Type 0} {L : X → Type 0} (list_loan : TakenBox X L → ListLoan) (t u : WindowManager V H) (s : ℕ) (q : Part) (within : Rect) (f was is : List ℕ → Part → PixelSet) → LeavesShown list_loan loan (IsPartDrawnWithin within s q) was f t u
       → ((p : Point) → is t.font q p ≡ f t.font q p) → LeavesShown list_loan loan (IsPartDrawnWithin within s q) was is t u
   leaves_redrawn list_loan t u s q within f was is leaves same slots whole =
       let left = leaves slots whole in

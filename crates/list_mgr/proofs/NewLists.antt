@@ -28,9 +28,9 @@ use Rattle.window_mgr.specs.Finding.{record_with}
 use Rattle.window_mgr.specs.FullDesk.{FullDesk}
 use Rattle.window_mgr.specs.Refused.{is_missing}
 use Rattle.window_items.specs.Items as controls
+use Rattle.window_items.proofs.SerialLemmas.{or_parts}
 use Rattle.control_mgr.specs.ControlDesks.{ControlRecord}
 use Rattle.window_items.specs.Items.{count_of}
-use Rattle.control_mgr.proofs.Added.{or_parts}
 use Rattle.control_mgr.proofs.Steps.{none_hold}
 use Rattle.list_mgr.specs.ListDesks.{KeptList, ListDesk}
 use Rattle.list_mgr.specs.ListRefusals.{across_of, down_of, have_room, bars_wanted, horizontal_offer, is_sum_of_flags, judged_refusals, lacks_definition, lacks_kind, list_refusals, may_bar_be_in, may_view_be_in, most_lists, vertical_offer, view_of}

@@ -4,14 +4,13 @@ use Rattle.std.specs.Prelude.{All, IfSome, slice_get}
 use Rattle.std.specs.List.{AllZip, filter, list_any}
 use Rattle.std.specs.Option.{option_map_or}
 use Rattle.std.proofs.lemmas.Bool.{and_parts, eq-eqb, false≢true}
-use Rattle.def_iface.specs.declared.part.Part.{Part}
-use Rattle.def_iface.specs.declared.part.Part.TheVariants as part
-use Rattle.def_iface.specs.declared.taken.Taken.{Taken}
-use Rattle.def_iface.specs.declared.taken_list.TakenList.{TakenList}
+use Rattle.desk_layers.specs.declared.part.Part.{Part}
+use Rattle.desk_layers.specs.declared.part.Part.TheVariants as part
+use Rattle.def_iface.specs.Slots.{TakenBox}
 use Rattle.def_iface.specs.ListMeaning.{ListLoan}
-use Rattle.def_iface.specs.Meaning.{Loan}
-use Rattle.def_iface.specs.Desk.{same_part}
-use Rattle.def_iface.proofs.Owning.{same_number}
+use Rattle.def_iface.specs.WindowMeaning.{WindowLoan}
+use Rattle.desk_layers.specs.Desk.{same_part}
+use Rattle.desk_layers.proofs.Owning.{same_number}
 use Rattle.window_list.specs.declared.layer.Layer.{Layer}
 use Rattle.window_list.specs.Holders.{layer_index}
 use Rattle.window_list.proofs.Found.{found_low, found_part, not_found}
@@ -142,8 +141,8 @@ found_names window serial at ls x found there =
     (subst (λ o. IfSome o (λ i. option_map_or (is_item window serial) (slice_get ls i) false ≡ true)) found (position_there (is_item window serial) ls))
 
 -- what is known of a list that stands here
-module _ {V : Type 0} {H : V → Type 0} (loan : Taken V H → Loan) {X : Type 0} {L : X → Type 0} (list_loan : TakenList X L → ListLoan)
-    (l : ListOf) (t : WindowManager V H) (m : Lists (TakenList X L)) (s : ListAt) (is : IsSpotOf loan list_loan l t m s) where
+module _ {V : Type 0} {H : V → Type 0} (loan : TakenBox V H → WindowLoan) {X : Type 0} {L : X → Type 0} (list_loan : TakenBox X L → ListLoan)
+    (l : ListOf) (t : WindowManager V H) (m : Lists (TakenBox X L)) (s : ListAt) (is : IsSpotOf loan list_loan l t m s) where
   abbrev ls : List KeptList
   ls = records_of list_loan m
 
@@ -179,14 +178,14 @@ module _ {V : Type 0} {H : V → Type 0} (loan : Taken V H → Loan) {X : Type 0
         false≢true (sym (not_found (part.List its.item.serial) w.layers.layers none has.0 has.1 (within w.layers.layers has.0 has.1 has.2))
         ∙ ap (λ (k : Layer). same_part k.part (part.List its.item.serial)) (sym (read_is w.layers.layers has.0 has.1 has.2)) ∙ same_list its.item.serial has.1.part has.3.part)
 
-    its_serial : (x : Item (ListRecord (TakenList X L))) → x ≡ get_or m.list.items.items s.list x → part.List x.serial ≡ part.List its.item.serial
+    its_serial : (x : Item (ListRecord (TakenBox X L))) → x ≡ get_or m.list.items.items s.list x → part.List x.serial ≡ part.List its.item.serial
     its_serial x read =
         let both : Some (seen list_loan x) ≡ Some its.item = sym (list_read loan list_loan l t m s is x read) ∙ its.there in
         let same : seen list_loan x ≡ its.item = cc in
         ap (λ (y : KeptList). part.List y.serial) same
 
     -- what was found of the part of the list that was read
-    pub found_its : (x : Item (ListRecord (TakenList X L))) → x ≡ get_or m.list.items.items s.list x → (o : Option ℕ) → o ≡ layer_index (part.List x.serial) w.layers.layers
+    pub found_its : (x : Item (ListRecord (TakenBox X L))) → x ≡ get_or m.list.items.items s.list x → (o : Option ℕ) → o ≡ layer_index (part.List x.serial) w.layers.layers
         → (at : ℕ) × (o ≡ Some at) × IsItsLayer list_loan m s w.layers.layers at
     found_its x read None found = absurd (some_is_found (ap (λ q. layer_index q w.layers.layers) (sym (its_serial x read)) ∙ sym found))
     found_its x read (Some at) found = (at, refl, layer_is_its at (ap (λ q. layer_index q w.layers.layers) (sym (its_serial x read)) ∙ sym found))

@@ -1,12 +1,10 @@
 -- The step of a new list: its scroll bars made, and the list put behind the others.
 use Rattle.std.proofs.Common.{◌≡◌, ℕ, ◌<◌, Bool, true, false, not, cond, List, [], length, get_or, nat_abs, Option, None, Some, Ok, refl, sym, ◌∙◌, subst}
 use Rattle.std.specs.Prelude.{vec_capacity}
-use Rattle.def_iface.specs.declared.taken.Taken.{Taken}
-use Rattle.def_iface.specs.declared.taken_control.TakenControl.{TakenControl}
-use Rattle.def_iface.specs.declared.taken_list.TakenList.{TakenList}
+use Rattle.def_iface.specs.Slots.{TakenBox}
 use Rattle.def_iface.specs.ControlMeaning.{ControlLoan}
 use Rattle.def_iface.specs.ListMeaning.{ListLoan}
-use Rattle.def_iface.specs.Meaning.{Loan}
+use Rattle.def_iface.specs.WindowMeaning.{WindowLoan}
 use Rattle.def_iface.specs.Stocked.{SlotView}
 use Rattle.list_cells.specs.Grids.{empty_grid}
 use Rattle.window_items.specs.Items.{count_of}
@@ -57,17 +55,17 @@ place_roomier n k t m m' same place = record {
 }
 
 -- a list that was planned over the layers that its window has can be put
-pub ready_now : {V : Type 0} {H : V → Type 0} {D : Type 0} (loan : Taken V H → Loan) (n : NewList) (k : ListTicket) (t : WindowManager V H) (m m' : Lists D) → IsKept loan t → AreRoomier m m' → IsPlace n t m k
+pub ready_now : {V : Type 0} {H : V → Type 0} {D : Type 0} (loan : TakenBox V H → WindowLoan) (n : NewList) (k : ListTicket) (t : WindowManager V H) (m m' : Lists D) → IsKept loan t → AreRoomier m m' → IsPlace n t m k
     → (w : Window V H) → IsWindowAt t.windows.records.items k.window w → (a : Area) → a ≡ get_or t.areas.items k.window a → (p : Planned) → p.cells ≡ empty_grid (nat_abs n.columns) (nat_abs n.rows)
     → ((u : WindowManager V H) → IsLaidSo loan k.window w.layers a.update t u → IsPlanOfList loan k w.layers u p.laid) → length m'.list.items.items < vec_capacity m'.list.items → IsReadyToPut loan n k t m' p
 ready_now loan n k t m m' kept same place w lies a read p cells planned room =
     let laid = laid_now loan t kept k.window place.window.0 a read w lies in
     record { place = place_roomier n k t m m' same place; cells = cells; layers = w.layers; lies = laid.layers; planned = planned t laid; room = room }
 
-module _ {V : Type 0} {H : V → Type 0} (loan : Taken V H → Loan) {X : Type 0} {L : X → Type 0} (list_loan : TakenList X L → ListLoan) where
+module _ {V : Type 0} {H : V → Type 0} (loan : TakenBox V H → WindowLoan) {X : Type 0} {L : X → Type 0} (list_loan : TakenBox X L → ListLoan) where
   -- ---- where nothing but the room for lists changed
 
-  module _ (m m' : Lists (TakenList X L)) (same : AreRoomier m m') where
+  module _ (m m' : Lists (TakenBox X L)) (same : AreRoomier m m') where
     lists_same : (kept : List ListSlot) → lists_state list_loan m' kept ≡ lists_state list_loan m kept
     lists_same kept = λ i. record { lists = all_seen list_loan (same.lists i); next = same.next i; stock = kept }
 
@@ -81,16 +79,16 @@ module _ {V : Type 0} {H : V → Type 0} (loan : Taken V H → Loan) {X : Type 0
     pub beside_roomier : (t : WindowManager V H) → AreBeside list_loan loan t m → AreBeside list_loan loan t m'
     beside_roomier t beside = record { slots = beside.slots; whole = subst (AreWholeLists (desk_of loan t []).windows) (sym (lists_same beside.slots)) beside.whole }
 
-    pub put_roomier : (kept rest : List ListSlot) (step : ListDesk → ListDesk → Type 0) (t u : WindowManager V H) (n : Lists (TakenList X L)) → LeavesBeside list_loan loan kept rest step t m' u n
+    pub put_roomier : (kept rest : List ListSlot) (step : ListDesk → ListDesk → Type 0) (t u : WindowManager V H) (n : Lists (TakenBox X L)) → LeavesBeside list_loan loan kept rest step t m' u n
         → LeavesBeside list_loan loan kept rest step t m u n
     put_roomier kept rest step t u n leaves o slots cs whole controls lists =
         let left = leaves o slots cs whole controls (subst (AreWholeLists (desk_of loan t []).windows) (sym (lists_same kept)) lists) in
         (left.0, left.1, left.2, subst (λ d. step d (list_desk list_loan loan u o slots cs n rest)) (desk_same t o slots cs kept) left.3)
 
-  module _ {W : Type 0} {K : W → Type 0} (control_loan : TakenControl W K → ControlLoan) (n : NewList) (serial : ℕ) where
+  module _ {W : Type 0} {K : W → Type 0} (control_loan : TakenBox W K → ControlLoan) (n : NewList) (serial : ℕ) where
     -- ---- no bar
 
-    made_plain : (t u : WindowManager V H) (c : Controls (TakenControl W K)) (m m' : Lists (TakenList X L)) (kept rest : List ListSlot) → (n.vertical_bar ≡ false) × (n.horizontal_bar ≡ false)
+    made_plain : (t u : WindowManager V H) (c : Controls (TakenBox W K)) (m m' : Lists (TakenBox X L)) (kept rest : List ListSlot) → (n.vertical_bar ≡ false) × (n.horizontal_bar ≡ false)
         → LeavesBeside list_loan loan kept rest (IsListPut n serial None None) t m u m'
         → (held : List ControlSlot) → LeavesOver list_loan loan control_loan held held kept rest (IsListMade n serial) t c m u c m'
     made_plain t u c m m' kept rest none put held o slots whole controls lists =
@@ -112,7 +110,7 @@ module _ {V : Type 0} {H : V → Type 0} (loan : Taken V H → Loan) {X : Type 0
         )
 
     -- where it was planned first
-    pub put_plain : (t u : WindowManager V H) (c : Controls (TakenControl W K)) (m m' r : Lists (TakenList X L)) (kept rest : List ListSlot) → (n.vertical_bar ≡ false) × (n.horizontal_bar ≡ false) → AreRoomier m m'
+    pub put_plain : (t u : WindowManager V H) (c : Controls (TakenBox W K)) (m m' r : Lists (TakenBox X L)) (kept rest : List ListSlot) → (n.vertical_bar ≡ false) × (n.horizontal_bar ≡ false) → AreRoomier m m'
         → (vertical horizontal : Option ℕ) → vertical ≡ None → horizontal ≡ None → LeavesBeside list_loan loan kept rest (IsListPut n serial vertical horizontal) t m' u r
         → (held : List ControlSlot) → LeavesOver list_loan loan control_loan held held kept rest (IsListMade n serial) t c m u c r
     put_plain t u c m m' r kept rest none same vertical horizontal first second put =
@@ -123,13 +121,13 @@ module _ {V : Type 0} {H : V → Type 0} (loan : Taken V H → Loan) {X : Type 0
     -- ---- one bar
 
     -- what a bar that is made leaves of the lists, and that it was made
-    pub record IsBarDone (new : NewControl) (bar : ℕ) (t u : WindowManager V H) (o : Opened) (slots : List SlotView) (c d : Controls (TakenControl W K)) (held left : List ControlSlot) (m : Lists (TakenList X L)) (kept : List ListSlot) : Type 0 where
+    pub record IsBarDone (new : NewControl) (bar : ℕ) (t u : WindowManager V H) (o : Opened) (slots : List SlotView) (c d : Controls (TakenBox W K)) (held left : List ControlSlot) (m : Lists (TakenBox X L)) (kept : List ListSlot) : Type 0 where
       pub windows : IsWholeManager loan u slots
       pub controls : AreWholeControls (desk_of loan u []).windows (controls_state control_loan d left)
       pub lists : AreWholeLists (desk_of loan u []).windows (lists_state list_loan m kept)
       pub made : IsBarMade true new (Some bar) (list_desk list_loan loan t o slots (controls_state control_loan c held) m kept) (list_desk list_loan loan u o slots (controls_state control_loan d left) m kept)
 
-    pub bar_done : (new : NewControl) (bar : ℕ) (t u : WindowManager V H) (o : Opened) (slots : List SlotView) (c d : Controls (TakenControl W K)) (held left : List ControlSlot) (m : Lists (TakenList X L)) (kept : List ListSlot)
+    pub bar_done : (new : NewControl) (bar : ℕ) (t u : WindowManager V H) (o : Opened) (slots : List SlotView) (c d : Controls (TakenBox W K)) (held left : List ControlSlot) (m : Lists (TakenBox X L)) (kept : List ListSlot)
         → control_records.LeavesOver control_loan loan held left (IsControlStep (control_calls.New new) (Ok (control_reply.Made bar))) t o c u o d
         → IsWholeManager loan t slots → AreWholeControls (desk_of loan t []).windows (controls_state control_loan c held) → AreWholeLists (desk_of loan t []).windows (lists_state list_loan m kept)
         → IsBarDone new bar t u o slots c d held left m kept
@@ -147,9 +145,9 @@ module _ {V : Type 0} {H : V → Type 0} (loan : Taken V H → Loan) {X : Type 0
           made = ((bar, refl, done.2), refl);
         }
 
-    module _ (t u v : WindowManager V H) (c d : Controls (TakenControl W K)) (held left : List ControlSlot) (new : NewControl) (bar : ℕ)
+    module _ (t u v : WindowManager V H) (c d : Controls (TakenBox W K)) (held left : List ControlSlot) (new : NewControl) (bar : ℕ)
         (first : (o : Opened) → control_records.LeavesOver control_loan loan held left (IsControlStep (control_calls.New new) (Ok (control_reply.Made bar))) t o c u o d)
-        (m m' : Lists (TakenList X L)) (kept rest : List ListSlot) where
+        (m m' : Lists (TakenBox X L)) (kept rest : List ListSlot) where
       made_with_vertical : n.vertical_bar ≡ true → n.horizontal_bar ≡ false → new ≡ vertical_bar_of n → LeavesBeside list_loan loan kept rest (IsListPut n serial (Some bar) None) u m v m'
           → LeavesOver list_loan loan control_loan held left kept rest (IsListMade n serial) t c m v d m'
       made_with_vertical wanted other new_is put o slots whole controls lists =
@@ -201,10 +199,10 @@ module _ {V : Type 0} {H : V → Type 0} (loan : Taken V H → Loan) {X : Type 0
 
     -- ---- both bars
 
-    pub made_with_bars : (t u v w : WindowManager V H) (c d e : Controls (TakenControl W K)) (held mid left : List ControlSlot) (vertical horizontal : ℕ)
+    pub made_with_bars : (t u v w : WindowManager V H) (c d e : Controls (TakenBox W K)) (held mid left : List ControlSlot) (vertical horizontal : ℕ)
         → ((o : Opened) → control_records.LeavesOver control_loan loan held mid (IsControlStep (control_calls.New (vertical_bar_of n)) (Ok (control_reply.Made vertical))) t o c u o d)
         → ((o : Opened) → control_records.LeavesOver control_loan loan mid left (IsControlStep (control_calls.New (horizontal_bar_of n)) (Ok (control_reply.Made horizontal))) u o d v o e)
-        → (m m' : Lists (TakenList X L)) (kept rest : List ListSlot) → (n.vertical_bar ≡ true) × (n.horizontal_bar ≡ true)
+        → (m m' : Lists (TakenBox X L)) (kept rest : List ListSlot) → (n.vertical_bar ≡ true) × (n.horizontal_bar ≡ true)
         → LeavesBeside list_loan loan kept rest (IsListPut n serial (Some vertical) (Some horizontal)) v m w m'
         → LeavesOver list_loan loan control_loan held left kept rest (IsListMade n serial) t c m w e m'
     made_with_bars t u v w c d e held mid left vertical horizontal first second m m' kept rest wanted put o slots whole controls lists =

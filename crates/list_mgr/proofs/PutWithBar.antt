@@ -3,13 +3,10 @@ use Rattle.std.proofs.Common.{◌≡◌, ℕ, ◌+◌, ◌<◌, ◌≤◌, Bool,
 use Rattle.std.specs.Prelude.{vec_capacity}
 use Rattle.std.proofs.lemmas.Option.{same_Some}
 use Rattle.window_items.specs.Items.{count_of}
-use Rattle.def_iface.specs.declared.taken.Taken.{Taken}
-use Rattle.def_iface.specs.declared.taken_control.TakenControl.{TakenControl}
-use Rattle.def_iface.specs.declared.taken_list.TakenList.{TakenList}
 use Rattle.def_iface.specs.ControlMeaning.{ControlDefinition, ControlLoan}
 use Rattle.def_iface.specs.ListMeaning.{ListLoan}
-use Rattle.def_iface.specs.Meaning.{Loan}
-use Rattle.def_iface.specs.Slots.{IsTaken}
+use Rattle.def_iface.specs.WindowMeaning.{WindowLoan}
+use Rattle.def_iface.specs.Slots.{IsTaken, TakenBox}
 use Rattle.list_cells.specs.Grids.{Grid, empty_grid}
 use Rattle.list_view.specs.Views.{View}
 use Rattle.list_view.specs.Bars.{horizontal_bar, vertical_bar}
@@ -59,8 +56,8 @@ one_wanted : (v h : Bool) (count : ℕ) (next : Option ℕ) → h ≡ not v → 
 one_wanted true h count next one room = subst (λ x. have_room (1 + (if x then 1 else 0)) count next ≡ true) one room
 one_wanted false h count next one room = subst (λ x. have_room (0 + (if x then 1 else 0)) count next ≡ true) one room
 
-module _ {V : Type 0} {H : V → Type 0} (loan : Taken V H → Loan) {W : Type 0} {K : W → Type 0} (control_loan : TakenControl W K → ControlLoan) {X : Type 0} {L : X → Type 0} (list_loan : TakenList X L → ListLoan)
-    (n : NewList) (k : ListTicket) (d : ControlLoan) (t : WindowManager V H) (c : Controls (TakenControl W K)) (m : Lists (TakenList X L)) (kept : IsKept loan t) (took : IsBarTaken loan control_loan d t c)
+module _ {V : Type 0} {H : V → Type 0} (loan : TakenBox V H → WindowLoan) {W : Type 0} {K : W → Type 0} (control_loan : TakenBox W K → ControlLoan) {X : Type 0} {L : X → Type 0} (list_loan : TakenBox X L → ListLoan)
+    (n : NewList) (k : ListTicket) (d : ControlLoan) (t : WindowManager V H) (c : Controls (TakenBox W K)) (m : Lists (TakenBox X L)) (kept : IsKept loan t) (took : IsBarTaken loan control_loan d t c)
     (lists : AreBeside list_loan loan t m) (may : IsOneBarTicket loan control_loan list_loan n d.definition t c m k) where
   abbrev vertical : Option ControlDefinition
   vertical = if n.vertical_bar then Some d.definition else None
@@ -133,9 +130,9 @@ module _ {V : Type 0} {H : V → Type 0} (loan : Taken V H → Loan) {W : Type 0
           subst (λ (x : NewControl × Ticket). MayGrow x.0 d.definition x.1 w.layers)
           (λ i. (sym (control_is ∙ ap (bar_control n.window) b_is) i, sym (j_is ∙ (λ q. bar_ticket k.window (serial_is q) k.controls (b_is q))) i)) (its_may w lies)
 
-      pub so_planned : (c1 : Controls (TakenControl W K)) (m1 : Lists (TakenList X L)) → IsRoomier c c1 → length c1.list.items.items + 1 ≤ vec_capacity c1.list.items → length m1.list.items.items < vec_capacity m1.list.items
+      pub so_planned : (c1 : Controls (TakenBox W K)) (m1 : Lists (TakenBox X L)) → IsRoomier c c1 → length c1.list.items.items + 1 ≤ vec_capacity c1.list.items → length m1.list.items.items < vec_capacity m1.list.items
           → (w : Window V H) → IsWindowAt t.windows.records.items k.window w → (a : Area) → a ≡ get_or t.areas.items k.window a → (one : Addition) → IsGrown control d.definition j w.layers one
-          → ((u : WindowManager V H) (e : Controls (TakenControl W K)) → IsReadyToAdd loan control_loan control d.definition j w.layers a.update t u e → IsAddition loan control_loan control d.definition u e one)
+          → ((u : WindowManager V H) (e : Controls (TakenBox W K)) → IsReadyToAdd loan control_loan control d.definition j w.layers a.update t u e → IsAddition loan control_loan control d.definition u e one)
           → (p : Planned) → p.cells ≡ empty_grid (nat_abs n.columns) (nat_abs n.rows) → ((u : WindowManager V H) → IsLaidSo loan k.window one.layers one.relaying.update t u → IsPlanOfList loan k one.layers u p.laid)
           → IsPlannedWithBar loan control_loan n k d.definition t c1 m1 (record { bar = b; addition = one; list = p })
       so_planned c1 m1 same space list_space w lies a read one grown planned p cells laid = record {
@@ -170,7 +167,7 @@ module _ {V : Type 0} {H : V → Type 0} (loan : Taken V H → Loan) {W : Type 0
   abbrev a : Area
   a = area_is.item
 
-  module _ (c1 : Controls (TakenControl W K)) (m1 : Lists (TakenList X L)) (same : IsRoomier c c1) (same_lists : AreRoomier m m1) (p : PlannedWithBar) (planned : IsPlannedWithBar loan control_loan n k d.definition t c1 m1 p) where
+  module _ (c1 : Controls (TakenBox W K)) (m1 : Lists (TakenBox X L)) (same : IsRoomier c c1) (same_lists : AreRoomier m m1) (p : PlannedWithBar) (planned : IsPlannedWithBar loan control_loan n k d.definition t c1 m1 p) where
     abbrev j : Ticket
     j = bar_ticket k.window planned.serial k.controls p.bar
 
@@ -199,11 +196,11 @@ module _ {V : Type 0} {H : V → Type 0} (loan : Taken V H → Loan) {W : Type 0
     bar_beside = record { slots = took.before; whole = whole_now took.before took.whole }
 
     -- what adding a control of this bar leaves
-    abbrev Leaves : NewControl → WindowManager V H → Controls (TakenControl W K) → Type 0
+    abbrev Leaves : NewControl → WindowManager V H → Controls (TakenBox W K) → Type 0
     Leaves control u c2 = (before left : List ControlSlot) → IsTaken (λ (x : ControlDefinition). x.stage) control.kind d before left → (o : Opened)
         → control_records.LeavesOver control_loan loan before left (IsControlMade control p.addition.ticket.serial) t o c1 u o c2
 
-    module _ (u : WindowManager V H) (c2 : Controls (TakenControl W K)) (control : NewControl) (control_is : control ≡ bar_control n.window p.bar) (leaves : Leaves control u c2)
+    module _ (u : WindowManager V H) (c2 : Controls (TakenBox W K)) (control : NewControl) (control_is : control ≡ bar_control n.window p.bar) (leaves : Leaves control u c2)
         (put : AreLayersPut p.addition.ticket.window p.addition.layers p.addition.relaying.update t u) where
       done : Leaves (bar_control n.window p.bar) u c2
       done = subst (λ x. Leaves x u c2) control_is leaves
@@ -228,7 +225,7 @@ module _ {V : Type 0} {H : V → Type 0} (loan : Taken V H → Loan) {W : Type 0
             room = planned.list_room;
           }
 
-      pub made : (v : WindowManager V H) (m2 : Lists (TakenList X L)) (bars_vertical bars_horizontal : Option ℕ) → bars_vertical ≡ (if n.vertical_bar then Some p.addition.ticket.serial else None) → bars_horizontal ≡ (if n.vertical_bar then None else Some p.addition.ticket.serial)
+      pub made : (v : WindowManager V H) (m2 : Lists (TakenBox X L)) (bars_vertical bars_horizontal : Option ℕ) → bars_vertical ≡ (if n.vertical_bar then Some p.addition.ticket.serial else None) → bars_horizontal ≡ (if n.vertical_bar then None else Some p.addition.ticket.serial)
           → (held rest : List ControlSlot) (before left : List ListSlot) → IsTaken (λ (x : ControlDefinition). x.stage) scroll_kind d held rest
           → LeavesBeside list_loan loan before left (IsListPut n k.serial bars_vertical bars_horizontal) u m1 v m2
           → LeavesOver list_loan loan control_loan held rest before left (IsListMade n k.serial) t c m v c2 m2

@@ -1,13 +1,10 @@
 -- A list that is put with both scroll bars.
 use Rattle.std.proofs.Common.{◌≡◌, ℕ, ◌+◌, ◌<◌, ◌≤◌, List, [], get_or, Some, refl, sym, ap, ◌∙◌, subst, arith}
 use Rattle.std.specs.Prelude.{vec_capacity}
-use Rattle.def_iface.specs.declared.taken.Taken.{Taken}
-use Rattle.def_iface.specs.declared.taken_control.TakenControl.{TakenControl}
-use Rattle.def_iface.specs.declared.taken_list.TakenList.{TakenList}
 use Rattle.def_iface.specs.ControlMeaning.{ControlDefinition, ControlLoan}
 use Rattle.def_iface.specs.ListMeaning.{ListLoan}
-use Rattle.def_iface.specs.Meaning.{Loan}
-use Rattle.def_iface.specs.Slots.{IsTaken}
+use Rattle.def_iface.specs.WindowMeaning.{WindowLoan}
+use Rattle.def_iface.specs.Slots.{IsTaken, TakenBox}
 use Rattle.desk_call.specs.declared.control.NewControl.{NewControl}
 use Rattle.desk_call.specs.declared.list.NewList.{NewList}
 use Rattle.vis_update.specs.declared.area.Area.{Area}
@@ -43,8 +40,8 @@ use Rattle.list_mgr.proofs.BarAdded.{bar_step, controls_with_bar, kept_with_bar,
 use Rattle.list_mgr.proofs.BarsPlanned as bars
 use Rattle.list_mgr.proofs.PutSteps.{beside_roomier, made_with_bars, place_roomier, put_roomier}
 
-module _ {V : Type 0} {H : V → Type 0} (loan : Taken V H → Loan) {W : Type 0} {K : W → Type 0} (control_loan : TakenControl W K → ControlLoan) {X : Type 0} {L : X → Type 0} (list_loan : TakenList X L → ListLoan)
-    (n : NewList) (k : ListTicket) (d e : ControlLoan) (t : WindowManager V H) (c : Controls (TakenControl W K)) (m : Lists (TakenList X L)) (kept : IsKept loan t) (took : AreBarsTaken loan control_loan d e t c)
+module _ {V : Type 0} {H : V → Type 0} (loan : TakenBox V H → WindowLoan) {W : Type 0} {K : W → Type 0} (control_loan : TakenBox W K → ControlLoan) {X : Type 0} {L : X → Type 0} (list_loan : TakenBox X L → ListLoan)
+    (n : NewList) (k : ListTicket) (d e : ControlLoan) (t : WindowManager V H) (c : Controls (TakenBox W K)) (m : Lists (TakenBox X L)) (kept : IsKept loan t) (took : AreBarsTaken loan control_loan d e t c)
     (lists : AreBeside list_loan loan t m) (may : IsTwoBarTicket loan control_loan list_loan n d.definition e.definition t c m k) where
   abbrev place : IsPlace n t m k
   place = bars.place loan control_loan list_loan n k d e t c m kept took lists may
@@ -82,7 +79,7 @@ module _ {V : Type 0} {H : V → Type 0} (loan : Taken V H → Loan) {W : Type 0
   read : a ≡ get_or t.areas.items k.window a
   read = read_is t.areas.items k.window a area_is.there
 
-  module _ (c1 : Controls (TakenControl W K)) (m1 : Lists (TakenList X L)) (same : IsRoomier c c1) (same_lists : AreRoomier m m1) (p : PlannedWithBars) (planned : IsPlannedWithBars loan control_loan n k d.definition e.definition t c1 m1 p) where
+  module _ (c1 : Controls (TakenBox W K)) (m1 : Lists (TakenBox X L)) (same : IsRoomier c c1) (same_lists : AreRoomier m m1) (p : PlannedWithBars) (planned : IsPlannedWithBars loan control_loan n k d.definition e.definition t c1 m1 p) where
     pub good_first : IsGoodBar p.first
     good_first = subst IsGoodBar (sym planned.first) first_good
 
@@ -123,11 +120,11 @@ module _ {V : Type 0} {H : V → Type 0} (loan : Taken V H → Loan) {W : Type 0
     bar_beside = record { slots = took.before; whole = whole_now }
 
     -- what adding a control with this definition leaves
-    abbrev Leaves : ControlLoan → ℕ → WindowManager V H → Controls (TakenControl W K) → NewControl → WindowManager V H → Controls (TakenControl W K) → Type 0
+    abbrev Leaves : ControlLoan → ℕ → WindowManager V H → Controls (TakenBox W K) → NewControl → WindowManager V H → Controls (TakenBox W K) → Type 0
     Leaves x serial t c1 control u c2 = (before left : List ControlSlot) → IsTaken (λ (y : ControlDefinition). y.stage) control.kind x before left → (o : Opened)
         → control_records.LeavesOver control_loan loan before left (IsControlMade control serial) t o c1 u o c2
 
-    module _ (u : WindowManager V H) (c2 : Controls (TakenControl W K)) (control : NewControl) (control_is : control ≡ bar_control n.window p.first) (leaves : Leaves d p.vertical.ticket.serial t c1 control u c2)
+    module _ (u : WindowManager V H) (c2 : Controls (TakenBox W K)) (control : NewControl) (control_is : control ≡ bar_control n.window p.first) (leaves : Leaves d p.vertical.ticket.serial t c1 control u c2)
         (put : AreLayersPut p.vertical.ticket.window p.vertical.layers p.vertical.relaying.update t u) (more : vec_capacity c1.list.items ≤ vec_capacity c2.list.items) where
       done : Leaves d p.vertical.ticket.serial t c1 new u c2
       done = subst (λ x. Leaves d p.vertical.ticket.serial t c1 x u c2) (control_is ∙ ap (bar_control n.window) planned.first) leaves
@@ -158,7 +155,7 @@ module _ {V : Type 0} {H : V → Type 0} (loan : Taken V H → Loan) {W : Type 0
       same_self : IsRoomier c2 c2
       same_self = record { controls = refl; next = refl; alloc = refl; room = omega arith }
 
-      module _ (v : WindowManager V H) (c3 : Controls (TakenControl W K)) (other : NewControl) (other_is : other ≡ bar_control n.window p.second) (next_leaves : Leaves e p.horizontal.ticket.serial u c2 other v c3)
+      module _ (v : WindowManager V H) (c3 : Controls (TakenBox W K)) (other : NewControl) (other_is : other ≡ bar_control n.window p.second) (next_leaves : Leaves e p.horizontal.ticket.serial u c2 other v c3)
           (next_put : AreLayersPut p.horizontal.ticket.window p.horizontal.layers p.horizontal.relaying.update u v) where
         next_done : Leaves e p.horizontal.ticket.serial u c2 next v c3
         next_done = subst (λ x. Leaves e p.horizontal.ticket.serial u c2 x v c3) (other_is ∙ ap (bar_control n.window) planned.second) next_leaves
@@ -183,7 +180,7 @@ module _ {V : Type 0} {H : V → Type 0} (loan : Taken V H → Loan) {W : Type 0
               room = planned.list_room;
             }
 
-        pub made : (x : WindowManager V H) (m2 : Lists (TakenList X L)) (held mid rest : List ControlSlot) (before left : List ListSlot)
+        pub made : (x : WindowManager V H) (m2 : Lists (TakenBox X L)) (held mid rest : List ControlSlot) (before left : List ListSlot)
             → IsTaken (λ (x : ControlDefinition). x.stage) scroll_kind d held mid → IsTaken (λ (x : ControlDefinition). x.stage) scroll_kind e mid rest
             → LeavesBeside list_loan loan before left (IsListPut n k.serial (Some p.vertical.ticket.serial) (Some p.horizontal.ticket.serial)) v m1 x m2
             → LeavesOver list_loan loan control_loan held rest before left (IsListMade n k.serial) t c m x c3 m2

@@ -6,12 +6,10 @@ use Rattle.std.proofs.lemmas.Option.{slice_get-map}
 use Rattle.std.proofs.lemmas.List.{length-map}
 use Rattle.tb_geom.specs.declared.rect.Rect.{Rect}
 use Rattle.tb_geom.specs.Pixels.{Pixels}
-use Rattle.def_iface.specs.declared.taken.Taken.{Taken}
-use Rattle.def_iface.specs.declared.taken_control.TakenControl.{TakenControl}
-use Rattle.def_iface.specs.declared.taken_list.TakenList.{TakenList}
+use Rattle.def_iface.specs.Slots.{TakenBox}
 use Rattle.def_iface.specs.ControlMeaning.{ControlLoan}
 use Rattle.def_iface.specs.ListMeaning.{ListLoan}
-use Rattle.def_iface.specs.Meaning.{Loan}
+use Rattle.def_iface.specs.WindowMeaning.{WindowLoan}
 use Rattle.def_iface.specs.Stocked.{SlotView}
 use Rattle.window_items.specs.Items.{edit_at}
 use Rattle.desk_call.specs.declared.list.ListOf.{ListOf}
@@ -46,7 +44,7 @@ use Rattle.list_mgr.proofs.Steps.{list_there}
 -- ---- windows whose records are the same
 
 -- a window stands where it stood
-stands_alike : {V : Type 0} {H : V → Type 0} (loan : Taken V H → Loan) (ws vs : List (Window V H)) → map (record_of loan) vs ≡ map (record_of loan) ws → (s i : ℕ) → StandsAt ws s i → StandsAt vs s i
+stands_alike : {V : Type 0} {H : V → Type 0} (loan : TakenBox V H → WindowLoan) (ws vs : List (Window V H)) → map (record_of loan) vs ≡ map (record_of loan) ws → (s i : ℕ) → StandsAt ws s i → StandsAt vs s i
 stands_alike loan ws vs same s i stands =
     let low : i < length vs = subst (λ n. i < n) (sym (length-map ws (record_of loan)) ∙ ap length (sym same) ∙ length-map vs (record_of loan)) stands.0 in
     let w = there_is ws i stands.0 in (
@@ -59,9 +57,9 @@ stands_alike loan ws vs same s i stands =
           ap (λ (r : WindowRecord). r.serial) one ∙ stands.1 w.item (read_is ws i w.item w.there),
     )
 
-module _ {V : Type 0} {H : V → Type 0} (loan : Taken V H → Loan) {X : Type 0} {L : X → Type 0} (list_loan : TakenList X L → ListLoan) where
+module _ {V : Type 0} {H : V → Type 0} (loan : TakenBox V H → WindowLoan) {X : Type 0} {L : X → Type 0} (list_loan : TakenBox X L → ListLoan) where
   -- what shows a list or marks it keeps the windows' records
-  shown_windows : (within : Rect) (mark : Option Pixels) (changes : Bool) (s : ListAt) (m : Lists (TakenList X L)) (t u : WindowManager V H) → IsShownOrMarked list_loan loan within mark changes s m t u
+  shown_windows : (within : Rect) (mark : Option Pixels) (changes : Bool) (s : ListAt) (m : Lists (TakenBox X L)) (t u : WindowManager V H) → IsShownOrMarked list_loan loan within mark changes s m t u
       → (x : KeptList) → slice_get (records_of list_loan m) s.list ≡ Some x → (slots : List SlotView) → IsWholeManager loan t slots
       → IsWholeManager loan u slots × ((desk_of loan u []).windows ≡ (desk_of loan t []).windows)
   shown_windows within None changes s m t u shown x there slots whole =
@@ -75,7 +73,7 @@ module _ {V : Type 0} {H : V → Type 0} (loan : Taken V H → Loan) {X : Type 0
   shown_windows within (Some update) false s m t u same x there slots whole =
       subst (λ v. IsWholeManager loan v slots × ((desk_of loan v []).windows ≡ (desk_of loan t []).windows)) (sym same) (whole, refl)
 
-  module _ (t u : WindowManager V H) (same : (desk_of loan u []).windows ≡ (desk_of loan t []).windows) (m : Lists (TakenList X L)) where
+  module _ (t u : WindowManager V H) (same : (desk_of loan u []).windows ≡ (desk_of loan t []).windows) (m : Lists (TakenBox X L)) where
     -- a list and its window stand where they stood
     pub spot_alike : (l : ListOf) (s : ListAt) → IsSpotOf loan list_loan l t m s → IsSpotOf loan list_loan l u m s
     spot_alike l s is = record {
@@ -90,7 +88,7 @@ module _ {V : Type 0} {H : V → Type 0} (loan : Taken V H → Loan) {X : Type 0
 
   -- ---- once a list was shown or marked
 
-  module _ (t u : WindowManager V H) (m : Lists (TakenList X L)) (s : ListAt) (spot : IsSpot loan list_loan t m s) (kept : IsKept loan t)
+  module _ (t u : WindowManager V H) (m : Lists (TakenBox X L)) (s : ListAt) (spot : IsSpot loan list_loan t m s) (kept : IsKept loan t)
       (within : Rect) (mark : Option Pixels) (changes : Bool) (shown : IsShownOrMarked list_loan loan within mark changes s m t u) where
     left : IsWholeManager loan u kept.slots × ((desk_of loan u []).windows ≡ (desk_of loan t []).windows)
     left = let its = list_there loan list_loan spot.of t m s spot.is in shown_windows within mark changes s m t u shown its.item its.there kept.slots kept.whole
@@ -107,13 +105,13 @@ module _ {V : Type 0} {H : V → Type 0} (loan : Taken V H → Loan) {X : Type 0
     pub spot_shown : IsSpot loan list_loan u m s
     spot_shown = record { of = spot.of; is = spot_of_shown spot.of spot.is }
 
-    pub controls_shown : {W : Type 0} {K : W → Type 0} (control_loan : TakenControl W K → ControlLoan) (c : Controls (TakenControl W K)) → AreControlsBeside control_loan loan t c → AreControlsBeside control_loan loan u c
+    pub controls_shown : {W : Type 0} {K : W → Type 0} (control_loan : TakenBox W K → ControlLoan) (c : Controls (TakenBox W K)) → AreControlsBeside control_loan loan t c → AreControlsBeside control_loan loan u c
     controls_shown control_loan c beside = record { slots = beside.slots; whole = subst (λ ws. AreWholeControls ws (controls_state control_loan c beside.slots)) (sym left.1) beside.whole }
 
   -- ---- a list that was changed
 
   -- the list that stands here was changed so, which keeps its place, its drawing, and that it is settled
-  pub record IsChange (l : ListOf) (t : WindowManager V H) (m n : Lists (TakenList X L)) (s : ListAt) (f : KeptList → KeptList) : Type 0 where
+  pub record IsChange (l : ListOf) (t : WindowManager V H) (m n : Lists (TakenBox X L)) (s : ListAt) (f : KeptList → KeptList) : Type 0 where
     pub is : IsSpotOf loan list_loan l t m s
     pub keeps : Keeps f
     pub draws : (x : KeptList) → (f x).kept.drawing ≡ x.kept.drawing
@@ -121,7 +119,7 @@ module _ {V : Type 0} {H : V → Type 0} (loan : Taken V H → Loan) {X : Type 0
     pub next : n.list.next ≡ m.list.next
     pub stays : (x : KeptList) → slice_get (records_of list_loan m) s.list ≡ Some x → IsSettledList x → IsSettledList (f x)
 
-  module _ (l : ListOf) (t : WindowManager V H) (m n : Lists (TakenList X L)) (s : ListAt) (f : KeptList → KeptList) (change : IsChange l t m n s f) where
+  module _ (l : ListOf) (t : WindowManager V H) (m n : Lists (TakenBox X L)) (s : ListAt) (f : KeptList → KeptList) (change : IsChange l t m n s f) where
     pub beside_changed : AreBeside list_loan loan t m → AreBeside list_loan loan t n
     beside_changed = beside_after loan list_loan l t m n s change.is f change.keeps change.edited change.next change.stays
 
@@ -132,9 +130,9 @@ module _ {V : Type 0} {H : V → Type 0} (loan : Taken V H → Loan) {X : Type 0
     mark_changed = mark_after loan list_loan l t m n s change.is f change.keeps change.edited change.next change.stays change.draws
 
     -- the change shown or marked, and the bars set after it
-    pub relined_over : {W : Type 0} {K : W → Type 0} (control_loan : TakenControl W K → ControlLoan) (within : Rect) → ((x : KeptList) → slice_get (records_of list_loan m) s.list ≡ Some x → IsSettledList x → IsSameOutside within x (f x))
+    pub relined_over : {W : Type 0} {K : W → Type 0} (control_loan : TakenBox W K → ControlLoan) (within : Rect) → ((x : KeptList) → slice_get (records_of list_loan m) s.list ≡ Some x → IsSettledList x → IsSameOutside within x (f x))
         → (mark : Option Pixels) (changes : Bool) → IsMark list_loan loan t m s mark → ((x : KeptList) → slice_get (records_of list_loan m) s.list ≡ Some x → IsSameOrNot changes (f x) x)
-        → (u : WindowManager V H) (c d : Controls (TakenControl W K)) → IsShownWithBars control_loan loan list_loan within mark changes s n t c u d
+        → (u : WindowManager V H) (c d : Controls (TakenBox W K)) → IsShownWithBars control_loan loan list_loan within mark changes s n t c u d
         → LeavesLists list_loan loan control_loan (IsWhereRight (IsRelined l f)) t c m u d n
     relined_over control_loan within outside mark changes marked agree u c d shown held kept o slots whole controls lists =
         by_shown (shown l (spot_of_after loan list_loan l t m n s change.is f change.keeps change.edited change.next change.stays))
@@ -166,8 +164,8 @@ module _ {V : Type 0} {H : V → Type 0} (loan : Taken V H → Loan) {X : Type 0
 
 -- ---- steps that leave controls
 
-module _ {V : Type 0} {H : V → Type 0} (loan : Taken V H → Loan) {X : Type 0} {L : X → Type 0} (list_loan : TakenList X L → ListLoan) {W : Type 0} {K : W → Type 0} (control_loan : TakenControl W K → ControlLoan) where
-  pub leaves_controls : (step : ListDesk → ListDesk → Type 0) (t u : WindowManager V H) (m n : Lists (TakenList X L)) (c : Controls (TakenControl W K))
+module _ {V : Type 0} {H : V → Type 0} (loan : TakenBox V H → WindowLoan) {X : Type 0} {L : X → Type 0} (list_loan : TakenBox X L → ListLoan) {W : Type 0} {K : W → Type 0} (control_loan : TakenBox W K → ControlLoan) where
+  pub leaves_controls : (step : ListDesk → ListDesk → Type 0) (t u : WindowManager V H) (m n : Lists (TakenBox X L)) (c : Controls (TakenBox W K))
       → IsChangedOver list_loan loan step t m u n → LeavesLists list_loan loan control_loan step t c m u c n
   leaves_controls step t u m n c over held kept o slots whole controls lists = again (over o slots (controls_state control_loan c held) kept whole lists)
     where
@@ -178,7 +176,7 @@ module _ {V : Type 0} {H : V → Type 0} (loan : Taken V H → Loan) {X : Type 0
       again (a, windows, b, done) = (a, subst (λ ws. AreWholeControls ws (controls_state control_loan c held)) (sym windows) controls, b, done)
 
   -- what a call leaves is a step of another kind as well
-  pub leaves_as : (P Q : ListDesk → ListDesk → Type 0) (t u : WindowManager V H) (m n : Lists (TakenList X L)) (c d : Controls (TakenControl W K))
+  pub leaves_as : (P Q : ListDesk → ListDesk → Type 0) (t u : WindowManager V H) (m n : Lists (TakenBox X L)) (c d : Controls (TakenBox W K))
       → ((o : Opened) (slots : List SlotView) (held : List ControlSlot) (kept : List ListSlot)
       → P (list_desk list_loan loan t o slots (controls_state control_loan c held) m kept) (list_desk list_loan loan u o slots (controls_state control_loan d held) n kept)
       → Q (list_desk list_loan loan t o slots (controls_state control_loan c held) m kept) (list_desk list_loan loan u o slots (controls_state control_loan d held) n kept))

@@ -8,7 +8,7 @@ use Rattle.std.proofs.lemmas.Bool.{not-false, true≢false}
 use Rattle.list_cells.specs.declared.cell.Cell.{Cell}
 use Rattle.list_view.specs.declared.axis.Axis.{Axis}
 use Rattle.list_view.specs.Views.{View, scrolled}
-use Rattle.def_iface.specs.declared.taken_list.TakenList.{TakenList}
+use Rattle.def_iface.specs.Slots.{TakenBox}
 use Rattle.def_iface.specs.ListMeaning.{ListLoan}
 use Rattle.window_items.specs.declared.item.Item.{Item}
 use Rattle.list_mgr.specs.declared.list_record.ListRecord.{ListRecord}
@@ -65,8 +65,8 @@ other_record false x v w is other = ap (λ view. with_view view x) (sym is ∙ o
 some_same : {Y : Type 0} {a b : Y} → Some a ≡ Some b → a ≡ b
 some_same e = cc
 
-module _ {X : Type 0} {L : X → Type 0} (list_loan : TakenList X L → ListLoan) (m n : Lists (TakenList X L)) (at : ℕ) (columns rows : ℤ)
-    (x : Item (ListRecord (TakenList X L))) (read : slice_get (records_of list_loan m) at ≡ Some (seen list_loan x)) (view : View)
+module _ {X : Type 0} {L : X → Type 0} (list_loan : TakenBox X L → ListLoan) (m n : Lists (TakenBox X L)) (at : ℕ) (columns rows : ℤ)
+    (x : Item (ListRecord (TakenBox X L))) (read : slice_get (records_of list_loan m) at ≡ Some (seen list_loan x)) (view : View)
     (is : view ≡ scrolled x.kept.cells.columns x.kept.cells.rows columns rows x.kept.view) where
   -- the lists, once one of them is scrolled
   pub lists_scrolled : n.list.items.items ≡ edit_at (with_view view) at m.list.items.items

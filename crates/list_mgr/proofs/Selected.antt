@@ -6,11 +6,10 @@ use Rattle.std.proofs.lemmas.List.{ext_get_or}
 use Rattle.tb_geom.specs.declared.rect.Rect.{Rect}
 use Rattle.tb_geom.specs.Pixels.{Pixels}
 use Rattle.tb_geom.specs.Rects.{empty_rect}
-use Rattle.def_iface.specs.declared.part.Part.TheVariants as part
-use Rattle.def_iface.specs.declared.taken.Taken.{Taken}
-use Rattle.def_iface.specs.declared.taken_list.TakenList.{TakenList}
+use Rattle.desk_layers.specs.declared.part.Part.TheVariants as part
+use Rattle.def_iface.specs.Slots.{TakenBox}
 use Rattle.def_iface.specs.ListMeaning.{ListLoan}
-use Rattle.def_iface.specs.Meaning.{Loan}
+use Rattle.def_iface.specs.WindowMeaning.{WindowLoan}
 use Rattle.def_iface.specs.Stocked.{SlotView}
 use Rattle.list_cells.specs.declared.click.SelectionFlags.{SelectionFlags}
 use Rattle.list_cells.specs.declared.selecting.Selecting.{Selecting}
@@ -74,15 +73,15 @@ unseen : (b : Bool) (l : ListOf) (g : Grid → Grid) (x : KeptList) (before afte
 unseen true l g x before after off h = absurd (true≢false off)
 unseen false l g x before after off h = h
 
-module _ {V : Type 0} {H : V → Type 0} (loan : Taken V H → Loan) {X : Type 0} {L : X → Type 0} (list_loan : TakenList X L → ListLoan)
-    (l : ListOf) (t : WindowManager V H) (m : Lists (TakenList X L)) (s : ListAt) (is : IsSpotOf loan list_loan l t m s)
-    (x : Item (ListRecord (TakenList X L))) (read : x ≡ get_or m.list.items.items s.list x)
+module _ {V : Type 0} {H : V → Type 0} (loan : TakenBox V H → WindowLoan) {X : Type 0} {L : X → Type 0} (list_loan : TakenBox X L → ListLoan)
+    (l : ListOf) (t : WindowManager V H) (m : Lists (TakenBox X L)) (s : ListAt) (is : IsSpotOf loan list_loan l t m s)
+    (x : Item (ListRecord (TakenBox X L))) (read : x ≡ get_or m.list.items.items s.list x)
     (h : SelectionFlags → Grid → Grid) (cells : Grid) (now : cells ≡ h x.kept.flags x.kept.cells) (selecting : Selecting) (chosen : IsSelecting x.kept.cells (h x.kept.flags x.kept.cells) selecting)
     (single : x.kept.flags.only_one ≡ true → count_selected x.kept.cells ≤ 1 → count_selected (h x.kept.flags x.kept.cells) ≤ 1) where
   abbrev g : Grid → Grid
   g = h x.kept.flags
 
-  abbrev n : Lists (TakenList X L)
+  abbrev n : Lists (TakenBox X L)
   n = with_cells_there loan list_loan l t m s is x read cells
 
   abbrev y : KeptList

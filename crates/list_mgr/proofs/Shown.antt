@@ -5,12 +5,11 @@ use Rattle.tb_geom.specs.declared.point.Point.{Point}
 use Rattle.tb_geom.specs.declared.rect.Rect.{Rect}
 use Rattle.tb_geom.specs.Points.{PixelSet, minus}
 use Rattle.tb_geom.specs.Pixels.{Pixels, holds}
-use Rattle.def_iface.specs.declared.part.Part.{Part}
-use Rattle.def_iface.specs.declared.part.Part.TheVariants as part
-use Rattle.def_iface.specs.declared.taken.Taken.{Taken}
-use Rattle.def_iface.specs.declared.taken_list.TakenList.{TakenList}
+use Rattle.desk_layers.specs.declared.part.Part.{Part}
+use Rattle.desk_layers.specs.declared.part.Part.TheVariants as part
+use Rattle.def_iface.specs.Slots.{TakenBox}
 use Rattle.def_iface.specs.ListMeaning.{ListLoan}
-use Rattle.def_iface.specs.Meaning.{Loan}
+use Rattle.def_iface.specs.WindowMeaning.{WindowLoan}
 use Rattle.def_iface.specs.Stocked.{SlotView}
 use Rattle.window_list.specs.declared.layer.Layer.{Layer}
 use Rattle.window_list.specs.Holders.{belongs_to}
@@ -40,8 +39,8 @@ use Rattle.list_mgr.proofs.Steps.{list_there}
 of_layer : (within : Rect) (s : ℕ) (l : Layer) (before after : FullState) → IsLayerDrawnWithin within s l before after → IsPartDrawnWithin within s l.part before after
 of_layer within s l before after drawn = record { desk = drawn.desk; redrawn = λ right same. drawn.redrawn right (λ p has out. same p out) }
 
-module _ {V : Type 0} {H : V → Type 0} (loan : Taken V H → Loan) {X : Type 0} {L : X → Type 0} (list_loan : TakenList X L → ListLoan)
-    (t : WindowManager V H) (m : Lists (TakenList X L)) (s : ListAt) (spot : IsSpot loan list_loan t m s) where
+module _ {V : Type 0} {H : V → Type 0} (loan : TakenBox V H → WindowLoan) {X : Type 0} {L : X → Type 0} (list_loan : TakenBox X L → ListLoan)
+    (t : WindowManager V H) (m : Lists (TakenBox X L)) (s : ListAt) (spot : IsSpot loan list_loan t m s) where
   -- its window
   window : IsThere t.windows.records.items s.window
   window = there_is t.windows.records.items s.window spot.is.window.0

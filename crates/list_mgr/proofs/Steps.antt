@@ -5,10 +5,9 @@ use Rattle.std.specs.Option.{option_and_then, option_map}
 use Rattle.tb_geom.specs.declared.refusal.Refusal.{Refusal}
 use Rattle.tb_geom.specs.declared.refusal.Refusal.TheVariants.{NoSuchCell, NoSuchList, NoSuchWindow}
 use Rattle.tb_geom.specs.Refusals.{first_refusal}
-use Rattle.def_iface.specs.declared.taken.Taken.{Taken}
-use Rattle.def_iface.specs.declared.taken_list.TakenList.{TakenList}
+use Rattle.def_iface.specs.Slots.{TakenBox}
 use Rattle.def_iface.specs.ListMeaning.{ListLoan}
-use Rattle.def_iface.specs.Meaning.{Loan}
+use Rattle.def_iface.specs.WindowMeaning.{WindowLoan}
 use Rattle.def_iface.specs.Stocked.{SlotView}
 use Rattle.list_cells.specs.declared.cell.Cell.{Cell}
 use Rattle.list_cells.specs.Grids.{is_cell}
@@ -33,8 +32,8 @@ use Rattle.list_mgr.specs.ListSteps.{IsListEffect, IsListStep}
 use Rattle.list_mgr.specs.Spots.{IsSpotOf}
 use Rattle.list_mgr.specs.WholeLists.{IsToldOver, list_desk, lists_state, records_of}
 
-module _ {V : Type 0} {H : V → Type 0} (loan : Taken V H → Loan) {X : Type 0} {L : X → Type 0} (list_loan : TakenList X L → ListLoan) where
-  pub unchanged : (t : WindowManager V H) (o : Opened) (slots : List SlotView) (cs : ControlsState) (m : Lists (TakenList X L)) (kept : List ListSlot)
+module _ {V : Type 0} {H : V → Type 0} (loan : TakenBox V H → WindowLoan) {X : Type 0} {L : X → Type 0} (list_loan : TakenBox X L → ListLoan) where
+  pub unchanged : (t : WindowManager V H) (o : Opened) (slots : List SlotView) (cs : ControlsState) (m : Lists (TakenBox X L)) (kept : List ListSlot)
       → IsListDeskUnchanged (list_desk list_loan loan t o slots cs m kept) (list_desk list_loan loan t o slots cs m kept)
   unchanged t o slots cs m kept = record {
     desk = record { windows = record { desk = refl; stale = λ p on. refl; image = λ p on. refl }; activity = refl; begun = refl };
@@ -43,12 +42,12 @@ module _ {V : Type 0} {H : V → Type 0} (loan : Taken V H → Loan) {X : Type 0
   }
 
   -- why a call is refused, if it is, whatever is open and whatever stocks hold
-  abbrev pub IsTold : ListCall → WindowManager V H → Lists (TakenList X L) → (List (Bool × Refusal) → Type 0) → Type 0
+  abbrev pub IsTold : ListCall → WindowManager V H → Lists (TakenBox X L) → (List (Bool × Refusal) → Type 0) → Type 0
   IsTold call t m P = (o : Opened) (slots : List SlotView) (cs : ControlsState) (kept : List ListSlot)
       → P (list_refusals call (list_desk list_loan loan t o slots cs m kept).desk.windows.desk cs (lists_state list_loan m kept))
 
   -- a call that is answered
-  pub told : (call : ListCall) (answer : ListReply) (t : WindowManager V H) (m : Lists (TakenList X L)) → IsTold call t m (λ why. first_refusal why ≡ None)
+  pub told : (call : ListCall) (answer : ListReply) (t : WindowManager V H) (m : Lists (TakenBox X L)) → IsTold call t m (λ why. first_refusal why ≡ None)
       → ((o : Opened) (slots : List SlotView) (cs : ControlsState) (kept : List ListSlot)
       → IsListEffect call answer (list_desk list_loan loan t o slots cs m kept) (list_desk list_loan loan t o slots cs m kept))
       → IsToldOver list_loan loan (IsListStep call (Ok answer)) t m
@@ -56,14 +55,14 @@ module _ {V : Type 0} {H : V → Type 0} (loan : Taken V H → Loan) {X : Type 0
 
   -- ---- a list that is there
 
-  module _ (l : ListOf) (t : WindowManager V H) (m : Lists (TakenList X L)) (s : ListAt) (is : IsSpotOf loan list_loan l t m s) where
+  module _ (l : ListOf) (t : WindowManager V H) (m : Lists (TakenBox X L)) (s : ListAt) (is : IsSpotOf loan list_loan l t m s) where
     abbrev ls : List KeptList
     ls = records_of list_loan m
 
     pub list_there : IsThere ls s.list
     list_there = there_is ls s.list (subst (λ n. s.list < n) (sym (length-seen (kept_seen list_loan) m.list.items.items)) is.low)
 
-    pub list_read : (x : Item (ListRecord (TakenList X L))) → x ≡ get_or m.list.items.items s.list x → slice_get ls s.list ≡ Some (seen list_loan x)
+    pub list_read : (x : Item (ListRecord (TakenBox X L))) → x ≡ get_or m.list.items.items s.list x → slice_get ls s.list ≡ Some (seen list_loan x)
     list_read x read = slice_get-seen (kept_seen list_loan) m.list.items.items s.list ∙ ap (option_map (seen list_loan)) (get_is m.list.items.items s.list x is.low read)
 
     pub list_named : (x : KeptList) → slice_get ls s.list ≡ Some x → list_of l ls ≡ Some x

@@ -1,10 +1,9 @@
 -- Scroll bars that are ended with their list, as the code does it.
 use Rattle.std.specs.Prelude.{◌≡◌, ℕ, List, [], Option, None, Some, unwrap_or}
 use Rattle.tb_geom.specs.Pixels.{Pixels}
-use Rattle.def_iface.specs.declared.taken.Taken.{Taken}
-use Rattle.def_iface.specs.declared.taken_control.TakenControl.{TakenControl}
+use Rattle.def_iface.specs.Slots.{TakenBox}
 use Rattle.def_iface.specs.ControlMeaning.{ControlLoan}
-use Rattle.def_iface.specs.Meaning.{Loan}
+use Rattle.def_iface.specs.WindowMeaning.{WindowLoan}
 use Rattle.def_iface.specs.Stocked.{SlotView}
 use Rattle.window_list.specs.Holders.{PlacedLayers}
 use Rattle.desk_call.specs.declared.control.ControlOf.{ControlOf}
@@ -28,19 +27,19 @@ bar_serial bar = unwrap_or bar 0
 abbrev pub bar_of : ℕ → Option ℕ → ControlOf
 bar_of window bar = record { window = window; control = bar_serial bar }
 
-module _ {W : Type 0} {K : W → Type 0} (control_loan : TakenControl W K → ControlLoan) {V : Type 0} {H : V → Type 0} (loan : Taken V H → Loan) where
+module _ {W : Type 0} {K : W → Type 0} (control_loan : TakenBox W K → ControlLoan) {V : Type 0} {H : V → Type 0} (loan : TakenBox V H → WindowLoan) where
   -- the end of a scroll bar was planned, if a list was made with one and the window has it still, and else nothing was
-  abbrev pub IsBarToEnd : ℕ → Option ℕ → WindowManager V H → Controls (TakenControl W K) → Option Ending → Type 0
+  abbrev pub IsBarToEnd : ℕ → Option ℕ → WindowManager V H → Controls (TakenBox W K) → Option Ending → Type 0
   IsBarToEnd window None t m planned = planned ≡ None
   IsBarToEnd window (Some n) t m planned = IsPlannedEnd loan control_loan (record { window = window; control = n }) t m planned
 
   -- so it is for whatever windows and controls it can be ended beside as it was planned beside the windows `t`
   abbrev pub IsBarPlanned : ℕ → Option ℕ → ℕ → PlacedLayers → Pixels → WindowManager V H → Option Ending → Type 0
-  IsBarPlanned window bar at ls update t planned = (u : WindowManager V H) (m : Controls (TakenControl W K))
+  IsBarPlanned window bar at ls update t planned = (u : WindowManager V H) (m : Controls (TakenBox W K))
       → IsReadyToEnd loan control_loan (bar_of window bar) at ls update t u m → IsBarToEnd window bar u m planned
 
   -- over any slots over which the windows are whole, and whatever the lists, a scroll bar is there no more
-  abbrev pub IsBarGoneOver : List ControlSlot → List ControlSlot → ℕ → Option ℕ → WindowManager V H → Controls (TakenControl W K) → WindowManager V H → Controls (TakenControl W K) → Type 0
+  abbrev pub IsBarGoneOver : List ControlSlot → List ControlSlot → ℕ → Option ℕ → WindowManager V H → Controls (TakenBox W K) → WindowManager V H → Controls (TakenBox W K) → Type 0
   IsBarGoneOver held left window bar t c u d = (o : Opened) (slots : List SlotView) (lists : ListsState) → IsWholeManager loan t slots
       → AreWholeControls (desk_of loan t []).windows (controls_state control_loan c held)
       → IsWholeManager loan u slots × AreWholeControls (desk_of loan u []).windows (controls_state control_loan d left)

@@ -4,12 +4,11 @@ use Rattle.tb_geom.specs.declared.point.Point.{Point}
 use Rattle.tb_geom.specs.declared.rect.Rect.{Rect}
 use Rattle.tb_geom.specs.Points.{PixelSet, minus}
 use Rattle.tb_geom.specs.Pixels.{Pixels, holds}
-use Rattle.def_iface.specs.declared.part.Part.{Part}
-use Rattle.def_iface.specs.declared.part.Part.TheVariants as part
-use Rattle.def_iface.specs.declared.taken.Taken.{Taken}
-use Rattle.def_iface.specs.declared.taken_list.TakenList.{TakenList}
+use Rattle.desk_layers.specs.declared.part.Part.{Part}
+use Rattle.desk_layers.specs.declared.part.Part.TheVariants as part
+use Rattle.def_iface.specs.Slots.{TakenBox}
 use Rattle.def_iface.specs.ListMeaning.{ListLoan}
-use Rattle.def_iface.specs.Meaning.{Loan}
+use Rattle.def_iface.specs.WindowMeaning.{WindowLoan}
 use Rattle.def_iface.specs.Stocked.{SlotView}
 use Rattle.window_list.specs.declared.layer.Layer.{Layer}
 use Rattle.list_cells.specs.declared.selecting.Selecting.{Selecting}
@@ -36,27 +35,27 @@ abbrev pub IsSameOrNot : {X : Type 0} → Bool → X → X → Type 0
 IsSameOrNot true after before = after ≡ before → ⊥
 IsSameOrNot false after before = after ≡ before
 
-module _ {X : Type 0} {L : X → Type 0} (list_loan : TakenList X L → ListLoan) where
+module _ {X : Type 0} {L : X → Type 0} (list_loan : TakenBox X L → ListLoan) where
   -- the layer at this place is that of the list that stands here
-  pub record IsItsLayer (m : Lists (TakenList X L)) (s : ListAt) (layers : List Layer) (at : ℕ) : Type 0 where
+  pub record IsItsLayer (m : Lists (TakenBox X L)) (s : ListAt) (layers : List Layer) (at : ℕ) : Type 0 where
     pub list : KeptList
     pub there : slice_get (records_of list_loan m) s.list ≡ Some list
     pub low : at < length layers
     pub is : (k : Layer) → k ≡ slice_index_or layers at k → IsLayerOf list k
 
   -- the list that stands here is drawn
-  abbrev pub IsDrawing : Bool → Lists (TakenList X L) → ListAt → Type 0
+  abbrev pub IsDrawing : Bool → Lists (TakenBox X L) → ListAt → Type 0
   IsDrawing drawing m s = (x : KeptList) × (slice_get (records_of list_loan m) s.list ≡ Some x) × (x.kept.drawing ≡ drawing)
 
-  module _ {V : Type 0} {H : V → Type 0} (loan : Taken V H → Loan) where
+  module _ {V : Type 0} {H : V → Type 0} (loan : TakenBox V H → WindowLoan) where
     -- the region is the update region of the window that the list stands in, with all that the list owns
-    abbrev pub IsMarkedRegion : WindowManager V H → Lists (TakenList X L) → ListAt → Pixels → Type 0
+    abbrev pub IsMarkedRegion : WindowManager V H → Lists (TakenBox X L) → ListAt → Pixels → Type 0
     IsMarkedRegion t m s update = (w : Window V H) (a : Area) (x : KeptList) → IsWindowAt t.windows.records.items s.window w
         → a ≡ slice_index_or t.areas.items s.window a → slice_get (records_of list_loan m) s.list ≡ Some x → (p : Point)
         → holds update p ≡ (holds a.update p || (holds a.visible p && belongs_to (part.List x.serial) w.layers.layers (minus p w.layers.place)))
 
     -- nothing is marked of a list whose drawing is on, and all that it owns of another
-    abbrev pub IsMark : WindowManager V H → Lists (TakenList X L) → ListAt → Option Pixels → Type 0
+    abbrev pub IsMark : WindowManager V H → Lists (TakenBox X L) → ListAt → Option Pixels → Type 0
     IsMark t m s None = IsDrawing true m s
     IsMark t m s (Some update) = IsDrawing false m s × IsMarkedRegion t m s update
 
@@ -67,7 +66,7 @@ module _ {X : Type 0} {L : X → Type 0} (list_loan : TakenList X L → ListLoan
         → IsWholeManager loan u slots × step (state_showing was (state_of loan t slots)) (state_showing is (state_of loan u slots))
 
     -- what it leaves of the windows that the list x, which may have changed, is drawn within a rectangle of its window
-    abbrev pub IsDrawnBy : Rect → Lists (TakenList X L) → KeptList → WindowManager V H → WindowManager V H → Type 0
+    abbrev pub IsDrawnBy : Rect → Lists (TakenBox X L) → KeptList → WindowManager V H → WindowManager V H → Type 0
     IsDrawnBy within m x t u = (was is : List ℕ → Part → PixelSet)
         → ((p : Point) → is t.font (part.List x.serial) p ≡ lists_show (records_of list_loan m) t.font (part.List x.serial) p)
         → LeavesShown (IsPartDrawnWithin within x.window (part.List x.serial)) was is t u
@@ -77,7 +76,7 @@ module _ {X : Type 0} {L : X → Type 0} (list_loan : TakenList X L → ListLoan
     IsListMarkedBy x t u = (was is : List ℕ → Part → PixelSet) → LeavesShown (IsLayerMarked x.window (part.List x.serial)) was is t u
 
     -- the list that stands here was drawn within the rectangle, or marked where its drawing is off and something of it changes
-    abbrev pub IsShownOrMarked : Rect → Option Pixels → Bool → ListAt → Lists (TakenList X L) → WindowManager V H → WindowManager V H → Type 0
+    abbrev pub IsShownOrMarked : Rect → Option Pixels → Bool → ListAt → Lists (TakenBox X L) → WindowManager V H → WindowManager V H → Type 0
     IsShownOrMarked within None changes s m t u = (x : KeptList) → slice_get (records_of list_loan m) s.list ≡ Some x → IsDrawnBy within m x t u
     IsShownOrMarked within (Some update) true s m t u = (x : KeptList) → slice_get (records_of list_loan m) s.list ≡ Some x → IsListMarkedBy x t u
     IsShownOrMarked within (Some update) false s m t u = u ≡ t
@@ -101,5 +100,5 @@ module _ {X : Type 0} {L : X → Type 0} (list_loan : TakenList X L → ListLoan
         (changes : Bool) × IsChange changes x.kept.cells (selected_by selecting x.kept.cells) × IsMarkedIf changes x t u
 
     -- so was the list that stands here
-    abbrev pub IsToggledOrMarked : Option Pixels → Selecting → ListAt → Lists (TakenList X L) → WindowManager V H → WindowManager V H → Type 0
+    abbrev pub IsToggledOrMarked : Option Pixels → Selecting → ListAt → Lists (TakenBox X L) → WindowManager V H → WindowManager V H → Type 0
     IsToggledOrMarked mark selecting s m t u = (x : KeptList) → slice_get (records_of list_loan m) s.list ≡ Some x → IsToggledAs mark selecting s x t u

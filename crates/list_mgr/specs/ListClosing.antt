@@ -1,44 +1,31 @@
 -- What the end of a window or of a desk does to the stock of lists.
-use Rattle.std.specs.Prelude.{◌≡◌, ℕ, List, [], map, All, Contains, Some, slice_get}
-use Rattle.def_iface.specs.declared.window_def.Stage.TheVariants.{Closed}
-use Rattle.def_iface.specs.ListMeaning.{ListDefinition, SameListLook}
+use Rattle.std.specs.Prelude.{ℕ, List}
+use Rattle.def_iface.specs.declared.window_def.Stage.{Stage}
+use Rattle.def_iface.specs.ListMeaning.{ListDefinition, ListLoan, SameListLook}
 use Rattle.def_iface.specs.Slots.{IsFull}
-use Rattle.window_items.specs.Items.{items_of}
-use Rattle.control_mgr.specs.InUse.{AreStocked}
+use Rattle.control_mgr.specs.ItemsClosing as closing
+use Rattle.list_mgr.specs.declared.list_record.ListRecord.{ListRecord}
 use Rattle.list_mgr.specs.ListDesks.{KeptList, ListSlot, ListsState}
-use Rattle.list_mgr.specs.WholeLists.{AreListsApart, slots_of}
+
+-- where a list's definition stands in its life
+abbrev pub stage_of : ListDefinition → Stage
+stage_of d = d.stage
+
+-- the definition that a list has out of its slot
+abbrev pub loan_of : ListRecord ListLoan → ListLoan
+loan_of l = l.definition
 
 -- a slot with a definition that no desk uses
 abbrev pub IsListFull : ListSlot → Type 0
-IsListFull s = IsFull (λ (d : ListDefinition). d.stage) s
-
--- the list's slot is there, with its definition, which is closed
-abbrev pub IsListClosedAt : List ListSlot → KeptList → Type 0
-IsListClosedAt slots l =
-    (s : ListSlot) × (slice_get slots l.kept.definition.slot ≡ Some s)
-    × ((d : ListDefinition) × (s.held ≡ Some d) × (d.stage ≡ Closed) × SameListLook l.kept.definition.definition d)
-
--- the definitions of these lists were closed and put into their slots, and every other slot is as it was
-pub record AreListsClosed (ls : List KeptList) (old new : List ListSlot) : Type 0 where
-  -- the same slots, for the same kinds
-  pub kinds : map (λ s. s.kind) new ≡ map (λ s. s.kind) old
-  -- a slot that had a definition is as it was
-  pub others : (k : ℕ) (s : ListSlot) → slice_get old k ≡ Some s → IsListFull s → slice_get new k ≡ Some s
-  -- the slots of the lists have their definitions, which are closed
-  pub closed : All (IsListClosedAt new) ls
+IsListFull s = IsFull stage_of s
 
 -- the desk's lists, which are these, were disposed of: every slot has a definition that no desk uses
-pub record AreAllListsClosed (ls : List KeptList) (old new : List ListSlot) : Type 0 where
-  pub ended : AreListsClosed ls old new
-  pub full : All IsListFull new
+abbrev pub AreAllListsClosed : List KeptList → List ListSlot → List ListSlot → Type 0
+AreAllListsClosed = closing.AreAllClosed loan_of stage_of SameListLook
+
+abbrev pub items_state : ListsState → closing.ItemsState ListDefinition (ListRecord ListLoan)
+items_state s = record { items = s.lists; next = s.next; stock = s.stock }
 
 -- the lists of a window were disposed of, and those of other windows stay
-pub record AreListsOfLeft (window : ℕ) (before after : ListsState) : Type 0 where
-  pub gone : items_of window after.lists ≡ []
-  pub others : (other : ℕ) → (window ≡ other → ⊥) → items_of other after.lists ≡ items_of other before.lists
-  -- each that stays was there
-  pub within : All (Contains before.lists) after.lists
-  pub apart : AreListsApart before.lists → AreListsApart after.lists
-  pub next : after.next ≡ before.next
-  pub closed : AreListsClosed (items_of window before.lists) before.stock after.stock
-  pub stocked : AreStocked (λ (d : ListDefinition). d.stage) (slots_of after.lists) after.stock
+abbrev pub AreListsOfLeft : ℕ → ListsState → ListsState → Type 0
+AreListsOfLeft window before after = closing.AreLeft loan_of stage_of SameListLook window (items_state before) (items_state after)

@@ -1,15 +1,15 @@
 -- The lists of a desk as plain data, beside its windows and its controls, and what they show.
 use Rattle.std.specs.Prelude.{◌≡◌, ℕ, false, List, Option, slice_get}
-use Rattle.std.specs.List.{position}
 use Rattle.std.specs.Option.{option_and_then, option_map_or}
 use Rattle.tb_geom.specs.Points.{PixelSet}
-use Rattle.def_iface.specs.declared.part.Part.{Part}
-use Rattle.def_iface.specs.declared.part.Part.TheVariants as part
+use Rattle.desk_layers.specs.declared.part.Part.{Part}
+use Rattle.desk_layers.specs.declared.part.Part.TheVariants as part
 use Rattle.def_iface.specs.ListMeaning.{ListDefinition, ListLoan}
 use Rattle.def_iface.specs.Slots.{SlotOf}
 use Rattle.window_items.specs.declared.item.Item.{Item}
 use Rattle.list_mgr.specs.declared.list_record.ListRecord.{ListRecord}
-use Rattle.window_items.specs.Items.{has_serial, item_index}
+use Rattle.window_items.specs.Items.{item_index}
+use Rattle.window_items.specs.Items as items
 use Rattle.list_view.specs.Shown.{list_shown}
 use Rattle.desk_call.specs.declared.list.ListOf.{ListOf}
 use Rattle.window_mgr.specs.DeskStates.{DeskState, IsDeskUnchanged}
@@ -40,7 +40,7 @@ list_of l ls = option_and_then (slice_get ls) (index_of l ls)
 
 -- the list of this serial, in whichever window it is
 abbrev pub with_serial : ℕ → List KeptList → Option KeptList
-with_serial n ls = option_and_then (slice_get ls) (position (has_serial n) ls)
+with_serial n ls = items.with_serial n ls
 
 -- ---- what they show
 

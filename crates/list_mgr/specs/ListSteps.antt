@@ -21,14 +21,14 @@ use Rattle.list_mgr.specs.Fields.{with_cells, with_drawing, with_view}
 use Rattle.list_view.specs.Bars.{horizontal_bar, horizontal_setting, vertical_bar, vertical_setting}
 use Rattle.list_view.specs.Views.{cell_at, scrolled, view_rect}
 use Rattle.list_view.specs.Shown.{is_turned}
-use Rattle.def_iface.specs.declared.part.Part.{Part}
-use Rattle.def_iface.specs.declared.part.Part.TheVariants as part
-use Rattle.def_iface.specs.declared.window_def.Stage.TheVariants.{Closed}
+use Rattle.desk_layers.specs.declared.part.Part.{Part}
+use Rattle.desk_layers.specs.declared.part.Part.TheVariants as part
 use Rattle.def_iface.specs.ListMeaning.{IsListBegun, ListDefinition, ListLoan, SameListLook}
-use Rattle.def_iface.specs.Slots.{IsPutBack, IsTaken, is_left}
-use Rattle.def_iface.specs.Change.{Change, IsChanged, no_change}
-use Rattle.def_iface.specs.Owner.{same_owner}
-use Rattle.def_iface.specs.Owner.Owner.{Content as ContentOf}
+use Rattle.def_iface.specs.Closing as closing
+use Rattle.def_iface.specs.Slots.{IsTaken}
+use Rattle.desk_layers.specs.Change.{Change, IsChanged, no_change}
+use Rattle.desk_layers.specs.Owner.{same_owner}
+use Rattle.desk_layers.specs.Owner.Owner.{Content as ContentOf}
 use Rattle.window_list.specs.declared.layer.Layer.{Layer}
 use Rattle.desk_call.specs.declared.control.ControlCall.TheVariants as control_calls
 use Rattle.desk_call.specs.declared.control.ControlOf.{ControlOf}
@@ -246,12 +246,8 @@ IsListMade n serial before after = (with_vertical with_both : ListDesk) × (vert
     × IsListPut n serial vertical horizontal with_both after
 
 -- the definition was closed and put into its slot, which was empty, and every other slot is as it was
-pub record IsListShut (loan : ListLoan) (old new : List ListSlot) : Type 0 where
-  pub definition : ListDefinition
-  pub closed : definition.stage ≡ Closed
-  pub look : SameListLook loan.definition definition
-  pub left : is_left loan.slot old ≡ true
-  pub back : IsPutBack (record { definition = definition; slot = loan.slot }) old new
+abbrev pub IsListShut : ListLoan → List ListSlot → List ListSlot → Type 0
+IsListShut = closing.IsShut (λ (d : ListDefinition). d.stage) SameListLook
 
 -- the list x is there no more, its definition went back Closed into its slot, and what it owned belongs to what lies under it
 pub record IsListGone (l : ListOf) (x : KeptList) (before after : ListDesk) : Type 0 where

@@ -3,12 +3,10 @@ use Rattle.std.specs.Prelude.{◌≡◌, ℕ, Bool, not, ◌||◌, nat_le, List,
 use Rattle.tb_geom.specs.declared.refusal.Refusal.{Refusal}
 use Rattle.tb_geom.specs.declared.refusal.Refusal.TheVariants.{OutOfRange, TooMany}
 use Rattle.tb_geom.specs.Refusals.{first_refusal}
-use Rattle.def_iface.specs.declared.taken.Taken.{Taken}
-use Rattle.def_iface.specs.declared.taken_control.TakenControl.{TakenControl}
-use Rattle.def_iface.specs.declared.taken_list.TakenList.{TakenList}
+use Rattle.def_iface.specs.Slots.{TakenBox}
 use Rattle.def_iface.specs.ControlMeaning.{ControlDefinition, ControlLoan}
 use Rattle.def_iface.specs.ListMeaning.{ListLoan}
-use Rattle.def_iface.specs.Meaning.{Loan}
+use Rattle.def_iface.specs.WindowMeaning.{WindowLoan}
 use Rattle.window_items.specs.Items as controls
 use Rattle.list_cells.specs.Clicks.{flags_number}
 use Rattle.list_cells.specs.Runs.{new_refusals}
@@ -44,15 +42,15 @@ room_refusals n controls next_control ls next =
     (nat_le most_lists (count_of n.window ls) || is_none next, TooMany)
     ∷ (not (have_room (bars_wanted n) controls next_control), TooMany) ∷ []
 
-module _ {V : Type 0} {H : V → Type 0} (loan : Taken V H → Loan) {W : Type 0} {K : W → Type 0} (control_loan : TakenControl W K → ControlLoan)
-    {X : Type 0} {L : X → Type 0} (list_loan : TakenList X L → ListLoan) where
+module _ {V : Type 0} {H : V → Type 0} (loan : TakenBox V H → WindowLoan) {W : Type 0} {K : W → Type 0} (control_loan : TakenBox W K → ControlLoan)
+    {X : Type 0} {L : X → Type 0} (list_loan : TakenBox X L → ListLoan) where
   -- why a list whose bars would have these definitions, or none, may not be made
-  abbrev pub judged_by : NewList → (vertical horizontal : Option ControlDefinition) → WindowManager V H → Controls (TakenControl W K) → Lists (TakenList X L) → Option Refusal
+  abbrev pub judged_by : NewList → (vertical horizontal : Option ControlDefinition) → WindowManager V H → Controls (TakenBox W K) → Lists (TakenBox X L) → Option Refusal
   judged_by n vertical horizontal t c m =
       first_refusal (judged_refusals n vertical horizontal (desk_of loan t []) (control_records.records_of control_loan c) c.list.next (records_of list_loan m) m.list.next)
 
   -- what a new list is given, where nothing but its definitions and memory can refuse it
-  pub record IsListTicket (n : NewList) (vertical horizontal : Option ControlDefinition) (t : WindowManager V H) (c : Controls (TakenControl W K)) (m : Lists (TakenList X L)) (k : ListTicket) : Type 0 where
+  pub record IsListTicket (n : NewList) (vertical horizontal : Option ControlDefinition) (t : WindowManager V H) (c : Controls (TakenBox W K)) (m : Lists (TakenBox X L)) (k : ListTicket) : Type 0 where
     pub window : StandsAt t.windows.records.items n.window k.window
     pub judged : judged_by n vertical horizontal t c m ≡ None
     pub serial : m.list.next ≡ Some k.serial

@@ -5,14 +5,11 @@ use Rattle.std.specs.Option.{option_map}
 use Rattle.tb_geom.specs.declared.refusal.Refusal.{Refusal}
 use Rattle.tb_geom.specs.declared.refusal.Refusal.TheVariants.{NoDefinition, NoMemory}
 use Rattle.tb_geom.specs.Refusals.{first_refusal}
-use Rattle.def_iface.specs.declared.taken.Taken.{Taken}
-use Rattle.def_iface.specs.declared.taken_control.TakenControl.{TakenControl}
-use Rattle.def_iface.specs.declared.taken_list.TakenList.{TakenList}
 use Rattle.def_iface.specs.declared.window_def.Stage.{Stage}
 use Rattle.def_iface.specs.ControlMeaning.{ControlDefinition, ControlLoan}
 use Rattle.def_iface.specs.ListMeaning.{ListDefinition, ListLoan}
-use Rattle.def_iface.specs.Meaning.{Loan}
-use Rattle.def_iface.specs.Slots.{IsIdle, IsPutBack, IsTaken, LoanOf, SlotOf, first_offer, is_left}
+use Rattle.def_iface.specs.WindowMeaning.{WindowLoan}
+use Rattle.def_iface.specs.Slots.{IsIdle, IsPutBack, IsTaken, LoanOf, SlotOf, first_offer, is_left, TakenBox}
 use Rattle.desk_call.specs.declared.list.NewList.{NewList}
 use Rattle.window_mgr.specs.declared.manager.WindowManager.{WindowManager}
 use Rattle.window_mgr.specs.Records.{desk_of}
@@ -78,7 +75,7 @@ lacks_any n o = is_none o.list || ((n.vertical_bar && is_none o.vertical) || (n.
 abbrev pub definition_of : Option ControlLoan → Option ControlDefinition
 definition_of o = option_map (λ (l : ControlLoan). l.definition) o
 
-module _ {W : Type 0} {K : W → Type 0} (control_loan : TakenControl W K → ControlLoan) {X : Type 0} {L : X → Type 0} (list_loan : TakenList X L → ListLoan) where
+module _ {W : Type 0} {K : W → Type 0} (control_loan : TakenBox W K → ControlLoan) {X : Type 0} {L : X → Type 0} (list_loan : TakenBox X L → ListLoan) where
   -- what these are
   abbrev pub seen_offers : Offers X W L K → Offered
   seen_offers o = record {
@@ -87,19 +84,19 @@ module _ {W : Type 0} {K : W → Type 0} (control_loan : TakenControl W K → Co
     horizontal = option_map control_loan o.horizontal;
   }
 
-  module _ {V : Type 0} {H : V → Type 0} (loan : Taken V H → Loan) where
+  module _ {V : Type 0} {H : V → Type 0} (loan : TakenBox V H → WindowLoan) where
     -- they were taken out of some stocks, over which the controls are whole
-    pub record AreOutBeside (n : NewList) (o : Offered) (t : WindowManager V H) (c : Controls (TakenControl W K)) : Type 0 where
+    pub record AreOutBeside (n : NewList) (o : Offered) (t : WindowManager V H) (c : Controls (TakenBox W K)) : Type 0 where
       pub rest : List ListSlot
       pub left : List ControlSlot
       pub out : AreOut n o rest left
       pub whole : control_records.AreWholeControls (desk_of loan t []).windows (control_records.controls_state control_loan c out.held)
 
     -- why a list that is offered these is not made, want of memory aside
-    abbrev pub why_not : NewList → Offered → WindowManager V H → Controls (TakenControl W K) → Lists (TakenList X L) → Option Refusal
+    abbrev pub why_not : NewList → Offered → WindowManager V H → Controls (TakenBox W K) → Lists (TakenBox X L) → Option Refusal
     why_not n o t c m = first_refusal (judged_refusals n (definition_of o.vertical) (definition_of o.horizontal) (desk_of loan t [])
         (control_records.records_of control_loan c) c.list.next (records_of list_loan m) m.list.next ++ (lacks_any n o, NoDefinition) ∷ [])
 
     -- it is not made for this, or for want of memory where nothing else refuses it
-    abbrev pub IsNotMade : NewList → Offered → WindowManager V H → Controls (TakenControl W K) → Lists (TakenList X L) → Refusal → Type 0
+    abbrev pub IsNotMade : NewList → Offered → WindowManager V H → Controls (TakenBox W K) → Lists (TakenBox X L) → Refusal → Type 0
     IsNotMade n o t c m e = (why_not n o t c m ≡ Some e) ⊎ ((why_not n o t c m ≡ None) × (e ≡ NoMemory))

@@ -3,15 +3,12 @@ use Rattle.std.specs.Prelude.{◌≡◌, ◌+◌, ◌<◌, ◌≤◌, ℕ, true,
 use Rattle.std.specs.List.{insert}
 use Rattle.tb_geom.specs.Pixels.{Pixels}
 use Rattle.tb_geom.specs.Rects.{is_in_range, moved_rect}
-use Rattle.def_iface.specs.declared.part.Part.TheVariants as part
-use Rattle.def_iface.specs.declared.taken.Taken.{Taken}
-use Rattle.def_iface.specs.declared.taken_control.TakenControl.{TakenControl}
-use Rattle.def_iface.specs.declared.taken_list.TakenList.{TakenList}
+use Rattle.desk_layers.specs.declared.part.Part.TheVariants as part
 use Rattle.def_iface.specs.ControlMeaning.{ControlDefinition, ControlLoan}
-use Rattle.def_iface.specs.Desk.{same_part}
+use Rattle.desk_layers.specs.Desk.{same_part}
 use Rattle.def_iface.specs.ListMeaning.{ListLoan}
-use Rattle.def_iface.specs.Meaning.{Loan}
-use Rattle.def_iface.specs.Slots.{IsTaken}
+use Rattle.def_iface.specs.WindowMeaning.{WindowLoan}
+use Rattle.def_iface.specs.Slots.{IsTaken, TakenBox}
 use Rattle.def_iface.specs.Stocked.{SlotView}
 use Rattle.window_list.specs.declared.layer.Layer.{Layer}
 use Rattle.window_list.specs.Holders.{ArePartsApart, PlacedLayers}
@@ -71,7 +68,7 @@ pub record MayLay (k : ListTicket) (ls : PlacedLayers) : Type 0 where
   pub fits : is_in_range (moved_rect (view_rect k.view) ls.place.h ls.place.v) ≡ true
 
 -- `loan` says what a window's definition that was taken means
-module _ {V : Type 0} {H : V → Type 0} (loan : Taken V H → Loan) where
+module _ {V : Type 0} {H : V → Type 0} (loan : TakenBox V H → WindowLoan) where
   -- these layers with that of the list of this ticket behind them, which the window in `u` may have, and what changes by them
   pub record IsPlanOfList (k : ListTicket) (ls : PlacedLayers) (u : WindowManager V H) (l : Laid) : Type 0 where
     pub layer : Layer
@@ -95,7 +92,7 @@ pub record IsPlace {V : Type 0} {H : V → Type 0} {D : Type 0} (n : NewList) (t
   pub few : count_of n.window m.list.items.items < most_lists
 
 -- windows and lists among which the list of this ticket can be put as it was planned
-pub record IsReadyToPut {V : Type 0} {H : V → Type 0} {D : Type 0} (loan : Taken V H → Loan) (n : NewList) (k : ListTicket) (t : WindowManager V H) (m : Lists D) (p : Planned) : Type 0 where
+pub record IsReadyToPut {V : Type 0} {H : V → Type 0} {D : Type 0} (loan : TakenBox V H → WindowLoan) (n : NewList) (k : ListTicket) (t : WindowManager V H) (m : Lists D) (p : Planned) : Type 0 where
   pub place : IsPlace n t m k
   pub cells : p.cells ≡ empty_grid (nat_abs n.columns) (nat_abs n.rows)
   pub layers : PlacedLayers
@@ -106,11 +103,11 @@ pub record IsReadyToPut {V : Type 0} {H : V → Type 0} {D : Type 0} (loan : Tak
 -- ---- lists that are put
 
 -- `list_loan` says it of a list's
-module _ {X : Type 0} {L : X → Type 0} (list_loan : TakenList X L → ListLoan) {V : Type 0} {H : V → Type 0} (loan : Taken V H → Loan) where
+module _ {X : Type 0} {L : X → Type 0} (list_loan : TakenBox X L → ListLoan) {V : Type 0} {H : V → Type 0} (loan : TakenBox V H → WindowLoan) where
   -- over any slots over which the windows are whole, and over these of the lists' stock, whatever the controls that are whole, all
   -- are whole afterwards, the controls as they were, and together they are such a step of the desk
   abbrev pub LeavesBeside : List ListSlot → List ListSlot → (ListDesk → ListDesk → Type 0)
-      → WindowManager V H → Lists (TakenList X L) → WindowManager V H → Lists (TakenList X L) → Type 0
+      → WindowManager V H → Lists (TakenBox X L) → WindowManager V H → Lists (TakenBox X L) → Type 0
   LeavesBeside kept rest step t m u n = (o : Opened) (slots : List SlotView) (cs : ControlsState) → IsWholeManager loan t slots
       → AreWholeControls (desk_of loan t []).windows cs → AreWholeLists (desk_of loan t []).windows (lists_state list_loan m kept)
       → IsWholeManager loan u slots × AreWholeControls (desk_of loan u []).windows cs
@@ -119,9 +116,9 @@ module _ {X : Type 0} {L : X → Type 0} (list_loan : TakenList X L → ListLoan
 
 -- ---- scroll bars
 
-module _ {V : Type 0} {H : V → Type 0} (loan : Taken V H → Loan) {W : Type 0} {K : W → Type 0} (control_loan : TakenControl W K → ControlLoan) where
+module _ {V : Type 0} {H : V → Type 0} (loan : TakenBox V H → WindowLoan) {W : Type 0} {K : W → Type 0} (control_loan : TakenBox W K → ControlLoan) where
   -- a scroll bar's definition was taken out of a stock over which the controls are whole
-  pub record IsBarTaken (d : ControlLoan) (t : WindowManager V H) (c : Controls (TakenControl W K)) : Type 0 where
+  pub record IsBarTaken (d : ControlLoan) (t : WindowManager V H) (c : Controls (TakenBox W K)) : Type 0 where
     pub before : List ControlSlot
     pub left : List ControlSlot
     pub taken : IsTaken (λ (x : ControlDefinition). x.stage) scroll_kind d before left
@@ -130,11 +127,11 @@ module _ {V : Type 0} {H : V → Type 0} (loan : Taken V H → Loan) {W : Type 0
   -- a scroll bar planned over these layers and this update region, and windows and controls to which it can be added
   pub record IsBarPlanned (window : ℕ) (b : Bar) (d : ControlDefinition) (k : Ticket) (ls : PlacedLayers) (update : Pixels) (t : WindowManager V H) (a : Addition) : Type 0 where
     pub grown : IsGrown (bar_control window b) d k ls a
-    pub planned : (u : WindowManager V H) (c : Controls (TakenControl W K)) → IsReadyToAdd loan control_loan (bar_control window b) d k ls update t u c
+    pub planned : (u : WindowManager V H) (c : Controls (TakenBox W K)) → IsReadyToAdd loan control_loan (bar_control window b) d k ls update t u c
         → IsAddition loan control_loan (bar_control window b) d u c a
 
   -- a list planned with the one scroll bar that is wanted
-  pub record IsPlannedWithBar (n : NewList) (k : ListTicket) (d : ControlDefinition) (t : WindowManager V H) {D : Type 0} (c : Controls (TakenControl W K)) (m : Lists D) (p : PlannedWithBar) : Type 0 where
+  pub record IsPlannedWithBar (n : NewList) (k : ListTicket) (d : ControlDefinition) (t : WindowManager V H) {D : Type 0} (c : Controls (TakenBox W K)) (m : Lists D) (p : PlannedWithBar) : Type 0 where
     pub serial : ℕ
     pub next : c.list.next ≡ Some serial
     pub bar : p.bar ≡ (if n.vertical_bar then vertical_of n else horizontal_of n)
@@ -146,14 +143,14 @@ module _ {V : Type 0} {H : V → Type 0} (loan : Taken V H → Loan) {W : Type 0
     pub list_room : length m.list.items.items < vec_capacity m.list.items
 
   -- a list of this ticket may be made with one scroll bar, whichever is wanted, with this definition
-  pub record IsOneBarTicket {X : Type 0} {L : X → Type 0} (list_loan : TakenList X L → ListLoan) (n : NewList) (d : ControlDefinition) (t : WindowManager V H) (c : Controls (TakenControl W K)) (m : Lists (TakenList X L)) (k : ListTicket) : Type 0 where
+  pub record IsOneBarTicket {X : Type 0} {L : X → Type 0} (list_loan : TakenBox X L → ListLoan) (n : NewList) (d : ControlDefinition) (t : WindowManager V H) (c : Controls (TakenBox W K)) (m : Lists (TakenBox X L)) (k : ListTicket) : Type 0 where
     pub one : n.horizontal_bar ≡ not n.vertical_bar
     pub ticket : IsListTicket loan control_loan list_loan n (if n.vertical_bar then Some d else None) (if n.vertical_bar then None else Some d) t c m k
 
   -- ---- both bars
 
   -- two bars' definitions were taken out of a stock over which the controls are whole, one after the other
-  pub record AreBarsTaken (d e : ControlLoan) (t : WindowManager V H) (c : Controls (TakenControl W K)) : Type 0 where
+  pub record AreBarsTaken (d e : ControlLoan) (t : WindowManager V H) (c : Controls (TakenBox W K)) : Type 0 where
     pub before : List ControlSlot
     pub mid : List ControlSlot
     pub left : List ControlSlot
@@ -162,7 +159,7 @@ module _ {V : Type 0} {H : V → Type 0} (loan : Taken V H → Loan) {W : Type 0
     pub whole : AreWholeControls (desk_of loan t []).windows (controls_state control_loan c before)
 
   -- a list planned with both
-  pub record IsPlannedWithBars (n : NewList) (k : ListTicket) (d e : ControlDefinition) (t : WindowManager V H) {D : Type 0} (c : Controls (TakenControl W K)) (m : Lists D) (p : PlannedWithBars) : Type 0 where
+  pub record IsPlannedWithBars (n : NewList) (k : ListTicket) (d e : ControlDefinition) (t : WindowManager V H) {D : Type 0} (c : Controls (TakenBox W K)) (m : Lists D) (p : PlannedWithBars) : Type 0 where
     pub serial : ℕ
     pub next : c.list.next ≡ Some serial
     pub first : p.first ≡ vertical_of n
@@ -176,7 +173,7 @@ module _ {V : Type 0} {H : V → Type 0} (loan : Taken V H → Loan) {W : Type 0
     pub list_room : length m.list.items.items < vec_capacity m.list.items
 
   -- a list of this ticket may be made with both scroll bars, with these definitions
-  pub record IsTwoBarTicket {X : Type 0} {L : X → Type 0} (list_loan : TakenList X L → ListLoan) (n : NewList) (d e : ControlDefinition) (t : WindowManager V H) (c : Controls (TakenControl W K)) (m : Lists (TakenList X L)) (k : ListTicket) : Type 0 where
+  pub record IsTwoBarTicket {X : Type 0} {L : X → Type 0} (list_loan : TakenBox X L → ListLoan) (n : NewList) (d e : ControlDefinition) (t : WindowManager V H) (c : Controls (TakenBox W K)) (m : Lists (TakenBox X L)) (k : ListTicket) : Type 0 where
     pub vertical_wanted : n.vertical_bar ≡ true
     pub horizontal_wanted : n.horizontal_bar ≡ true
     pub ticket : IsListTicket loan control_loan list_loan n (Some d) (Some e) t c m k

@@ -1,18 +1,16 @@
 -- What holds of the lists of a desk and of their stock between calls, and their state as plain data.
-use Rattle.std.specs.Prelude.{◌≡◌, ◌≤◌, ◌≤ℤ◌, ℕ, true, false, not, List, [], ◌∷◌, length, map, All}
-use Rattle.std.specs.List.{filter, list_any}
-use Rattle.def_iface.specs.declared.taken.Taken.{Taken}
-use Rattle.def_iface.specs.declared.taken_control.TakenControl.{TakenControl}
-use Rattle.def_iface.specs.declared.taken_list.TakenList.{TakenList}
+use Rattle.std.specs.Prelude.{◌≡◌, ◌≤◌, ◌≤ℤ◌, ℕ, true, false, not, List, [], length, map, All}
+use Rattle.std.specs.List.{filter}
+use Rattle.def_iface.specs.Slots.{TakenBox}
 use Rattle.def_iface.specs.declared.size.Size.{Size}
 use Rattle.def_iface.specs.declared.window_def.Stage.TheVariants.{Live}
 use Rattle.def_iface.specs.ControlMeaning.{ControlLoan}
 use Rattle.def_iface.specs.ListMeaning.{ListDefinition, ListGoesBy, ListLoan}
-use Rattle.def_iface.specs.Meaning.{Loan}
+use Rattle.def_iface.specs.WindowMeaning.{WindowLoan}
 use Rattle.def_iface.specs.Stocked.{SlotView}
 use Rattle.list_cells.specs.Contents.{bytes_held}
 use Rattle.list_cells.specs.Grids.{Grid, IsGrid}
-use Rattle.window_items.specs.Items.{are_before, count_of, has_serial, items_of}
+use Rattle.window_items.specs.Items.{AreApart, are_before, count_of, items_of}
 use Rattle.list_mgr.specs.Seen.{all_seen}
 use Rattle.list_view.specs.Axes.{bound}
 use Rattle.list_view.specs.Views.{IsView, View}
@@ -62,8 +60,7 @@ AreSettled ls = All IsSettledList ls
 
 -- each of another serial
 abbrev pub AreListsApart : List KeptList → Type 0
-AreListsApart [] = Unit {0}
-AreListsApart (l ∷ ls) = (list_any (has_serial l.serial) ls ≡ false) × AreListsApart ls
+AreListsApart ls = AreApart ls
 
 abbrev pub AreLiveLists : List KeptList → Type 0
 AreLiveLists ls = All (λ l. l.kept.definition.definition.stage ≡ Live) ls
@@ -85,23 +82,23 @@ pub record AreWholeLists (windows : List WindowRecord) (s : ListsState) : Type 0
   pub stocked : AreStocked (λ (d : ListDefinition). d.stage) (slots_of s.lists) s.stock
 
 -- `list_loan` says what a list's definition that was taken means
-module _ {X : Type 0} {L : X → Type 0} (list_loan : TakenList X L → ListLoan) where
+module _ {X : Type 0} {L : X → Type 0} (list_loan : TakenBox X L → ListLoan) where
   -- the lists as plain data
-  abbrev pub records_of : Lists (TakenList X L) → List KeptList
+  abbrev pub records_of : Lists (TakenBox X L) → List KeptList
   records_of m = all_seen list_loan m.list.items.items
 
-  abbrev pub lists_state : Lists (TakenList X L) → List ListSlot → ListsState
+  abbrev pub lists_state : Lists (TakenBox X L) → List ListSlot → ListsState
   lists_state m slots = record { lists = records_of m; next = m.list.next; stock = slots }
 
   -- `loan` says it of a window's
-  module _ {V : Type 0} {H : V → Type 0} (loan : Taken V H → Loan) where
+  module _ {V : Type 0} {H : V → Type 0} (loan : TakenBox V H → WindowLoan) where
     -- the lists are whole beside these windows over some slots
-    pub record AreBeside (t : WindowManager V H) (m : Lists (TakenList X L)) : Type 0 where
+    pub record AreBeside (t : WindowManager V H) (m : Lists (TakenBox X L)) : Type 0 where
       pub slots : List ListSlot
       pub whole : AreWholeLists (desk_of loan t []).windows (lists_state m slots)
 
     -- windows, controls and lists with what is open, as a desk
-    abbrev pub list_desk : WindowManager V H → Opened → List SlotView → ControlsState → Lists (TakenList X L) → List ListSlot → ListDesk
+    abbrev pub list_desk : WindowManager V H → Opened → List SlotView → ControlsState → Lists (TakenBox X L) → List ListSlot → ListDesk
     list_desk t o slots cs m kept = record {
       desk = desk_with o (state_showing (controls_show (lists_show (records_of m)) cs.controls) (state_of loan t slots));
       controls = cs;
@@ -110,14 +107,14 @@ module _ {X : Type 0} {L : X → Type 0} (list_loan : TakenList X L → ListLoan
 
     -- a call that asks something changes nothing: over any slots over which windows and lists are whole, and whatever the controls,
     -- together they are such a step of the desk
-    abbrev pub IsToldOver : (ListDesk → ListDesk → Type 0) → WindowManager V H → Lists (TakenList X L) → Type 0
+    abbrev pub IsToldOver : (ListDesk → ListDesk → Type 0) → WindowManager V H → Lists (TakenBox X L) → Type 0
     IsToldOver step t m = (o : Opened) (slots : List SlotView) (cs : ControlsState) (kept : List ListSlot) → IsWholeManager loan t slots
         → AreWholeLists (desk_of loan t []).windows (lists_state m kept)
         → step (list_desk t o slots cs m kept) (list_desk t o slots cs m kept)
 
     -- a call that leaves the windows' records, controls and stocks: over any slots over which windows and lists are whole, and
     -- whatever the controls, they are whole afterwards, and together they are such a step of the desk
-    abbrev pub IsChangedOver : (ListDesk → ListDesk → Type 0) → WindowManager V H → Lists (TakenList X L) → WindowManager V H → Lists (TakenList X L) → Type 0
+    abbrev pub IsChangedOver : (ListDesk → ListDesk → Type 0) → WindowManager V H → Lists (TakenBox X L) → WindowManager V H → Lists (TakenBox X L) → Type 0
     IsChangedOver step t m u n = (o : Opened) (slots : List SlotView) (cs : ControlsState) (kept : List ListSlot) → IsWholeManager loan t slots
         → AreWholeLists (desk_of loan t []).windows (lists_state m kept)
         → IsWholeManager loan u slots × ((desk_of loan u []).windows ≡ (desk_of loan t []).windows)
@@ -125,12 +122,12 @@ module _ {X : Type 0} {L : X → Type 0} (list_loan : TakenList X L → ListLoan
         × step (list_desk t o slots cs m kept) (list_desk u o slots cs n kept)
 
     -- `control_loan` says it of a control's
-    module _ {W : Type 0} {K : W → Type 0} (control_loan : TakenControl W K → ControlLoan) where
+    module _ {W : Type 0} {K : W → Type 0} (control_loan : TakenBox W K → ControlLoan) where
       -- over any slots over which the windows are whole, and over these of the stocks of controls and of lists, all are whole
       -- afterwards, and together they are such a step of the desk
       abbrev pub LeavesOver : List ControlSlot → List ControlSlot → List ListSlot → List ListSlot → (ListDesk → ListDesk → Type 0)
-          → WindowManager V H → Controls (TakenControl W K) → Lists (TakenList X L)
-          → WindowManager V H → Controls (TakenControl W K) → Lists (TakenList X L) → Type 0
+          → WindowManager V H → Controls (TakenBox W K) → Lists (TakenBox X L)
+          → WindowManager V H → Controls (TakenBox W K) → Lists (TakenBox X L) → Type 0
       LeavesOver held left kept rest step t c m u d n = (o : Opened) (slots : List SlotView) → IsWholeManager loan t slots
           → AreWholeControls (desk_of loan t []).windows (controls_state control_loan c held)
           → AreWholeLists (desk_of loan t []).windows (lists_state m kept)
@@ -141,6 +138,6 @@ module _ {X : Type 0} {L : X → Type 0} (list_loan : TakenList X L → ListLoan
 
       -- so over any slots of these stocks, which a call leaves alone
       abbrev pub LeavesLists : (ListDesk → ListDesk → Type 0)
-          → WindowManager V H → Controls (TakenControl W K) → Lists (TakenList X L)
-          → WindowManager V H → Controls (TakenControl W K) → Lists (TakenList X L) → Type 0
+          → WindowManager V H → Controls (TakenBox W K) → Lists (TakenBox X L)
+          → WindowManager V H → Controls (TakenBox W K) → Lists (TakenBox X L) → Type 0
       LeavesLists step t c m u d n = (held : List ControlSlot) (kept : List ListSlot) → LeavesOver held held kept kept step t c m u d n

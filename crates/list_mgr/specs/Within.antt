@@ -4,7 +4,7 @@ use Rattle.tb_geom.specs.declared.point.Point.{Point}
 use Rattle.tb_geom.specs.declared.rect.Rect.{Rect}
 use Rattle.tb_geom.specs.Rects.{rect_holds}
 use Rattle.control_values.specs.Settings.{Setting}
-use Rattle.def_iface.specs.declared.part.Part.{Part}
+use Rattle.desk_layers.specs.declared.part.Part.{Part}
 use Rattle.window_mgr.specs.FullDesk.{FullState, IsRightState}
 use Rattle.window_mgr.specs.Relayered.{IsLayerRedrawn}
 use Rattle.list_mgr.specs.ListDesks.{KeptList, ListDesk, list_bit}

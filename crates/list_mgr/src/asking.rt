@@ -5,7 +5,7 @@ ghost use Rattle.list_mgr.specs.ListSteps.{IsListStep};
 ghost use Rattle.list_mgr.specs.WholeLists.{IsToldOver};
 
 use crate::Lists;
-use def_iface::{Defined, DefinedList, Taken, TakenList};
+use def_iface::{Defined, TakenList, TakenWindow};
 use desk_call::{CellOf, CellText, ListReply, NextOfCell};
 use tb_geom::Refusal;
 use window_mgr::WindowManager;
@@ -13,8 +13,8 @@ use window_mgr::WindowManager;
 impl Lists<TakenList> {
     /// The data of a cell.
     pub(crate) fn data(&self, windows: &WindowManager, asked: CellOf) -> Result<ListReply, Refusal>
-        requires { IsKept ⟦<Taken as Defined>⟧.loan windows.now }
-        ensures { IsToldOver ⟦<TakenList as DefinedList>⟧.list_loan ⟦<Taken as Defined>⟧.loan
+        requires { IsKept ⟦<TakenWindow as Defined>⟧.loan windows.now }
+        ensures { IsToldOver ⟦<TakenList as Defined>⟧.loan ⟦<TakenWindow as Defined>⟧.loan
             (IsListStep (asks.GetCell asked) result) windows.now self.now }
     {
         let spot = self.spot(windows, asked.list)?;
@@ -30,8 +30,8 @@ impl Lists<TakenList> {
         windows: &WindowManager,
         asked: CellOf,
     ) -> Result<ListReply, Refusal>
-        requires { IsKept ⟦<Taken as Defined>⟧.loan windows.now }
-        ensures { IsToldOver ⟦<TakenList as DefinedList>⟧.list_loan ⟦<Taken as Defined>⟧.loan
+        requires { IsKept ⟦<TakenWindow as Defined>⟧.loan windows.now }
+        ensures { IsToldOver ⟦<TakenList as Defined>⟧.loan ⟦<TakenWindow as Defined>⟧.loan
             (IsListStep (asks.IsSelected asked) result) windows.now self.now }
     {
         let spot = self.spot(windows, asked.list)?;
@@ -48,8 +48,8 @@ impl Lists<TakenList> {
         windows: &WindowManager,
         asked: CellOf,
     ) -> Result<ListReply, Refusal>
-        requires { IsKept ⟦<Taken as Defined>⟧.loan windows.now }
-        ensures { IsToldOver ⟦<TakenList as DefinedList>⟧.list_loan ⟦<Taken as Defined>⟧.loan
+        requires { IsKept ⟦<TakenWindow as Defined>⟧.loan windows.now }
+        ensures { IsToldOver ⟦<TakenList as Defined>⟧.loan ⟦<TakenWindow as Defined>⟧.loan
             (IsListStep (asks.FirstSelected asked) result) windows.now self.now }
     {
         let spot = self.spot(windows, asked.list)?;
@@ -66,8 +66,8 @@ impl Lists<TakenList> {
         windows: &WindowManager,
         asked: NextOfCell,
     ) -> Result<ListReply, Refusal>
-        requires { IsKept ⟦<Taken as Defined>⟧.loan windows.now }
-        ensures { IsToldOver ⟦<TakenList as DefinedList>⟧.list_loan ⟦<Taken as Defined>⟧.loan
+        requires { IsKept ⟦<TakenWindow as Defined>⟧.loan windows.now }
+        ensures { IsToldOver ⟦<TakenList as Defined>⟧.loan ⟦<TakenWindow as Defined>⟧.loan
             (IsListStep (asks.NextCell asked) result) windows.now self.now }
     {
         let spot = self.spot(windows, asked.cell.list)?;
@@ -82,8 +82,8 @@ impl Lists<TakenList> {
         windows: &WindowManager,
         asked: &CellText<'_>,
     ) -> Result<ListReply, Refusal>
-        requires { IsKept ⟦<Taken as Defined>⟧.loan windows.now }
-        ensures { IsToldOver ⟦<TakenList as DefinedList>⟧.list_loan ⟦<Taken as Defined>⟧.loan
+        requires { IsKept ⟦<TakenWindow as Defined>⟧.loan windows.now }
+        ensures { IsToldOver ⟦<TakenList as Defined>⟧.loan ⟦<TakenWindow as Defined>⟧.loan
             (IsListStep (asks.Search asked.now) result) windows.now self.now }
     {
         let spot = self.spot(windows, asked.cell.list)?;

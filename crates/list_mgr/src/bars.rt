@@ -12,7 +12,7 @@ use crate::Lists;
 use crate::spots::ListAt;
 use control_mgr::Controls;
 use control_values::ControlValues;
-use def_iface::{Defined, DefinedControl, DefinedList, Taken, TakenControl, TakenList};
+use def_iface::{Defined, TakenControl, TakenList, TakenWindow};
 use desk_call::ControlOf;
 use window_mgr::WindowManager;
 
@@ -24,9 +24,11 @@ fn set_bar(
     bar: Option<u64>,
     values: ControlValues,
 )
-    requires kept { IsKept ⟦<Taken as Defined>⟧.loan windows.old }
-    requires beside { AreControlsBeside ⟦<TakenControl as DefinedControl>⟧.control_loan ⟦<Taken as Defined>⟧.loan windows.old controls.old }
-    ensures { IsBarSetOver ⟦<TakenControl as DefinedControl>⟧.control_loan ⟦<Taken as Defined>⟧.loan window bar values windows.old controls.old windows.new controls.new }
+    requires kept { IsKept ⟦<TakenWindow as Defined>⟧.loan windows.old }
+    requires beside { AreControlsBeside ⟦<TakenControl as Defined>⟧.loan ⟦<TakenWindow as Defined>⟧.loan windows.old
+        controls.old }
+    ensures { IsBarSetOver ⟦<TakenControl as Defined>⟧.loan ⟦<TakenWindow as Defined>⟧.loan window bar values
+        windows.old controls.old windows.new controls.new }
 {
     if let Some(control) = bar {
         controls.set_setting(windows, ControlOf { window, control }, values);
@@ -41,12 +43,15 @@ impl Lists<TakenList> {
         controls: &mut Controls<TakenControl>,
         spot: ListAt,
     )
-        requires kept { IsKept ⟦<Taken as Defined>⟧.loan windows.old }
-        requires beside { AreControlsBeside ⟦<TakenControl as DefinedControl>⟧.control_loan ⟦<Taken as Defined>⟧.loan windows.old controls.old }
-        requires lists { AreBeside ⟦<TakenList as DefinedList>⟧.list_loan ⟦<Taken as Defined>⟧.loan windows.old self.now }
-        requires spot { IsSpot ⟦<Taken as Defined>⟧.loan ⟦<TakenList as DefinedList>⟧.list_loan windows.old self.now spot }
-        ensures { (l : Named) → IsSpotOf ⟦<Taken as Defined>⟧.loan ⟦<TakenList as DefinedList>⟧.list_loan l windows.old self.now spot
-            → LeavesLists ⟦<TakenList as DefinedList>⟧.list_loan ⟦<Taken as Defined>⟧.loan ⟦<TakenControl as DefinedControl>⟧.control_loan (IsWhereRight (AreBarsSet l)) windows.old controls.old self.now windows.new controls.new self.now }
+        requires kept { IsKept ⟦<TakenWindow as Defined>⟧.loan windows.old }
+        requires beside { AreControlsBeside ⟦<TakenControl as Defined>⟧.loan ⟦<TakenWindow as Defined>⟧.loan windows.old
+            controls.old }
+        requires lists { AreBeside ⟦<TakenList as Defined>⟧.loan ⟦<TakenWindow as Defined>⟧.loan windows.old self.now }
+        requires spot { IsSpot ⟦<TakenWindow as Defined>⟧.loan ⟦<TakenList as Defined>⟧.loan windows.old self.now spot }
+        ensures { (l : Named) → IsSpotOf ⟦<TakenWindow as Defined>⟧.loan ⟦<TakenList as Defined>⟧.loan l windows.old
+            self.now spot
+            → LeavesLists ⟦<TakenList as Defined>⟧.loan ⟦<TakenWindow as Defined>⟧.loan ⟦<TakenControl as Defined>⟧.loan
+            (IsWhereRight (AreBarsSet l)) windows.old controls.old self.now windows.new controls.new self.now }
     {
         let list = &self.list.items[spot.list];
         let down = list.kept.view.vertical_values(list.kept.cells.rows());

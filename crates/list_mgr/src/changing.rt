@@ -12,8 +12,9 @@ ghost use Rattle.list_mgr.specs.Within.{IsWhereRight};
 
 use crate::Lists;
 use crate::spots::ListAt;
-use def_iface::{Defined, DefinedList, Part, Taken, TakenList};
+use def_iface::{Defined, TakenList, TakenWindow};
 use desk_call::{CellOf, CellText, ListDrawing, ListReply};
+use desk_layers::Part;
 use scan_region::Region;
 use std::alloc::AllocError;
 use tb_geom::{Rect, Refusal};
@@ -30,10 +31,10 @@ fn differ(old: &[u8], new: &[u8]) -> bool
 impl Lists<TakenList> {
     /// The index of a list's layer among the layers of its window.
     pub(crate) fn layer(&self, windows: &WindowManager, spot: ListAt) -> usize
-        requires beside { AreBeside ⟦<TakenList as DefinedList>⟧.list_loan ⟦<Taken as Defined>⟧.loan windows.now self.now }
-        requires spot { IsSpot ⟦<Taken as Defined>⟧.loan ⟦<TakenList as DefinedList>⟧.list_loan windows.now self.now spot }
+        requires beside { AreBeside ⟦<TakenList as Defined>⟧.loan ⟦<TakenWindow as Defined>⟧.loan windows.now self.now }
+        requires spot { IsSpot ⟦<TakenWindow as Defined>⟧.loan ⟦<TakenList as Defined>⟧.loan windows.now self.now spot }
         ensures { (w : _) → IsWindowAt windows.now.windows.records.items spot.window w
-            → IsItsLayer ⟦<TakenList as DefinedList>⟧.list_loan self.now spot w.layers.layers result }
+            → IsItsLayer ⟦<TakenList as Defined>⟧.loan self.now spot w.layers.layers result }
     {
         let serial = self.list.items[spot.list].serial;
         let layers = &windows.list().at(spot.window).layers;
@@ -47,11 +48,12 @@ impl Lists<TakenList> {
         windows: &WindowManager,
         spot: ListAt,
     ) -> Result<Option<Region>, AllocError>
-        requires kept { IsKept ⟦<Taken as Defined>⟧.loan windows.now }
-        requires beside { AreBeside ⟦<TakenList as DefinedList>⟧.list_loan ⟦<Taken as Defined>⟧.loan windows.now self.now }
-        requires spot { IsSpot ⟦<Taken as Defined>⟧.loan ⟦<TakenList as DefinedList>⟧.list_loan windows.now self.now spot }
-        ensures { MatchResult result (IsMark ⟦<TakenList as DefinedList>⟧.list_loan ⟦<Taken as Defined>⟧.loan windows.now self.now spot)
-            (λ _. IsDrawing ⟦<TakenList as DefinedList>⟧.list_loan false self.now spot) }
+        requires kept { IsKept ⟦<TakenWindow as Defined>⟧.loan windows.now }
+        requires beside { AreBeside ⟦<TakenList as Defined>⟧.loan ⟦<TakenWindow as Defined>⟧.loan windows.now self.now }
+        requires spot { IsSpot ⟦<TakenWindow as Defined>⟧.loan ⟦<TakenList as Defined>⟧.loan windows.now self.now spot }
+        ensures { MatchResult result (IsMark ⟦<TakenList as Defined>⟧.loan ⟦<TakenWindow as Defined>⟧.loan windows.now
+            self.now spot)
+            (λ _. IsDrawing ⟦<TakenList as Defined>⟧.loan false self.now spot) }
     {
         if self.list.items[spot.list].kept.drawing {
             return Ok(None);
@@ -74,11 +76,13 @@ impl Lists<TakenList> {
         mark: Option<Region>,
         changes: bool,
     )
-        requires kept { IsKept ⟦<Taken as Defined>⟧.loan windows.old }
-        requires beside { AreBeside ⟦<TakenList as DefinedList>⟧.list_loan ⟦<Taken as Defined>⟧.loan windows.old self.now }
-        requires spot { IsSpot ⟦<Taken as Defined>⟧.loan ⟦<TakenList as DefinedList>⟧.list_loan windows.old self.now spot }
-        requires mark { IsMark ⟦<TakenList as DefinedList>⟧.list_loan ⟦<Taken as Defined>⟧.loan windows.old self.now spot mark }
-        ensures { IsShownOrMarked ⟦<TakenList as DefinedList>⟧.list_loan ⟦<Taken as Defined>⟧.loan within mark changes spot self.now windows.old windows.new }
+        requires kept { IsKept ⟦<TakenWindow as Defined>⟧.loan windows.old }
+        requires beside { AreBeside ⟦<TakenList as Defined>⟧.loan ⟦<TakenWindow as Defined>⟧.loan windows.old self.now }
+        requires spot { IsSpot ⟦<TakenWindow as Defined>⟧.loan ⟦<TakenList as Defined>⟧.loan windows.old self.now spot }
+        requires mark { IsMark ⟦<TakenList as Defined>⟧.loan ⟦<TakenWindow as Defined>⟧.loan windows.old self.now spot
+            mark }
+        ensures { IsShownOrMarked ⟦<TakenList as Defined>⟧.loan ⟦<TakenWindow as Defined>⟧.loan within mark changes spot
+            self.now windows.old windows.new }
     {
         match mark {
             None => {
@@ -99,9 +103,9 @@ impl Lists<TakenList> {
         windows: &mut WindowManager,
         set: &CellText<'_>,
     ) -> Result<ListReply, Refusal>
-        requires kept { IsKept ⟦<Taken as Defined>⟧.loan windows.old }
-        requires beside { AreBeside ⟦<TakenList as DefinedList>⟧.list_loan ⟦<Taken as Defined>⟧.loan windows.old self.old }
-        ensures { IsChangedOver ⟦<TakenList as DefinedList>⟧.list_loan ⟦<Taken as Defined>⟧.loan
+        requires kept { IsKept ⟦<TakenWindow as Defined>⟧.loan windows.old }
+        requires beside { AreBeside ⟦<TakenList as Defined>⟧.loan ⟦<TakenWindow as Defined>⟧.loan windows.old self.old }
+        ensures { IsChangedOver ⟦<TakenList as Defined>⟧.loan ⟦<TakenWindow as Defined>⟧.loan
             (IsWhereRight (IsListStep (asks.SetCell set.now) result)) windows.old self.old windows.new self.new }
     {
         let spot = self.spot(windows, set.cell.list)?;
@@ -127,9 +131,9 @@ impl Lists<TakenList> {
         windows: &mut WindowManager,
         added: &CellText<'_>,
     ) -> Result<ListReply, Refusal>
-        requires kept { IsKept ⟦<Taken as Defined>⟧.loan windows.old }
-        requires beside { AreBeside ⟦<TakenList as DefinedList>⟧.list_loan ⟦<Taken as Defined>⟧.loan windows.old self.old }
-        ensures { IsChangedOver ⟦<TakenList as DefinedList>⟧.list_loan ⟦<Taken as Defined>⟧.loan
+        requires kept { IsKept ⟦<TakenWindow as Defined>⟧.loan windows.old }
+        requires beside { AreBeside ⟦<TakenList as Defined>⟧.loan ⟦<TakenWindow as Defined>⟧.loan windows.old self.old }
+        ensures { IsChangedOver ⟦<TakenList as Defined>⟧.loan ⟦<TakenWindow as Defined>⟧.loan
             (IsWhereRight (IsListStep (asks.AddToCell added.now) result)) windows.old self.old windows.new self.new }
     {
         let spot = self.spot(windows, added.cell.list)?;
@@ -158,9 +162,9 @@ impl Lists<TakenList> {
         windows: &mut WindowManager,
         cleared: CellOf,
     ) -> Result<ListReply, Refusal>
-        requires kept { IsKept ⟦<Taken as Defined>⟧.loan windows.old }
-        requires beside { AreBeside ⟦<TakenList as DefinedList>⟧.list_loan ⟦<Taken as Defined>⟧.loan windows.old self.old }
-        ensures { IsChangedOver ⟦<TakenList as DefinedList>⟧.list_loan ⟦<Taken as Defined>⟧.loan
+        requires kept { IsKept ⟦<TakenWindow as Defined>⟧.loan windows.old }
+        requires beside { AreBeside ⟦<TakenList as Defined>⟧.loan ⟦<TakenWindow as Defined>⟧.loan windows.old self.old }
+        ensures { IsChangedOver ⟦<TakenList as Defined>⟧.loan ⟦<TakenWindow as Defined>⟧.loan
             (IsWhereRight (IsListStep (asks.ClearCell cleared) result)) windows.old self.old windows.new self.new }
     {
         let spot = self.spot(windows, cleared.list)?;
@@ -185,9 +189,9 @@ impl Lists<TakenList> {
         windows: &WindowManager,
         set: ListDrawing,
     ) -> Result<ListReply, Refusal>
-        requires kept { IsKept ⟦<Taken as Defined>⟧.loan windows.now }
-        requires beside { AreBeside ⟦<TakenList as DefinedList>⟧.list_loan ⟦<Taken as Defined>⟧.loan windows.now self.old }
-        ensures { IsChangedOver ⟦<TakenList as DefinedList>⟧.list_loan ⟦<Taken as Defined>⟧.loan
+        requires kept { IsKept ⟦<TakenWindow as Defined>⟧.loan windows.now }
+        requires beside { AreBeside ⟦<TakenList as Defined>⟧.loan ⟦<TakenWindow as Defined>⟧.loan windows.now self.old }
+        ensures { IsChangedOver ⟦<TakenList as Defined>⟧.loan ⟦<TakenWindow as Defined>⟧.loan
             (IsListStep (asks.SetDrawing set) result) windows.now self.old windows.now self.new }
     {
         let spot = self.spot(windows, set.list)?;

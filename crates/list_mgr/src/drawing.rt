@@ -15,7 +15,7 @@ ghost use Rattle.list_mgr.specs.WholeLists.{AreSettled};
 use crate::Lists;
 use bit_map::{Mode, Pattern};
 use control_mgr::{Controls, DrawnControl};
-use def_iface::Part;
+use desk_layers::Part;
 use draw_port::Canvas;
 use list_view::{DrawnList, paint_list};
 use window_paint::Showing;

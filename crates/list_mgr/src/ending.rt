@@ -1,6 +1,5 @@
 //! Lists that are ended, with their scroll bars; those of a window that is disposed of, and all.
 ghost use Rattle.std.specs.Prelude.{◌≡◌, ◌<◌, [], true, length, IfOk, IfSome};
-ghost use Rattle.def_iface.specs.Slots.{is_left};
 ghost use Rattle.window_list.specs.Holders.{ArePartsApart};
 ghost use Rattle.desk_call.specs.declared.list.ListCall.TheVariants as asks;
 ghost use Rattle.window_mgr.specs.Kept.{IsKept};
@@ -10,14 +9,13 @@ ghost use Rattle.control_mgr.specs.InUse.{AreStocked};
 ghost use Rattle.control_mgr.specs.WholeControls.{AreWholeControls, controls_state};
 ghost use Rattle.list_mgr.specs.BarEnds.{IsBarGoneOver, IsBarPlanned, IsBarToEnd, bar_serial};
 ghost use Rattle.list_mgr.specs.ListClosing.{AreAllListsClosed, AreListsOfLeft};
-ghost use Rattle.list_mgr.specs.ListSteps.{IsListShut, IsListStep};
+ghost use Rattle.list_mgr.specs.ListSteps.{IsListStep};
 ghost use Rattle.list_mgr.specs.WholeLists.{AreLiveLists, AreWholeLists, LeavesOver, lists_state, records_of, slots_of};
 
 use crate::Lists;
 use control_mgr::{Controls, Ending, layers_left, update_left};
 use def_iface::{
-    ControlStock, Defined, DefinedControl, DefinedList, ListStock, Stage, StockedControls,
-    StockedLists, Taken, TakenControl, TakenList,
+    ControlStock, Defined, ListStock, Stocked, TakenControl, TakenList, TakenWindow, put_away,
 };
 use desk_call::{ControlOf, ListOf, ListReply};
 use scan_region::Region;
@@ -26,17 +24,6 @@ use tb_geom::Refusal;
 use window_items::Items;
 use window_list::Layers;
 use window_mgr::WindowManager;
-
-/// Ends the use of a list's definition.
-pub(crate) fn put_away(taken: TakenList, stock: &mut ListStock)
-    requires live { (⟦<TakenList as DefinedList>⟧.list_loan taken).definition.stage ≡ Stage.Live }
-    requires left { is_left (⟦<TakenList as DefinedList>⟧.list_loan taken).slot (⟦<ListStock as StockedLists>⟧.list_slots stock.old) ≡ true }
-    ensures { IsListShut (⟦<TakenList as DefinedList>⟧.list_loan taken) (⟦<ListStock as StockedLists>⟧.list_slots stock.old) (⟦<ListStock as StockedLists>⟧.list_slots stock.new) }
-{
-    let mut taken = taken;
-    taken.dispose();
-    stock.put_back(taken);
-}
 
 /// Plans the end of a scroll bar of a list in the window of this serial, which stands at this index, if the list was made with one
 /// and the window will have it still. `layers` are the window's layers when the bar will be ended, and `update` is its update
@@ -50,11 +37,12 @@ fn plan_bar(
     layers: &Layers,
     update: &Region,
 ) -> Result<Option<Ending>, AllocError>
-    requires kept { IsKept ⟦<Taken as Defined>⟧.loan windows.now }
+    requires kept { IsKept ⟦<TakenWindow as Defined>⟧.loan windows.now }
     requires low { at < length windows.now.windows.records.items }
     requires apart { ArePartsApart layers.now.layers }
     ensures out { IfOk result (λ planned. IfSome planned (IsTakenOut at (bar_serial bar) layers.now)) }
-    ensures planned { IfOk result (IsBarPlanned ⟦<TakenControl as DefinedControl>⟧.control_loan ⟦<Taken as Defined>⟧.loan window bar at layers.now update.now windows.now) }
+    ensures planned { IfOk result (IsBarPlanned ⟦<TakenControl as Defined>⟧.loan ⟦<TakenWindow as Defined>⟧.loan window
+        bar at layers.now update.now windows.now) }
 {
     match bar {
         Some(control) => {
@@ -73,12 +61,13 @@ fn end_bar(
     planned: Option<Ending>,
     stock: &mut ControlStock,
 )
-    requires kept { IsKept ⟦<Taken as Defined>⟧.loan windows.old }
-    requires whole { AreWholeControls (desk_of ⟦<Taken as Defined>⟧.loan windows.old []).windows
-        (controls_state ⟦<TakenControl as DefinedControl>⟧.control_loan controls.old (⟦<ControlStock as StockedControls>⟧.control_slots stock.old)) }
-    requires planned { IsBarToEnd ⟦<TakenControl as DefinedControl>⟧.control_loan ⟦<Taken as Defined>⟧.loan window bar windows.old controls.old planned }
-    ensures gone { IsBarGoneOver ⟦<TakenControl as DefinedControl>⟧.control_loan ⟦<Taken as Defined>⟧.loan
-        (⟦<ControlStock as StockedControls>⟧.control_slots stock.old) (⟦<ControlStock as StockedControls>⟧.control_slots stock.new)
+    requires kept { IsKept ⟦<TakenWindow as Defined>⟧.loan windows.old }
+    requires whole { AreWholeControls (desk_of ⟦<TakenWindow as Defined>⟧.loan windows.old []).windows
+        (controls_state ⟦<TakenControl as Defined>⟧.loan controls.old (⟦<ControlStock as Stocked>⟧.slots stock.old)) }
+    requires planned { IsBarToEnd ⟦<TakenControl as Defined>⟧.loan ⟦<TakenWindow as Defined>⟧.loan window bar
+        windows.old controls.old planned }
+    ensures gone { IsBarGoneOver ⟦<TakenControl as Defined>⟧.loan ⟦<TakenWindow as Defined>⟧.loan
+        (⟦<ControlStock as Stocked>⟧.slots stock.old) (⟦<ControlStock as Stocked>⟧.slots stock.new)
         window bar windows.old controls.old windows.new controls.new }
     ensures put { IsPutIfPlanned planned windows.old windows.new }
 {
@@ -98,15 +87,18 @@ impl Lists<TakenList> {
         stock: &mut ListStock,
         bars: &mut ControlStock,
     ) -> Result<ListReply, Refusal>
-        requires kept { IsKept ⟦<Taken as Defined>⟧.loan windows.old }
-        requires controls { AreWholeControls (desk_of ⟦<Taken as Defined>⟧.loan windows.old []).windows
-            (controls_state ⟦<TakenControl as DefinedControl>⟧.control_loan controls.old (⟦<ControlStock as StockedControls>⟧.control_slots bars.old)) }
-        requires lists { AreWholeLists (desk_of ⟦<Taken as Defined>⟧.loan windows.old []).windows
-            (lists_state ⟦<TakenList as DefinedList>⟧.list_loan self.old (⟦<ListStock as StockedLists>⟧.list_slots stock.old)) }
-        ensures { LeavesOver ⟦<TakenList as DefinedList>⟧.list_loan ⟦<Taken as Defined>⟧.loan ⟦<TakenControl as DefinedControl>⟧.control_loan
-            (⟦<ControlStock as StockedControls>⟧.control_slots bars.old) (⟦<ControlStock as StockedControls>⟧.control_slots bars.new)
-            (⟦<ListStock as StockedLists>⟧.list_slots stock.old) (⟦<ListStock as StockedLists>⟧.list_slots stock.new)
-            (IsListStep (asks.Dispose list) result) windows.old controls.old self.old windows.new controls.new self.new }
+        requires kept { IsKept ⟦<TakenWindow as Defined>⟧.loan windows.old }
+        requires controls { AreWholeControls (desk_of ⟦<TakenWindow as Defined>⟧.loan windows.old []).windows
+            (controls_state ⟦<TakenControl as Defined>⟧.loan controls.old
+            (⟦<ControlStock as Stocked>⟧.slots bars.old)) }
+        requires lists { AreWholeLists (desk_of ⟦<TakenWindow as Defined>⟧.loan windows.old []).windows
+            (lists_state ⟦<TakenList as Defined>⟧.loan self.old (⟦<ListStock as Stocked>⟧.slots stock.old)) }
+        ensures { LeavesOver ⟦<TakenList as Defined>⟧.loan ⟦<TakenWindow as Defined>⟧.loan
+            ⟦<TakenControl as Defined>⟧.loan
+            (⟦<ControlStock as Stocked>⟧.slots bars.old) (⟦<ControlStock as Stocked>⟧.slots bars.new)
+            (⟦<ListStock as Stocked>⟧.slots stock.old) (⟦<ListStock as Stocked>⟧.slots stock.new)
+            (IsListStep (asks.Dispose list) result) windows.old controls.old self.old windows.new controls.new
+            self.new }
     {
         let spot = self.spot(windows, list)?;
         let layer = self.layer(windows, spot);
@@ -140,10 +132,12 @@ impl Lists<TakenList> {
     /// Ends the lists of a window: the definition of each is disposed of, and put back Closed into its slot. Those of other windows
     /// stay. Takes no memory, and draws nothing: this is for a window that is no more, whose controls end with it.
     pub fn end_of(&mut self, window: u64, stock: &mut ListStock)
-        requires live { AreLiveLists (records_of ⟦<TakenList as DefinedList>⟧.list_loan self.old) }
-        requires stocked { AreStocked (λ d. d.stage) (slots_of (records_of ⟦<TakenList as DefinedList>⟧.list_loan self.old)) (⟦<ListStock as StockedLists>⟧.list_slots stock.old) }
-        ensures { AreListsOfLeft window (lists_state ⟦<TakenList as DefinedList>⟧.list_loan self.old (⟦<ListStock as StockedLists>⟧.list_slots stock.old))
-            (lists_state ⟦<TakenList as DefinedList>⟧.list_loan self.new (⟦<ListStock as StockedLists>⟧.list_slots stock.new)) }
+        requires live { AreLiveLists (records_of ⟦<TakenList as Defined>⟧.loan self.old) }
+        requires stocked { AreStocked (λ d. d.stage) (slots_of (records_of ⟦<TakenList as Defined>⟧.loan self.old))
+            (⟦<ListStock as Stocked>⟧.slots stock.old) }
+        ensures { AreListsOfLeft window (lists_state ⟦<TakenList as Defined>⟧.loan self.old
+            (⟦<ListStock as Stocked>⟧.slots stock.old))
+            (lists_state ⟦<TakenList as Defined>⟧.loan self.new (⟦<ListStock as Stocked>⟧.slots stock.new)) }
     {
         while let Some(list) = self.list.take_of(window) {
             put_away(list.kept.definition, stock);
@@ -153,9 +147,11 @@ impl Lists<TakenList> {
     /// Ends the desk's lists: the definition of every one is disposed of, and put back Closed into its slot, while every other slot
     /// stays as it was. Takes no memory, and refuses nothing.
     pub fn close(self, stock: &mut ListStock)
-        requires live { AreLiveLists (records_of ⟦<TakenList as DefinedList>⟧.list_loan self) }
-        requires stocked { AreStocked (λ d. d.stage) (slots_of (records_of ⟦<TakenList as DefinedList>⟧.list_loan self)) (⟦<ListStock as StockedLists>⟧.list_slots stock.old) }
-        ensures { AreAllListsClosed (records_of ⟦<TakenList as DefinedList>⟧.list_loan self) (⟦<ListStock as StockedLists>⟧.list_slots stock.old) (⟦<ListStock as StockedLists>⟧.list_slots stock.new) }
+        requires live { AreLiveLists (records_of ⟦<TakenList as Defined>⟧.loan self) }
+        requires stocked { AreStocked (λ d. d.stage) (slots_of (records_of ⟦<TakenList as Defined>⟧.loan self))
+            (⟦<ListStock as Stocked>⟧.slots stock.old) }
+        ensures { AreAllListsClosed (records_of ⟦<TakenList as Defined>⟧.loan self)
+            (⟦<ListStock as Stocked>⟧.slots stock.old) (⟦<ListStock as Stocked>⟧.slots stock.new) }
     {
         let Lists { list, .. } = self;
         let Items { items, .. } = list;

@@ -15,8 +15,7 @@ ghost use Rattle.list_mgr.specs.WholeLists.{records_of};
 use crate::Lists;
 use control_mgr::{Controls, MOST_CONTROLS, may_be_placed};
 use def_iface::{
-    ControlStock, Defined, DefinedControl, DefinedList, ListStock, Size, StockedControls,
-    StockedLists, Taken, TakenControl, TakenList,
+    ControlStock, Defined, ListStock, Size, Stocked, TakenControl, TakenList, TakenWindow,
 };
 use desk_call::{ListCall, NewList};
 use list_cells::{ListCells, SelectionFlags};
@@ -48,7 +47,7 @@ pub(crate) struct ListTicket {
 /// Why a call is refused whatever is open: the stock has no such kind of lists, or none of scroll bars though one is wanted.
 pub fn form_refusal(call: &ListCall<'_>, stock: &ListStock, bars: &ControlStock) -> Option<Refusal>
     ensures { result ≡ first_refusal (list_form_refusals call.now
-        (⟦<ListStock as StockedLists>⟧.list_slots stock.now) (⟦<ControlStock as StockedControls>⟧.control_slots bars.now)) }
+        (⟦<ListStock as Stocked>⟧.slots stock.now) (⟦<ControlStock as Stocked>⟧.slots bars.now)) }
 {
     match call {
         ListCall::New(new) if lacks_kind(new, stock, bars) => Some(Refusal::NoSuchName),
@@ -59,7 +58,7 @@ pub fn form_refusal(call: &ListCall<'_>, stock: &ListStock, bars: &ControlStock)
 /// Whether the stocks have no such kind of lists, or none of scroll bars though one is wanted.
 pub(crate) fn lacks_kind(new: &NewList<'_>, stock: &ListStock, bars: &ControlStock) -> bool
     ensures { result ≡ lacks_kind new.now
-        (⟦<ListStock as StockedLists>⟧.list_slots stock.now) (⟦<ControlStock as StockedControls>⟧.control_slots bars.now) }
+        (⟦<ListStock as Stocked>⟧.slots stock.now) (⟦<ControlStock as Stocked>⟧.slots bars.now) }
 {
     !stock.has(new.kind.as_slice()) || (bars_wanted(new) > 0 && !bars.has(SCROLL))
 }
@@ -109,7 +108,7 @@ pub(crate) fn size_of(bar: Rect) -> Size
 fn may_bar_be_in(wanted: bool, taken: Option<&TakenControl>, bar: Rect, window: Point) -> bool
     requires { is_control_size (size_of bar) ≡ true }
     ensures { (w : WindowRecord) → w.place ≡ window
-        → result ≡ may_bar_be_in wanted (definition_if ⟦<TakenControl as DefinedControl>⟧.control_loan taken.entry) bar (Some w) }
+        → result ≡ may_bar_be_in wanted (definition_if ⟦<TakenControl as Defined>⟧.loan taken.entry) bar (Some w) }
 {
     let corner = Point {
         h: bar.left,
@@ -126,9 +125,10 @@ fn view_with_bars(
     horizontal: Option<&TakenControl>,
 ) -> Result<ListView, Refusal>
     ensures { (w : WindowRecord) → w.place ≡ window
-        → let refusals = lie_refusals new.now (definition_if ⟦<TakenControl as DefinedControl>⟧.control_loan vertical.entry)
-        (definition_if ⟦<TakenControl as DefinedControl>⟧.control_loan horizontal.entry) (Some w) in
-        MatchResult result (λ view. (view ≡ view_of new.now) × (first_refusal refusals ≡ None)) (λ e. first_refusal refusals ≡ Some e) }
+        → let refusals = lie_refusals new.now (definition_if ⟦<TakenControl as Defined>⟧.loan vertical.entry)
+        (definition_if ⟦<TakenControl as Defined>⟧.loan horizontal.entry) (Some w) in
+        MatchResult result (λ view. (view ≡ view_of new.now) × (first_refusal refusals ≡ None))
+        (λ e. first_refusal refusals ≡ Some e) }
 {
     let view = view_in(new, window)?;
     let down = may_bar_be_in(new.vertical_bar, vertical, view.vertical_bar(), window);
@@ -193,7 +193,7 @@ impl Lists<TakenList> {
         next_control: Option<u64>,
     ) -> Result<u64, Refusal>
         ensures { let refusals = room_refusals new.now controls next_control
-            (records_of ⟦<TakenList as DefinedList>⟧.list_loan self.now) self.now.list.next in
+            (records_of ⟦<TakenList as Defined>⟧.loan self.now) self.now.list.next in
             MatchResult result (λ serial. (self.now.list.next ≡ Some serial) × (first_refusal refusals ≡ None))
             (λ e. first_refusal refusals ≡ Some e) }
     {
@@ -219,13 +219,14 @@ impl Lists<TakenList> {
         vertical: Option<&TakenControl>,
         horizontal: Option<&TakenControl>,
     ) -> Result<ListTicket, Refusal>
-        requires { IsKept ⟦<Taken as Defined>⟧.loan windows.now }
-        ensures { let v = definition_if ⟦<TakenControl as DefinedControl>⟧.control_loan vertical.entry in
-            let h = definition_if ⟦<TakenControl as DefinedControl>⟧.control_loan horizontal.entry in
+        requires { IsKept ⟦<TakenWindow as Defined>⟧.loan windows.now }
+        ensures { let v = definition_if ⟦<TakenControl as Defined>⟧.loan vertical.entry in
+            let h = definition_if ⟦<TakenControl as Defined>⟧.loan horizontal.entry in
             MatchResult result
-            (IsListTicket ⟦<Taken as Defined>⟧.loan ⟦<TakenControl as DefinedControl>⟧.control_loan ⟦<TakenList as DefinedList>⟧.list_loan
+            (IsListTicket ⟦<TakenWindow as Defined>⟧.loan ⟦<TakenControl as Defined>⟧.loan ⟦<TakenList as Defined>⟧.loan
             new.now v h windows.now controls.now self.now)
-            (λ e. judged_by ⟦<Taken as Defined>⟧.loan ⟦<TakenControl as DefinedControl>⟧.control_loan ⟦<TakenList as DefinedList>⟧.list_loan
+            (λ e. judged_by ⟦<TakenWindow as Defined>⟧.loan ⟦<TakenControl as Defined>⟧.loan
+            ⟦<TakenList as Defined>⟧.loan
             new.now v h windows.now controls.now self.now ≡ Some e) }
     {
         let Some(window) = windows.find(new.window) else {

@@ -15,7 +15,7 @@ use crate::Lists;
 use crate::lines_from::{columns_from, line_number, rows_from};
 use crate::spots::ListAt;
 use control_mgr::Controls;
-use def_iface::{Defined, DefinedControl, DefinedList, Taken, TakenControl, TakenList};
+use def_iface::{Defined, TakenControl, TakenList, TakenWindow};
 use desk_call::{ListLines, ListReply, ScrollList};
 use list_view::ListView;
 use scan_region::Region;
@@ -33,9 +33,11 @@ impl Lists<TakenList> {
     /// Scrolls the list that stands here, as far as there are cells to be seen, and says whether it is scrolled otherwise then.
     fn scroll_by(&mut self, spot: ListAt, columns: i32, rows: i32) -> bool
         requires { spot.list < length self.old.list.items.items }
-        ensures lists { records_of ⟦<TakenList as DefinedList>⟧.list_loan self.new ≡ edit_at (with_scroll columns rows) spot.list (records_of ⟦<TakenList as DefinedList>⟧.list_loan self.old) }
+        ensures lists { records_of ⟦<TakenList as Defined>⟧.loan self.new
+            ≡ edit_at (with_scroll columns rows) spot.list (records_of ⟦<TakenList as Defined>⟧.loan self.old) }
         ensures next { self.new.list.next ≡ self.old.list.next }
-        ensures changes { IfSome (slice_get (records_of ⟦<TakenList as DefinedList>⟧.list_loan self.old) spot.list) (λ x. IsSameOrNot result (with_scroll columns rows x) x) }
+        ensures changes { IfSome (slice_get (records_of ⟦<TakenList as Defined>⟧.loan self.old) spot.list)
+            (λ x. IsSameOrNot result (with_scroll columns rows x) x) }
     {
         let list = &self.list.items[spot.list];
         let old = list.kept.view;
@@ -60,12 +62,15 @@ impl Lists<TakenList> {
         mark: Option<Region>,
         changes: bool,
     )
-        requires kept { IsKept ⟦<Taken as Defined>⟧.loan windows.old }
-        requires beside { AreControlsBeside ⟦<TakenControl as DefinedControl>⟧.control_loan ⟦<Taken as Defined>⟧.loan windows.old controls.old }
-        requires lists { AreBeside ⟦<TakenList as DefinedList>⟧.list_loan ⟦<Taken as Defined>⟧.loan windows.old self.now }
-        requires spot { IsSpot ⟦<Taken as Defined>⟧.loan ⟦<TakenList as DefinedList>⟧.list_loan windows.old self.now spot }
-        requires mark { IsMark ⟦<TakenList as DefinedList>⟧.list_loan ⟦<Taken as Defined>⟧.loan windows.old self.now spot mark }
-        ensures { IsShownWithBars ⟦<TakenControl as DefinedControl>⟧.control_loan ⟦<Taken as Defined>⟧.loan ⟦<TakenList as DefinedList>⟧.list_loan within mark changes spot self.now
+        requires kept { IsKept ⟦<TakenWindow as Defined>⟧.loan windows.old }
+        requires beside { AreControlsBeside ⟦<TakenControl as Defined>⟧.loan ⟦<TakenWindow as Defined>⟧.loan windows.old
+            controls.old }
+        requires lists { AreBeside ⟦<TakenList as Defined>⟧.loan ⟦<TakenWindow as Defined>⟧.loan windows.old self.now }
+        requires spot { IsSpot ⟦<TakenWindow as Defined>⟧.loan ⟦<TakenList as Defined>⟧.loan windows.old self.now spot }
+        requires mark { IsMark ⟦<TakenList as Defined>⟧.loan ⟦<TakenWindow as Defined>⟧.loan windows.old self.now spot
+            mark }
+        ensures { IsShownWithBars ⟦<TakenControl as Defined>⟧.loan ⟦<TakenWindow as Defined>⟧.loan
+            ⟦<TakenList as Defined>⟧.loan within mark changes spot self.now
             windows.old controls.old windows.new controls.new }
     {
         self.show(windows, spot, within, mark, changes);
@@ -79,11 +84,14 @@ impl Lists<TakenList> {
         controls: &mut Controls<TakenControl>,
         lines: ListLines,
     ) -> Result<ListReply, Refusal>
-        requires kept { IsKept ⟦<Taken as Defined>⟧.loan windows.old }
-        requires beside { AreControlsBeside ⟦<TakenControl as DefinedControl>⟧.control_loan ⟦<Taken as Defined>⟧.loan windows.old controls.old }
-        requires lists { AreBeside ⟦<TakenList as DefinedList>⟧.list_loan ⟦<Taken as Defined>⟧.loan windows.old self.old }
-        ensures { LeavesLists ⟦<TakenList as DefinedList>⟧.list_loan ⟦<Taken as Defined>⟧.loan ⟦<TakenControl as DefinedControl>⟧.control_loan
-            (IsWhereRight (IsListStep (asks.AddRows lines) result)) windows.old controls.old self.old windows.new controls.new self.new }
+        requires kept { IsKept ⟦<TakenWindow as Defined>⟧.loan windows.old }
+        requires beside { AreControlsBeside ⟦<TakenControl as Defined>⟧.loan ⟦<TakenWindow as Defined>⟧.loan windows.old
+            controls.old }
+        requires lists { AreBeside ⟦<TakenList as Defined>⟧.loan ⟦<TakenWindow as Defined>⟧.loan windows.old self.old }
+        ensures { LeavesLists ⟦<TakenList as Defined>⟧.loan ⟦<TakenWindow as Defined>⟧.loan
+            ⟦<TakenControl as Defined>⟧.loan
+            (IsWhereRight (IsListStep (asks.AddRows lines) result)) windows.old controls.old self.old windows.new
+            controls.new self.new }
     {
         let spot = self.spot(windows, lines.list)?;
         if let Some(refusal) = self.list.items[spot.list]
@@ -111,11 +119,14 @@ impl Lists<TakenList> {
         controls: &mut Controls<TakenControl>,
         lines: ListLines,
     ) -> Result<ListReply, Refusal>
-        requires kept { IsKept ⟦<Taken as Defined>⟧.loan windows.old }
-        requires beside { AreControlsBeside ⟦<TakenControl as DefinedControl>⟧.control_loan ⟦<Taken as Defined>⟧.loan windows.old controls.old }
-        requires lists { AreBeside ⟦<TakenList as DefinedList>⟧.list_loan ⟦<Taken as Defined>⟧.loan windows.old self.old }
-        ensures { LeavesLists ⟦<TakenList as DefinedList>⟧.list_loan ⟦<Taken as Defined>⟧.loan ⟦<TakenControl as DefinedControl>⟧.control_loan
-            (IsWhereRight (IsListStep (asks.AddColumns lines) result)) windows.old controls.old self.old windows.new controls.new self.new }
+        requires kept { IsKept ⟦<TakenWindow as Defined>⟧.loan windows.old }
+        requires beside { AreControlsBeside ⟦<TakenControl as Defined>⟧.loan ⟦<TakenWindow as Defined>⟧.loan windows.old
+            controls.old }
+        requires lists { AreBeside ⟦<TakenList as Defined>⟧.loan ⟦<TakenWindow as Defined>⟧.loan windows.old self.old }
+        ensures { LeavesLists ⟦<TakenList as Defined>⟧.loan ⟦<TakenWindow as Defined>⟧.loan
+            ⟦<TakenControl as Defined>⟧.loan
+            (IsWhereRight (IsListStep (asks.AddColumns lines) result)) windows.old controls.old self.old windows.new
+            controls.new self.new }
     {
         let spot = self.spot(windows, lines.list)?;
         if let Some(refusal) = self.list.items[spot.list]
@@ -143,11 +154,14 @@ impl Lists<TakenList> {
         controls: &mut Controls<TakenControl>,
         lines: ListLines,
     ) -> Result<ListReply, Refusal>
-        requires kept { IsKept ⟦<Taken as Defined>⟧.loan windows.old }
-        requires beside { AreControlsBeside ⟦<TakenControl as DefinedControl>⟧.control_loan ⟦<Taken as Defined>⟧.loan windows.old controls.old }
-        requires lists { AreBeside ⟦<TakenList as DefinedList>⟧.list_loan ⟦<Taken as Defined>⟧.loan windows.old self.old }
-        ensures { LeavesLists ⟦<TakenList as DefinedList>⟧.list_loan ⟦<Taken as Defined>⟧.loan ⟦<TakenControl as DefinedControl>⟧.control_loan
-            (IsWhereRight (IsListStep (asks.DeleteRows lines) result)) windows.old controls.old self.old windows.new controls.new self.new }
+        requires kept { IsKept ⟦<TakenWindow as Defined>⟧.loan windows.old }
+        requires beside { AreControlsBeside ⟦<TakenControl as Defined>⟧.loan ⟦<TakenWindow as Defined>⟧.loan windows.old
+            controls.old }
+        requires lists { AreBeside ⟦<TakenList as Defined>⟧.loan ⟦<TakenWindow as Defined>⟧.loan windows.old self.old }
+        ensures { LeavesLists ⟦<TakenList as Defined>⟧.loan ⟦<TakenWindow as Defined>⟧.loan
+            ⟦<TakenControl as Defined>⟧.loan
+            (IsWhereRight (IsListStep (asks.DeleteRows lines) result)) windows.old controls.old self.old windows.new
+            controls.new self.new }
     {
         let spot = self.spot(windows, lines.list)?;
         if let Some(refusal) = self.list.items[spot.list]
@@ -176,11 +190,14 @@ impl Lists<TakenList> {
         controls: &mut Controls<TakenControl>,
         lines: ListLines,
     ) -> Result<ListReply, Refusal>
-        requires kept { IsKept ⟦<Taken as Defined>⟧.loan windows.old }
-        requires beside { AreControlsBeside ⟦<TakenControl as DefinedControl>⟧.control_loan ⟦<Taken as Defined>⟧.loan windows.old controls.old }
-        requires lists { AreBeside ⟦<TakenList as DefinedList>⟧.list_loan ⟦<Taken as Defined>⟧.loan windows.old self.old }
-        ensures { LeavesLists ⟦<TakenList as DefinedList>⟧.list_loan ⟦<Taken as Defined>⟧.loan ⟦<TakenControl as DefinedControl>⟧.control_loan
-            (IsWhereRight (IsListStep (asks.DeleteColumns lines) result)) windows.old controls.old self.old windows.new controls.new self.new }
+        requires kept { IsKept ⟦<TakenWindow as Defined>⟧.loan windows.old }
+        requires beside { AreControlsBeside ⟦<TakenControl as Defined>⟧.loan ⟦<TakenWindow as Defined>⟧.loan windows.old
+            controls.old }
+        requires lists { AreBeside ⟦<TakenList as Defined>⟧.loan ⟦<TakenWindow as Defined>⟧.loan windows.old self.old }
+        ensures { LeavesLists ⟦<TakenList as Defined>⟧.loan ⟦<TakenWindow as Defined>⟧.loan
+            ⟦<TakenControl as Defined>⟧.loan
+            (IsWhereRight (IsListStep (asks.DeleteColumns lines) result)) windows.old controls.old self.old windows.new
+            controls.new self.new }
     {
         let spot = self.spot(windows, lines.list)?;
         if let Some(refusal) = self.list.items[spot.list]
@@ -209,11 +226,14 @@ impl Lists<TakenList> {
         controls: &mut Controls<TakenControl>,
         scrolled: ScrollList,
     ) -> Result<ListReply, Refusal>
-        requires kept { IsKept ⟦<Taken as Defined>⟧.loan windows.old }
-        requires beside { AreControlsBeside ⟦<TakenControl as DefinedControl>⟧.control_loan ⟦<Taken as Defined>⟧.loan windows.old controls.old }
-        requires lists { AreBeside ⟦<TakenList as DefinedList>⟧.list_loan ⟦<Taken as Defined>⟧.loan windows.old self.old }
-        ensures { LeavesLists ⟦<TakenList as DefinedList>⟧.list_loan ⟦<Taken as Defined>⟧.loan ⟦<TakenControl as DefinedControl>⟧.control_loan
-            (IsWhereRight (IsListStep (asks.Scroll scrolled) result)) windows.old controls.old self.old windows.new controls.new self.new }
+        requires kept { IsKept ⟦<TakenWindow as Defined>⟧.loan windows.old }
+        requires beside { AreControlsBeside ⟦<TakenControl as Defined>⟧.loan ⟦<TakenWindow as Defined>⟧.loan windows.old
+            controls.old }
+        requires lists { AreBeside ⟦<TakenList as Defined>⟧.loan ⟦<TakenWindow as Defined>⟧.loan windows.old self.old }
+        ensures { LeavesLists ⟦<TakenList as Defined>⟧.loan ⟦<TakenWindow as Defined>⟧.loan
+            ⟦<TakenControl as Defined>⟧.loan
+            (IsWhereRight (IsListStep (asks.Scroll scrolled) result)) windows.old controls.old self.old windows.new
+            controls.new self.new }
     {
         let spot = self.spot(windows, scrolled.list)?;
         let within = self.list.items[spot.list].kept.view.rect();

@@ -11,17 +11,15 @@ ghost use Rattle.control_mgr.specs.WholeControls.{AreWholeControls, controls_sta
 ghost use Rattle.list_mgr.specs.ListRefusals.{lacks_kind, scroll_kind};
 ghost use Rattle.list_mgr.specs.ListSteps.{IsListMade, IsListStep};
 ghost use Rattle.list_mgr.specs.Making.{IsListTicket};
-ghost use Rattle.list_mgr.specs.Offers.{AreOffered, AreOut, AreOutBeside, IsBack, IsNotMade, IsOffer, IsOfferIf, MayGoBack, definition_of, lacks_any, seen_offers, why_not};
+ghost use Rattle.list_mgr.specs.Offers.{AreOffered, AreOut, AreOutBeside, IsBack, IsNotMade, IsOffer, IsOfferIf};
+ghost use Rattle.list_mgr.specs.Offers.{MayGoBack, definition_of, lacks_any, seen_offers, why_not};
 ghost use Rattle.list_mgr.specs.Putting.{AreRoomier};
 ghost use Rattle.list_mgr.specs.WholeLists.{AreBeside, AreWholeLists, LeavesOver, lists_state};
 
 use crate::Lists;
 use crate::judging::{ListTicket, SCROLL, lacks_kind};
 use control_mgr::Controls;
-use def_iface::{
-    ControlStock, Defined, DefinedControl, DefinedList, ListStock, StockedControls, StockedLists,
-    Taken, TakenControl, TakenList,
-};
+use def_iface::{ControlStock, Defined, ListStock, Stocked, TakenControl, TakenList, TakenWindow};
 use desk_call::{ListReply, NewList};
 use tb_geom::Refusal;
 use window_mgr::WindowManager;
@@ -36,9 +34,9 @@ struct Offers {
 
 /// Takes a definition of this kind of lists, which the stock has, if one is left.
 fn take_list(kind: &[u8], stock: &mut ListStock) -> Option<TakenList>
-    requires { has_kind kind.now (⟦<ListStock as StockedLists>⟧.list_slots stock.old) ≡ true }
-    ensures { IsOffer (λ d. d.stage) kind.now (option_map ⟦<TakenList as DefinedList>⟧.list_loan result)
-        (⟦<ListStock as StockedLists>⟧.list_slots stock.old) (⟦<ListStock as StockedLists>⟧.list_slots stock.new) }
+    requires { has_kind kind.now (⟦<ListStock as Stocked>⟧.slots stock.old) ≡ true }
+    ensures { IsOffer (λ d. d.stage) kind.now (option_map ⟦<TakenList as Defined>⟧.loan result)
+        (⟦<ListStock as Stocked>⟧.slots stock.old) (⟦<ListStock as Stocked>⟧.slots stock.new) }
 {
     match stock.take(kind) {
         Ok(taken) => Some(taken),
@@ -48,9 +46,9 @@ fn take_list(kind: &[u8], stock: &mut ListStock) -> Option<TakenList>
 
 /// Takes a definition of a scroll bar, if one is wanted and left. Where one is wanted, the stock has the kind.
 fn take_bar(wanted: bool, bars: &mut ControlStock) -> Option<TakenControl>
-    requires { wanted ≡ true → has_kind scroll_kind (⟦<ControlStock as StockedControls>⟧.control_slots bars.old) ≡ true }
-    ensures { IsOfferIf (λ d. d.stage) wanted scroll_kind (option_map ⟦<TakenControl as DefinedControl>⟧.control_loan result)
-        (⟦<ControlStock as StockedControls>⟧.control_slots bars.old) (⟦<ControlStock as StockedControls>⟧.control_slots bars.new) }
+    requires { wanted ≡ true → has_kind scroll_kind (⟦<ControlStock as Stocked>⟧.slots bars.old) ≡ true }
+    ensures { IsOfferIf (λ d. d.stage) wanted scroll_kind (option_map ⟦<TakenControl as Defined>⟧.loan result)
+        (⟦<ControlStock as Stocked>⟧.slots bars.old) (⟦<ControlStock as Stocked>⟧.slots bars.new) }
 {
     if !wanted {
         return None;
@@ -63,9 +61,10 @@ fn take_bar(wanted: bool, bars: &mut ControlStock) -> Option<TakenControl>
 
 /// Puts a list's definition back, if one was taken.
 fn put_list_back(taken: Option<TakenList>, stock: &mut ListStock)
-    requires { MayGoBack (λ d. d.stage) (option_map ⟦<TakenList as DefinedList>⟧.list_loan taken) (⟦<ListStock as StockedLists>⟧.list_slots stock.old) }
-    ensures { IsBack (option_map ⟦<TakenList as DefinedList>⟧.list_loan taken)
-        (⟦<ListStock as StockedLists>⟧.list_slots stock.old) (⟦<ListStock as StockedLists>⟧.list_slots stock.new) }
+    requires { MayGoBack (λ d. d.stage) (option_map ⟦<TakenList as Defined>⟧.loan taken)
+        (⟦<ListStock as Stocked>⟧.slots stock.old) }
+    ensures { IsBack (option_map ⟦<TakenList as Defined>⟧.loan taken)
+        (⟦<ListStock as Stocked>⟧.slots stock.old) (⟦<ListStock as Stocked>⟧.slots stock.new) }
 {
     if let Some(taken) = taken {
         stock.put_back(taken);
@@ -74,9 +73,10 @@ fn put_list_back(taken: Option<TakenList>, stock: &mut ListStock)
 
 /// Puts a scroll bar's definition back, if one was taken.
 fn put_bar_back(taken: Option<TakenControl>, bars: &mut ControlStock)
-    requires { MayGoBack (λ d. d.stage) (option_map ⟦<TakenControl as DefinedControl>⟧.control_loan taken) (⟦<ControlStock as StockedControls>⟧.control_slots bars.old) }
-    ensures { IsBack (option_map ⟦<TakenControl as DefinedControl>⟧.control_loan taken)
-        (⟦<ControlStock as StockedControls>⟧.control_slots bars.old) (⟦<ControlStock as StockedControls>⟧.control_slots bars.new) }
+    requires { MayGoBack (λ d. d.stage) (option_map ⟦<TakenControl as Defined>⟧.loan taken)
+        (⟦<ControlStock as Stocked>⟧.slots bars.old) }
+    ensures { IsBack (option_map ⟦<TakenControl as Defined>⟧.loan taken)
+        (⟦<ControlStock as Stocked>⟧.slots bars.old) (⟦<ControlStock as Stocked>⟧.slots bars.new) }
 {
     if let Some(taken) = taken {
         bars.put_back(taken);
@@ -87,10 +87,11 @@ impl Offers {
     /// Takes the definitions that a new list and its scroll bars need, of which the stocks have the kinds, as far as they are to be
     /// had.
     fn take(new: &NewList<'_>, stock: &mut ListStock, bars: &mut ControlStock) -> Offers
-        requires { lacks_kind new.now (⟦<ListStock as StockedLists>⟧.list_slots stock.old) (⟦<ControlStock as StockedControls>⟧.control_slots bars.old) ≡ false }
-        ensures { AreOffered new.now (seen_offers ⟦<TakenControl as DefinedControl>⟧.control_loan ⟦<TakenList as DefinedList>⟧.list_loan result)
-            (⟦<ListStock as StockedLists>⟧.list_slots stock.old) (⟦<ListStock as StockedLists>⟧.list_slots stock.new)
-            (⟦<ControlStock as StockedControls>⟧.control_slots bars.old) (⟦<ControlStock as StockedControls>⟧.control_slots bars.new) }
+        requires { lacks_kind new.now (⟦<ListStock as Stocked>⟧.slots stock.old)
+            (⟦<ControlStock as Stocked>⟧.slots bars.old) ≡ false }
+        ensures { AreOffered new.now (seen_offers ⟦<TakenControl as Defined>⟧.loan ⟦<TakenList as Defined>⟧.loan result)
+            (⟦<ListStock as Stocked>⟧.slots stock.old) (⟦<ListStock as Stocked>⟧.slots stock.new)
+            (⟦<ControlStock as Stocked>⟧.slots bars.old) (⟦<ControlStock as Stocked>⟧.slots bars.new) }
     {
         let list = take_list(new.kind.as_slice(), stock);
         let vertical = take_bar(new.vertical_bar, bars);
@@ -119,11 +120,12 @@ impl Offers {
 
     /// Puts all back that was taken for a new list: the stocks are as they were.
     fn give_back(self, new: &NewList<'_>, stock: &mut ListStock, bars: &mut ControlStock)
-        requires { AreOut new.now (seen_offers ⟦<TakenControl as DefinedControl>⟧.control_loan ⟦<TakenList as DefinedList>⟧.list_loan self)
-            (⟦<ListStock as StockedLists>⟧.list_slots stock.old) (⟦<ControlStock as StockedControls>⟧.control_slots bars.old) }
-        ensures { (kept held : _) → AreOffered new.now (seen_offers ⟦<TakenControl as DefinedControl>⟧.control_loan ⟦<TakenList as DefinedList>⟧.list_loan self)
-            kept (⟦<ListStock as StockedLists>⟧.list_slots stock.old) held (⟦<ControlStock as StockedControls>⟧.control_slots bars.old)
-            → (⟦<ListStock as StockedLists>⟧.list_slots stock.new ≡ kept) × (⟦<ControlStock as StockedControls>⟧.control_slots bars.new ≡ held) }
+        requires { AreOut new.now (seen_offers ⟦<TakenControl as Defined>⟧.loan ⟦<TakenList as Defined>⟧.loan self)
+            (⟦<ListStock as Stocked>⟧.slots stock.old) (⟦<ControlStock as Stocked>⟧.slots bars.old) }
+        ensures { (kept held : _) → AreOffered new.now (seen_offers ⟦<TakenControl as Defined>⟧.loan
+            ⟦<TakenList as Defined>⟧.loan self)
+            kept (⟦<ListStock as Stocked>⟧.slots stock.old) held (⟦<ControlStock as Stocked>⟧.slots bars.old)
+            → (⟦<ListStock as Stocked>⟧.slots stock.new ≡ kept) × (⟦<ControlStock as Stocked>⟧.slots bars.new ≡ held) }
     {
         let Offers {
             list,
@@ -137,7 +139,8 @@ impl Offers {
 
     /// Whether one that is wanted was not to be had.
     fn lacks_any(&self, new: &NewList<'_>) -> bool
-        ensures { result ≡ lacks_any new.now (seen_offers ⟦<TakenControl as DefinedControl>⟧.control_loan ⟦<TakenList as DefinedList>⟧.list_loan self.now) }
+        ensures { result ≡ lacks_any new.now (seen_offers ⟦<TakenControl as Defined>⟧.loan ⟦<TakenList as Defined>⟧.loan
+            self.now) }
     {
         self.list.is_none()
             || ((new.vertical_bar && self.vertical.is_none())
@@ -155,14 +158,16 @@ impl Lists<TakenList> {
         stock: &mut ListStock,
         bars: &mut ControlStock,
     ) -> Result<ListReply, Refusal>
-        requires kept { IsKept ⟦<Taken as Defined>⟧.loan windows.old }
-        requires controls { AreWholeControls (desk_of ⟦<Taken as Defined>⟧.loan windows.old []).windows
-            (controls_state ⟦<TakenControl as DefinedControl>⟧.control_loan controls.old (⟦<ControlStock as StockedControls>⟧.control_slots bars.old)) }
-        requires lists { AreWholeLists (desk_of ⟦<Taken as Defined>⟧.loan windows.old []).windows
-            (lists_state ⟦<TakenList as DefinedList>⟧.list_loan self.old (⟦<ListStock as StockedLists>⟧.list_slots stock.old)) }
-        ensures { LeavesOver ⟦<TakenList as DefinedList>⟧.list_loan ⟦<Taken as Defined>⟧.loan ⟦<TakenControl as DefinedControl>⟧.control_loan
-            (⟦<ControlStock as StockedControls>⟧.control_slots bars.old) (⟦<ControlStock as StockedControls>⟧.control_slots bars.new)
-            (⟦<ListStock as StockedLists>⟧.list_slots stock.old) (⟦<ListStock as StockedLists>⟧.list_slots stock.new)
+        requires kept { IsKept ⟦<TakenWindow as Defined>⟧.loan windows.old }
+        requires controls { AreWholeControls (desk_of ⟦<TakenWindow as Defined>⟧.loan windows.old []).windows
+            (controls_state ⟦<TakenControl as Defined>⟧.loan controls.old
+            (⟦<ControlStock as Stocked>⟧.slots bars.old)) }
+        requires lists { AreWholeLists (desk_of ⟦<TakenWindow as Defined>⟧.loan windows.old []).windows
+            (lists_state ⟦<TakenList as Defined>⟧.loan self.old (⟦<ListStock as Stocked>⟧.slots stock.old)) }
+        ensures { LeavesOver ⟦<TakenList as Defined>⟧.loan ⟦<TakenWindow as Defined>⟧.loan
+            ⟦<TakenControl as Defined>⟧.loan
+            (⟦<ControlStock as Stocked>⟧.slots bars.old) (⟦<ControlStock as Stocked>⟧.slots bars.new)
+            (⟦<ListStock as Stocked>⟧.slots stock.old) (⟦<ListStock as Stocked>⟧.slots stock.new)
             (IsListStep (asks.New new.now) result) windows.old controls.old self.old windows.new controls.new self.new }
     {
         if lacks_kind(new, stock, bars) {
@@ -187,20 +192,29 @@ impl Lists<TakenList> {
         new: &NewList<'_>,
         offers: Offers,
     ) -> Result<u64, (Offers, Refusal)>
-        requires kept { IsKept ⟦<Taken as Defined>⟧.loan windows.old }
-        requires out { AreOutBeside ⟦<TakenControl as DefinedControl>⟧.control_loan ⟦<TakenList as DefinedList>⟧.list_loan ⟦<Taken as Defined>⟧.loan new.now
-            (seen_offers ⟦<TakenControl as DefinedControl>⟧.control_loan ⟦<TakenList as DefinedList>⟧.list_loan offers) windows.old controls.old }
-        requires lists { AreBeside ⟦<TakenList as DefinedList>⟧.list_loan ⟦<Taken as Defined>⟧.loan windows.old self.old }
-        ensures unrefused { IfOk result (λ _. why_not ⟦<TakenControl as DefinedControl>⟧.control_loan ⟦<TakenList as DefinedList>⟧.list_loan ⟦<Taken as Defined>⟧.loan new.now
-            (seen_offers ⟦<TakenControl as DefinedControl>⟧.control_loan ⟦<TakenList as DefinedList>⟧.list_loan offers) windows.old controls.old self.old ≡ None) }
+        requires kept { IsKept ⟦<TakenWindow as Defined>⟧.loan windows.old }
+        requires out { AreOutBeside ⟦<TakenControl as Defined>⟧.loan ⟦<TakenList as Defined>⟧.loan
+            ⟦<TakenWindow as Defined>⟧.loan new.now
+            (seen_offers ⟦<TakenControl as Defined>⟧.loan ⟦<TakenList as Defined>⟧.loan offers) windows.old
+            controls.old }
+        requires lists { AreBeside ⟦<TakenList as Defined>⟧.loan ⟦<TakenWindow as Defined>⟧.loan windows.old self.old }
+        ensures unrefused { IfOk result (λ _. why_not ⟦<TakenControl as Defined>⟧.loan ⟦<TakenList as Defined>⟧.loan
+            ⟦<TakenWindow as Defined>⟧.loan new.now
+            (seen_offers ⟦<TakenControl as Defined>⟧.loan ⟦<TakenList as Defined>⟧.loan offers) windows.old controls.old
+            self.old ≡ None) }
         ensures made { IfOk result (λ serial. (kept rest held left : _)
-            → AreOffered new.now (seen_offers ⟦<TakenControl as DefinedControl>⟧.control_loan ⟦<TakenList as DefinedList>⟧.list_loan offers) kept rest held left
-            → LeavesOver ⟦<TakenList as DefinedList>⟧.list_loan ⟦<Taken as Defined>⟧.loan ⟦<TakenControl as DefinedControl>⟧.control_loan held left kept rest
+            → AreOffered new.now (seen_offers ⟦<TakenControl as Defined>⟧.loan ⟦<TakenList as Defined>⟧.loan offers)
+            kept rest held left
+            → LeavesOver ⟦<TakenList as Defined>⟧.loan ⟦<TakenWindow as Defined>⟧.loan ⟦<TakenControl as Defined>⟧.loan
+            held left kept rest
             (IsListMade new.now serial) windows.old controls.old self.old windows.new controls.new self.new) }
         ensures refused { IfErr result (λ back. (back.0 ≡ offers)
-            × IsNotMade ⟦<TakenControl as DefinedControl>⟧.control_loan ⟦<TakenList as DefinedList>⟧.list_loan ⟦<Taken as Defined>⟧.loan new.now
-            (seen_offers ⟦<TakenControl as DefinedControl>⟧.control_loan ⟦<TakenList as DefinedList>⟧.list_loan offers) windows.old controls.old self.old back.1) }
-        ensures same { IfErr result (λ _. (windows.new ≡ windows.old) × IsRoomier controls.old controls.new × AreRoomier self.old self.new) }
+            × IsNotMade ⟦<TakenControl as Defined>⟧.loan ⟦<TakenList as Defined>⟧.loan ⟦<TakenWindow as Defined>⟧.loan
+            new.now
+            (seen_offers ⟦<TakenControl as Defined>⟧.loan ⟦<TakenList as Defined>⟧.loan offers) windows.old controls.old
+            self.old back.1) }
+        ensures same { IfErr result (λ _. (windows.new ≡ windows.old) × IsRoomier controls.old controls.new
+            × AreRoomier self.old self.new) }
     {
         let vertical = offers.vertical.as_ref();
         let horizontal = offers.horizontal.as_ref();
@@ -228,17 +242,24 @@ impl Lists<TakenList> {
         ticket: ListTicket,
         offers: Offers,
     ) -> Result<(), Offers>
-        requires kept { IsKept ⟦<Taken as Defined>⟧.loan windows.old }
-        requires out { AreOutBeside ⟦<TakenControl as DefinedControl>⟧.control_loan ⟦<TakenList as DefinedList>⟧.list_loan ⟦<Taken as Defined>⟧.loan new.now
-            (seen_offers ⟦<TakenControl as DefinedControl>⟧.control_loan ⟦<TakenList as DefinedList>⟧.list_loan offers) windows.old controls.old }
-        requires lists { AreBeside ⟦<TakenList as DefinedList>⟧.list_loan ⟦<Taken as Defined>⟧.loan windows.old self.old }
-        requires ticket { IsListTicket ⟦<Taken as Defined>⟧.loan ⟦<TakenControl as DefinedControl>⟧.control_loan ⟦<TakenList as DefinedList>⟧.list_loan new.now
-            (definition_of (option_map ⟦<TakenControl as DefinedControl>⟧.control_loan offers.vertical))
-            (definition_of (option_map ⟦<TakenControl as DefinedControl>⟧.control_loan offers.horizontal)) windows.old controls.old self.old ticket }
-        requires complete { lacks_any new.now (seen_offers ⟦<TakenControl as DefinedControl>⟧.control_loan ⟦<TakenList as DefinedList>⟧.list_loan offers) ≡ false }
+        requires kept { IsKept ⟦<TakenWindow as Defined>⟧.loan windows.old }
+        requires out { AreOutBeside ⟦<TakenControl as Defined>⟧.loan ⟦<TakenList as Defined>⟧.loan
+            ⟦<TakenWindow as Defined>⟧.loan new.now
+            (seen_offers ⟦<TakenControl as Defined>⟧.loan ⟦<TakenList as Defined>⟧.loan offers) windows.old
+            controls.old }
+        requires lists { AreBeside ⟦<TakenList as Defined>⟧.loan ⟦<TakenWindow as Defined>⟧.loan windows.old self.old }
+        requires ticket { IsListTicket ⟦<TakenWindow as Defined>⟧.loan ⟦<TakenControl as Defined>⟧.loan
+            ⟦<TakenList as Defined>⟧.loan new.now
+            (definition_of (option_map ⟦<TakenControl as Defined>⟧.loan offers.vertical))
+            (definition_of (option_map ⟦<TakenControl as Defined>⟧.loan offers.horizontal)) windows.old controls.old
+            self.old ticket }
+        requires complete { lacks_any new.now (seen_offers ⟦<TakenControl as Defined>⟧.loan
+            ⟦<TakenList as Defined>⟧.loan offers) ≡ false }
         ensures made { IfOk result (λ _. (kept rest held left : _)
-            → AreOffered new.now (seen_offers ⟦<TakenControl as DefinedControl>⟧.control_loan ⟦<TakenList as DefinedList>⟧.list_loan offers) kept rest held left
-            → LeavesOver ⟦<TakenList as DefinedList>⟧.list_loan ⟦<Taken as Defined>⟧.loan ⟦<TakenControl as DefinedControl>⟧.control_loan held left kept rest
+            → AreOffered new.now (seen_offers ⟦<TakenControl as Defined>⟧.loan ⟦<TakenList as Defined>⟧.loan offers)
+            kept rest held left
+            → LeavesOver ⟦<TakenList as Defined>⟧.loan ⟦<TakenWindow as Defined>⟧.loan ⟦<TakenControl as Defined>⟧.loan
+            held left kept rest
             (IsListMade new.now ticket.serial) windows.old controls.old self.old windows.new controls.new self.new) }
         ensures same { IfErr result (λ back. (back ≡ offers) × (windows.new ≡ windows.old)
             × IsRoomier controls.old controls.new × AreRoomier self.old self.new) }

@@ -9,10 +9,7 @@ ghost use Rattle.list_mgr.specs.Within.{IsWhereRight};
 
 use crate::Lists;
 use control_mgr::Controls;
-use def_iface::{
-    ControlStock, Defined, DefinedControl, DefinedList, ListStock, StockedControls, StockedLists,
-    Taken, TakenControl, TakenList,
-};
+use def_iface::{ControlStock, Defined, ListStock, Stocked, TakenControl, TakenList, TakenWindow};
 use desk_call::{ListCall, ListReply};
 use tb_geom::Refusal;
 use window_mgr::WindowManager;
@@ -29,15 +26,18 @@ impl Lists<TakenList> {
         stock: &mut ListStock,
         bars: &mut ControlStock,
     ) -> Result<ListReply, Refusal>
-        requires kept { IsKept ⟦<Taken as Defined>⟧.loan windows.old }
-        requires controls_whole { AreWholeControls (desk_of ⟦<Taken as Defined>⟧.loan windows.old []).windows
-            (controls_state ⟦<TakenControl as DefinedControl>⟧.control_loan controls.old (⟦<ControlStock as StockedControls>⟧.control_slots bars.old)) }
-        requires lists_whole { AreWholeLists (desk_of ⟦<Taken as Defined>⟧.loan windows.old []).windows
-            (lists_state ⟦<TakenList as DefinedList>⟧.list_loan self.old (⟦<ListStock as StockedLists>⟧.list_slots stock.old)) }
-        ensures { LeavesOver ⟦<TakenList as DefinedList>⟧.list_loan ⟦<Taken as Defined>⟧.loan ⟦<TakenControl as DefinedControl>⟧.control_loan
-            (⟦<ControlStock as StockedControls>⟧.control_slots bars.old) (⟦<ControlStock as StockedControls>⟧.control_slots bars.new)
-            (⟦<ListStock as StockedLists>⟧.list_slots stock.old) (⟦<ListStock as StockedLists>⟧.list_slots stock.new)
-            (IsWhereRight (IsListStep call.now result)) windows.old controls.old self.old windows.new controls.new self.new }
+        requires kept { IsKept ⟦<TakenWindow as Defined>⟧.loan windows.old }
+        requires controls_whole { AreWholeControls (desk_of ⟦<TakenWindow as Defined>⟧.loan windows.old []).windows
+            (controls_state ⟦<TakenControl as Defined>⟧.loan controls.old
+            (⟦<ControlStock as Stocked>⟧.slots bars.old)) }
+        requires lists_whole { AreWholeLists (desk_of ⟦<TakenWindow as Defined>⟧.loan windows.old []).windows
+            (lists_state ⟦<TakenList as Defined>⟧.loan self.old (⟦<ListStock as Stocked>⟧.slots stock.old)) }
+        ensures { LeavesOver ⟦<TakenList as Defined>⟧.loan ⟦<TakenWindow as Defined>⟧.loan
+            ⟦<TakenControl as Defined>⟧.loan
+            (⟦<ControlStock as Stocked>⟧.slots bars.old) (⟦<ControlStock as Stocked>⟧.slots bars.new)
+            (⟦<ListStock as Stocked>⟧.slots stock.old) (⟦<ListStock as Stocked>⟧.slots stock.new)
+            (IsWhereRight (IsListStep call.now result)) windows.old controls.old self.old windows.new controls.new
+            self.new }
     {
         match call {
             ListCall::New(new) => self.make(windows, controls, new, stock, bars),

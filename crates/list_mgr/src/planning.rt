@@ -3,15 +3,18 @@ ghost use Rattle.std.specs.Prelude.{◌≡◌, ◌<◌, length, IfOk};
 ghost use Rattle.window_mgr.specs.Kept.{IsKept};
 ghost use Rattle.control_mgr.specs.Making.{IsRoomier};
 ghost use Rattle.control_mgr.specs.Planned.{IsLaidSo};
-ghost use Rattle.list_mgr.specs.Putting.{AreBarsTaken, AreRoomier, IsBarTaken, IsOneBarTicket, IsPlace, IsPlannedWithBar, IsPlannedWithBars, IsPlanOfList, IsReadyToPut, IsTwoBarTicket, MayLay};
+ghost use Rattle.list_mgr.specs.Putting.{AreBarsTaken, AreRoomier, IsBarTaken, IsOneBarTicket, IsPlace};
+ghost use Rattle.list_mgr.specs.Putting.{IsPlannedWithBar, IsPlannedWithBars, IsPlanOfList, IsReadyToPut};
+ghost use Rattle.list_mgr.specs.Putting.{IsTwoBarTicket, MayLay};
 ghost use Rattle.list_mgr.specs.WholeLists.{AreBeside};
 
 use crate::Lists;
 use crate::judging::ListTicket;
 use crate::new_bars::{Bar, horizontal_bar, vertical_bar, wanted_bar};
 use control_mgr::{Addition, Controls};
-use def_iface::{Defined, DefinedControl, DefinedList, Part, Taken, TakenControl, TakenList};
+use def_iface::{Defined, TakenControl, TakenList, TakenWindow};
 use desk_call::NewList;
+use desk_layers::Part;
 use list_cells::ListCells;
 use scan_region::Region;
 use std::alloc::{AllocError, Global};
@@ -64,11 +67,12 @@ fn lay(
     layers: &Layers,
     update: &Region,
 ) -> Result<Laid, AllocError>
-    requires kept { IsKept ⟦<Taken as Defined>⟧.loan windows.now }
+    requires kept { IsKept ⟦<TakenWindow as Defined>⟧.loan windows.now }
     requires at { ticket.now.window < length windows.now.windows.records.items }
     requires may { MayLay ticket.now layers.now }
-    ensures { IfOk result (λ laid. (u : _) → IsLaidSo ⟦<Taken as Defined>⟧.loan ticket.now.window layers.now update.now windows.now u
-        → IsPlanOfList ⟦<Taken as Defined>⟧.loan ticket.now layers.now u laid) }
+    ensures { IfOk result (λ laid. (u : _) → IsLaidSo ⟦<TakenWindow as Defined>⟧.loan ticket.now.window layers.now
+        update.now windows.now u
+        → IsPlanOfList ⟦<TakenWindow as Defined>⟧.loan ticket.now layers.now u laid) }
 {
     let rect = ticket.view.rect();
     let region = Region::from_rect_in_range(alloc, rect)?;
@@ -96,11 +100,12 @@ impl Lists<TakenList> {
         new: &NewList<'_>,
         ticket: &ListTicket,
     ) -> Result<Planned, Refusal>
-        requires kept { IsKept ⟦<Taken as Defined>⟧.loan windows.now }
-        requires beside { AreBeside ⟦<TakenList as DefinedList>⟧.list_loan ⟦<Taken as Defined>⟧.loan windows.now self.old }
+        requires kept { IsKept ⟦<TakenWindow as Defined>⟧.loan windows.now }
+        requires beside { AreBeside ⟦<TakenList as Defined>⟧.loan ⟦<TakenWindow as Defined>⟧.loan windows.now self.old }
         requires place { IsPlace new.now windows.now self.old ticket.now }
         ensures same { AreRoomier self.old self.new }
-        ensures planned { IfOk result (IsReadyToPut ⟦<Taken as Defined>⟧.loan new.now ticket.now windows.now self.new) }
+        ensures planned { IfOk result (IsReadyToPut ⟦<TakenWindow as Defined>⟧.loan new.now ticket.now windows.now
+            self.new) }
     {
         self.list.reserve(1)?;
         let cells = ListCells::new(self.alloc, new.columns, new.rows)?;
@@ -119,16 +124,19 @@ impl Lists<TakenList> {
         ticket: &ListTicket,
         taken: &TakenControl,
     ) -> Result<PlannedWithBar, Refusal>
-        requires kept { IsKept ⟦<Taken as Defined>⟧.loan windows.now }
-        requires took { IsBarTaken ⟦<Taken as Defined>⟧.loan ⟦<TakenControl as DefinedControl>⟧.control_loan
-            (⟦<TakenControl as DefinedControl>⟧.control_loan taken.now) windows.now controls.old }
-        requires lists { AreBeside ⟦<TakenList as DefinedList>⟧.list_loan ⟦<Taken as Defined>⟧.loan windows.now self.old }
-        requires ticket { IsOneBarTicket ⟦<Taken as Defined>⟧.loan ⟦<TakenControl as DefinedControl>⟧.control_loan ⟦<TakenList as DefinedList>⟧.list_loan
-            new.now (⟦<TakenControl as DefinedControl>⟧.control_loan taken.now).definition windows.now controls.old self.old ticket.now }
+        requires kept { IsKept ⟦<TakenWindow as Defined>⟧.loan windows.now }
+        requires took { IsBarTaken ⟦<TakenWindow as Defined>⟧.loan ⟦<TakenControl as Defined>⟧.loan
+            (⟦<TakenControl as Defined>⟧.loan taken.now) windows.now controls.old }
+        requires lists { AreBeside ⟦<TakenList as Defined>⟧.loan ⟦<TakenWindow as Defined>⟧.loan windows.now self.old }
+        requires ticket { IsOneBarTicket ⟦<TakenWindow as Defined>⟧.loan ⟦<TakenControl as Defined>⟧.loan
+            ⟦<TakenList as Defined>⟧.loan
+            new.now (⟦<TakenControl as Defined>⟧.loan taken.now).definition windows.now controls.old self.old
+            ticket.now }
         ensures same { AreRoomier self.old self.new }
         ensures same_controls { IsRoomier controls.old controls.new }
-        ensures planned { IfOk result (IsPlannedWithBar ⟦<Taken as Defined>⟧.loan ⟦<TakenControl as DefinedControl>⟧.control_loan
-            new.now ticket.now (⟦<TakenControl as DefinedControl>⟧.control_loan taken.now).definition windows.now controls.new self.new) }
+        ensures planned { IfOk result (IsPlannedWithBar ⟦<TakenWindow as Defined>⟧.loan ⟦<TakenControl as Defined>⟧.loan
+            new.now ticket.now (⟦<TakenControl as Defined>⟧.loan taken.now).definition windows.now controls.new
+            self.new) }
     {
         controls.reserve(1)?;
         self.list.reserve(1)?;
@@ -164,17 +172,22 @@ impl Lists<TakenList> {
         vertical: &TakenControl,
         horizontal: &TakenControl,
     ) -> Result<PlannedWithBars, Refusal>
-        requires kept { IsKept ⟦<Taken as Defined>⟧.loan windows.now }
-        requires took { AreBarsTaken ⟦<Taken as Defined>⟧.loan ⟦<TakenControl as DefinedControl>⟧.control_loan
-            (⟦<TakenControl as DefinedControl>⟧.control_loan vertical.now) (⟦<TakenControl as DefinedControl>⟧.control_loan horizontal.now) windows.now controls.old }
-        requires lists { AreBeside ⟦<TakenList as DefinedList>⟧.list_loan ⟦<Taken as Defined>⟧.loan windows.now self.old }
-        requires ticket { IsTwoBarTicket ⟦<Taken as Defined>⟧.loan ⟦<TakenControl as DefinedControl>⟧.control_loan ⟦<TakenList as DefinedList>⟧.list_loan
-            new.now (⟦<TakenControl as DefinedControl>⟧.control_loan vertical.now).definition (⟦<TakenControl as DefinedControl>⟧.control_loan horizontal.now).definition
+        requires kept { IsKept ⟦<TakenWindow as Defined>⟧.loan windows.now }
+        requires took { AreBarsTaken ⟦<TakenWindow as Defined>⟧.loan ⟦<TakenControl as Defined>⟧.loan
+            (⟦<TakenControl as Defined>⟧.loan vertical.now) (⟦<TakenControl as Defined>⟧.loan horizontal.now)
+            windows.now controls.old }
+        requires lists { AreBeside ⟦<TakenList as Defined>⟧.loan ⟦<TakenWindow as Defined>⟧.loan windows.now self.old }
+        requires ticket { IsTwoBarTicket ⟦<TakenWindow as Defined>⟧.loan ⟦<TakenControl as Defined>⟧.loan
+            ⟦<TakenList as Defined>⟧.loan
+            new.now (⟦<TakenControl as Defined>⟧.loan vertical.now).definition
+            (⟦<TakenControl as Defined>⟧.loan horizontal.now).definition
             windows.now controls.old self.old ticket.now }
         ensures same { AreRoomier self.old self.new }
         ensures same_controls { IsRoomier controls.old controls.new }
-        ensures planned { IfOk result (IsPlannedWithBars ⟦<Taken as Defined>⟧.loan ⟦<TakenControl as DefinedControl>⟧.control_loan
-            new.now ticket.now (⟦<TakenControl as DefinedControl>⟧.control_loan vertical.now).definition (⟦<TakenControl as DefinedControl>⟧.control_loan horizontal.now).definition
+        ensures planned { IfOk result (IsPlannedWithBars ⟦<TakenWindow as Defined>⟧.loan
+            ⟦<TakenControl as Defined>⟧.loan
+            new.now ticket.now (⟦<TakenControl as Defined>⟧.loan vertical.now).definition
+            (⟦<TakenControl as Defined>⟧.loan horizontal.now).definition
             windows.now controls.new self.new) }
     {
         controls.reserve(2)?;

@@ -14,7 +14,7 @@ use crate::judging::ListTicket;
 use crate::planning::Planned;
 use crate::{ListRecord, Lists};
 use control_mgr::Controls;
-use def_iface::{Defined, DefinedControl, DefinedList, Stage, Taken, TakenControl, TakenList};
+use def_iface::{Defined, Stage, TakenControl, TakenList, TakenWindow};
 use desk_call::NewList;
 use window_items::Item;
 use window_mgr::WindowManager;
@@ -69,13 +69,15 @@ impl Lists<TakenList> {
         planned: Planned,
         taken: TakenList,
     )
-        requires kept { IsKept ⟦<Taken as Defined>⟧.loan windows.old }
-        requires beside { AreBeside ⟦<TakenList as DefinedList>⟧.list_loan ⟦<Taken as Defined>⟧.loan windows.old self.old }
-        requires ready { IsReadyToPut ⟦<Taken as Defined>⟧.loan new.now ticket.now windows.old self.old planned }
-        requires fresh { (⟦<TakenList as DefinedList>⟧.list_loan taken).definition.stage ≡ Stage.Fresh }
-        ensures { (before left : _) → IsTaken (λ d. d.stage) new.now.kind (⟦<TakenList as DefinedList>⟧.list_loan taken) before left
-            → LeavesBeside ⟦<TakenList as DefinedList>⟧.list_loan ⟦<Taken as Defined>⟧.loan before left
-            (IsListPut new.now ticket.now.serial bars.vertical bars.horizontal) windows.old self.old windows.new self.new }
+        requires kept { IsKept ⟦<TakenWindow as Defined>⟧.loan windows.old }
+        requires beside { AreBeside ⟦<TakenList as Defined>⟧.loan ⟦<TakenWindow as Defined>⟧.loan windows.old self.old }
+        requires ready { IsReadyToPut ⟦<TakenWindow as Defined>⟧.loan new.now ticket.now windows.old self.old planned }
+        requires fresh { (⟦<TakenList as Defined>⟧.loan taken).definition.stage ≡ Stage.Fresh }
+        ensures { (before left : _) → IsTaken (λ d. d.stage) new.now.kind (⟦<TakenList as Defined>⟧.loan taken) before
+            left
+            → LeavesBeside ⟦<TakenList as Defined>⟧.loan ⟦<TakenWindow as Defined>⟧.loan before left
+            (IsListPut new.now ticket.now.serial bars.vertical bars.horizontal) windows.old self.old windows.new
+            self.new }
     {
         let mut taken = taken;
         let Planned { cells, laid } = planned;
@@ -111,17 +113,20 @@ impl Lists<TakenList> {
         ticket: ListTicket,
         taken: TakenList,
     ) -> Result<(), TakenList>
-        requires kept { IsKept ⟦<Taken as Defined>⟧.loan windows.old }
-        requires lists { AreBeside ⟦<TakenList as DefinedList>⟧.list_loan ⟦<Taken as Defined>⟧.loan windows.old self.old }
-        requires ticket { IsListTicket ⟦<Taken as Defined>⟧.loan ⟦<TakenControl as DefinedControl>⟧.control_loan ⟦<TakenList as DefinedList>⟧.list_loan
+        requires kept { IsKept ⟦<TakenWindow as Defined>⟧.loan windows.old }
+        requires lists { AreBeside ⟦<TakenList as Defined>⟧.loan ⟦<TakenWindow as Defined>⟧.loan windows.old self.old }
+        requires ticket { IsListTicket ⟦<TakenWindow as Defined>⟧.loan ⟦<TakenControl as Defined>⟧.loan
+            ⟦<TakenList as Defined>⟧.loan
             new.now None None windows.old controls.now self.old ticket }
-        requires fresh { (⟦<TakenList as DefinedList>⟧.list_loan taken).definition.stage ≡ Stage.Fresh }
+        requires fresh { (⟦<TakenList as Defined>⟧.loan taken).definition.stage ≡ Stage.Fresh }
         requires unbarred { (new.now.vertical_bar ≡ false) × (new.now.horizontal_bar ≡ false) }
         ensures put { IfOk result (λ _. (held before left : _)
-            → IsTaken (λ d. d.stage) new.now.kind (⟦<TakenList as DefinedList>⟧.list_loan taken) before left
-            → LeavesOver ⟦<TakenList as DefinedList>⟧.list_loan ⟦<Taken as Defined>⟧.loan ⟦<TakenControl as DefinedControl>⟧.control_loan
-            held held before left (IsListMade new.now ticket.serial) windows.old controls.now self.old windows.new controls.now self.new) }
-        ensures same { IfErr result (λ back. (back ≡ taken) × (windows.new ≡ windows.old) × AreRoomier self.old self.new) }
+            → IsTaken (λ d. d.stage) new.now.kind (⟦<TakenList as Defined>⟧.loan taken) before left
+            → LeavesOver ⟦<TakenList as Defined>⟧.loan ⟦<TakenWindow as Defined>⟧.loan ⟦<TakenControl as Defined>⟧.loan
+            held held before left (IsListMade new.now ticket.serial) windows.old controls.now self.old windows.new
+            controls.now self.new) }
+        ensures same { IfErr result (λ back. (back ≡ taken) × (windows.new ≡ windows.old)
+            × AreRoomier self.old self.new) }
     {
         match self.plan(windows, new, &ticket) {
             Ok(planned) => {
@@ -143,18 +148,20 @@ impl Lists<TakenList> {
         taken: TakenList,
         bar: TakenControl,
     ) -> Result<(), (TakenList, TakenControl)>
-        requires kept { IsKept ⟦<Taken as Defined>⟧.loan windows.old }
-        requires took { IsBarTaken ⟦<Taken as Defined>⟧.loan ⟦<TakenControl as DefinedControl>⟧.control_loan
-            (⟦<TakenControl as DefinedControl>⟧.control_loan bar) windows.old controls.old }
-        requires lists { AreBeside ⟦<TakenList as DefinedList>⟧.list_loan ⟦<Taken as Defined>⟧.loan windows.old self.old }
-        requires ticket { IsOneBarTicket ⟦<Taken as Defined>⟧.loan ⟦<TakenControl as DefinedControl>⟧.control_loan ⟦<TakenList as DefinedList>⟧.list_loan
-            new.now (⟦<TakenControl as DefinedControl>⟧.control_loan bar).definition windows.old controls.old self.old ticket }
-        requires fresh { (⟦<TakenList as DefinedList>⟧.list_loan taken).definition.stage ≡ Stage.Fresh }
+        requires kept { IsKept ⟦<TakenWindow as Defined>⟧.loan windows.old }
+        requires took { IsBarTaken ⟦<TakenWindow as Defined>⟧.loan ⟦<TakenControl as Defined>⟧.loan
+            (⟦<TakenControl as Defined>⟧.loan bar) windows.old controls.old }
+        requires lists { AreBeside ⟦<TakenList as Defined>⟧.loan ⟦<TakenWindow as Defined>⟧.loan windows.old self.old }
+        requires ticket { IsOneBarTicket ⟦<TakenWindow as Defined>⟧.loan ⟦<TakenControl as Defined>⟧.loan
+            ⟦<TakenList as Defined>⟧.loan
+            new.now (⟦<TakenControl as Defined>⟧.loan bar).definition windows.old controls.old self.old ticket }
+        requires fresh { (⟦<TakenList as Defined>⟧.loan taken).definition.stage ≡ Stage.Fresh }
         ensures put { IfOk result (λ _. (held rest before left : _)
-            → IsTaken (λ d. d.stage) scroll_kind (⟦<TakenControl as DefinedControl>⟧.control_loan bar) held rest
-            → IsTaken (λ d. d.stage) new.now.kind (⟦<TakenList as DefinedList>⟧.list_loan taken) before left
-            → LeavesOver ⟦<TakenList as DefinedList>⟧.list_loan ⟦<Taken as Defined>⟧.loan ⟦<TakenControl as DefinedControl>⟧.control_loan
-            held rest before left (IsListMade new.now ticket.serial) windows.old controls.old self.old windows.new controls.new self.new) }
+            → IsTaken (λ d. d.stage) scroll_kind (⟦<TakenControl as Defined>⟧.loan bar) held rest
+            → IsTaken (λ d. d.stage) new.now.kind (⟦<TakenList as Defined>⟧.loan taken) before left
+            → LeavesOver ⟦<TakenList as Defined>⟧.loan ⟦<TakenWindow as Defined>⟧.loan ⟦<TakenControl as Defined>⟧.loan
+            held rest before left (IsListMade new.now ticket.serial) windows.old controls.old self.old windows.new
+            controls.new self.new) }
         ensures same { IfErr result (λ back. (back ≡ (taken, bar)) × (windows.new ≡ windows.old)
             × IsRoomier controls.old controls.new × AreRoomier self.old self.new) }
     {
@@ -183,20 +190,24 @@ impl Lists<TakenList> {
         vertical: TakenControl,
         horizontal: TakenControl,
     ) -> Result<(), (TakenList, TakenControl, TakenControl)>
-        requires kept { IsKept ⟦<Taken as Defined>⟧.loan windows.old }
-        requires took { AreBarsTaken ⟦<Taken as Defined>⟧.loan ⟦<TakenControl as DefinedControl>⟧.control_loan
-            (⟦<TakenControl as DefinedControl>⟧.control_loan vertical) (⟦<TakenControl as DefinedControl>⟧.control_loan horizontal) windows.old controls.old }
-        requires lists { AreBeside ⟦<TakenList as DefinedList>⟧.list_loan ⟦<Taken as Defined>⟧.loan windows.old self.old }
-        requires ticket { IsTwoBarTicket ⟦<Taken as Defined>⟧.loan ⟦<TakenControl as DefinedControl>⟧.control_loan ⟦<TakenList as DefinedList>⟧.list_loan
-            new.now (⟦<TakenControl as DefinedControl>⟧.control_loan vertical).definition (⟦<TakenControl as DefinedControl>⟧.control_loan horizontal).definition
+        requires kept { IsKept ⟦<TakenWindow as Defined>⟧.loan windows.old }
+        requires took { AreBarsTaken ⟦<TakenWindow as Defined>⟧.loan ⟦<TakenControl as Defined>⟧.loan
+            (⟦<TakenControl as Defined>⟧.loan vertical) (⟦<TakenControl as Defined>⟧.loan horizontal) windows.old
+            controls.old }
+        requires lists { AreBeside ⟦<TakenList as Defined>⟧.loan ⟦<TakenWindow as Defined>⟧.loan windows.old self.old }
+        requires ticket { IsTwoBarTicket ⟦<TakenWindow as Defined>⟧.loan ⟦<TakenControl as Defined>⟧.loan
+            ⟦<TakenList as Defined>⟧.loan
+            new.now (⟦<TakenControl as Defined>⟧.loan vertical).definition
+            (⟦<TakenControl as Defined>⟧.loan horizontal).definition
             windows.old controls.old self.old ticket }
-        requires fresh { (⟦<TakenList as DefinedList>⟧.list_loan taken).definition.stage ≡ Stage.Fresh }
+        requires fresh { (⟦<TakenList as Defined>⟧.loan taken).definition.stage ≡ Stage.Fresh }
         ensures put { IfOk result (λ _. (held mid rest before left : _)
-            → IsTaken (λ d. d.stage) scroll_kind (⟦<TakenControl as DefinedControl>⟧.control_loan vertical) held mid
-            → IsTaken (λ d. d.stage) scroll_kind (⟦<TakenControl as DefinedControl>⟧.control_loan horizontal) mid rest
-            → IsTaken (λ d. d.stage) new.now.kind (⟦<TakenList as DefinedList>⟧.list_loan taken) before left
-            → LeavesOver ⟦<TakenList as DefinedList>⟧.list_loan ⟦<Taken as Defined>⟧.loan ⟦<TakenControl as DefinedControl>⟧.control_loan
-            held rest before left (IsListMade new.now ticket.serial) windows.old controls.old self.old windows.new controls.new self.new) }
+            → IsTaken (λ d. d.stage) scroll_kind (⟦<TakenControl as Defined>⟧.loan vertical) held mid
+            → IsTaken (λ d. d.stage) scroll_kind (⟦<TakenControl as Defined>⟧.loan horizontal) mid rest
+            → IsTaken (λ d. d.stage) new.now.kind (⟦<TakenList as Defined>⟧.loan taken) before left
+            → LeavesOver ⟦<TakenList as Defined>⟧.loan ⟦<TakenWindow as Defined>⟧.loan ⟦<TakenControl as Defined>⟧.loan
+            held rest before left (IsListMade new.now ticket.serial) windows.old controls.old self.old windows.new
+            controls.new self.new) }
         ensures same { IfErr result (λ back. (back ≡ (taken, vertical, horizontal)) × (windows.new ≡ windows.old)
             × IsRoomier controls.old controls.new × AreRoomier self.old self.new) }
     {

@@ -12,7 +12,7 @@ ghost use Rattle.list_mgr.specs.WholeLists.{AreBeside, IsChangedOver, IsSettledL
 
 use crate::spots::ListAt;
 use crate::{ListRecord, Lists};
-use def_iface::{Defined, DefinedList, Taken, TakenList};
+use def_iface::{Defined, TakenList, TakenWindow};
 use desk_call::{ListClick, ListReply, SelectCell};
 use draw_port::Canvas;
 use list_cells::{Cell, ClickKeys, Selecting};
@@ -33,7 +33,8 @@ struct Toggled<'a, D> {
 impl<'a, D: DrawnList> Toggling for Toggled<'a, D> {
     ghost is_ready = { λ t. IsSettledList (seen D.list_loan t.list.now) };
 
-    ghost toggles = { λ t font. is_turned font (D.list_loan t.list.now.kept.definition).definition t.list.now.kept.view t.list.now.kept.cells
+    ghost toggles = { λ t font. is_turned font (D.list_loan t.list.now.kept.definition).definition t.list.now.kept.view
+        t.list.now.kept.cells
         (selected_by t.selecting t.list.now.kept.cells) };
 
     fn invert(&self, canvas: &mut Canvas<'_>) {
@@ -58,11 +59,13 @@ impl Lists<TakenList> {
         mark: Option<Region>,
         selecting: Selecting,
     )
-        requires kept { IsKept ⟦<Taken as Defined>⟧.loan windows.old }
-        requires beside { AreBeside ⟦<TakenList as DefinedList>⟧.list_loan ⟦<Taken as Defined>⟧.loan windows.old self.now }
-        requires spot { IsSpot ⟦<Taken as Defined>⟧.loan ⟦<TakenList as DefinedList>⟧.list_loan windows.old self.now spot }
-        requires mark { IsMark ⟦<TakenList as DefinedList>⟧.list_loan ⟦<Taken as Defined>⟧.loan windows.old self.now spot mark }
-        ensures { IsToggledOrMarked ⟦<TakenList as DefinedList>⟧.list_loan ⟦<Taken as Defined>⟧.loan mark selecting spot self.now windows.old windows.new }
+        requires kept { IsKept ⟦<TakenWindow as Defined>⟧.loan windows.old }
+        requires beside { AreBeside ⟦<TakenList as Defined>⟧.loan ⟦<TakenWindow as Defined>⟧.loan windows.old self.now }
+        requires spot { IsSpot ⟦<TakenWindow as Defined>⟧.loan ⟦<TakenList as Defined>⟧.loan windows.old self.now spot }
+        requires mark { IsMark ⟦<TakenList as Defined>⟧.loan ⟦<TakenWindow as Defined>⟧.loan windows.old self.now spot
+            mark }
+        ensures { IsToggledOrMarked ⟦<TakenList as Defined>⟧.loan ⟦<TakenWindow as Defined>⟧.loan mark selecting spot
+            self.now windows.old windows.new }
     {
         let list = &self.list.items[spot.list];
         match mark {
@@ -84,9 +87,9 @@ impl Lists<TakenList> {
         windows: &mut WindowManager,
         chosen: SelectCell,
     ) -> Result<ListReply, Refusal>
-        requires kept { IsKept ⟦<Taken as Defined>⟧.loan windows.old }
-        requires beside { AreBeside ⟦<TakenList as DefinedList>⟧.list_loan ⟦<Taken as Defined>⟧.loan windows.old self.old }
-        ensures { IsChangedOver ⟦<TakenList as DefinedList>⟧.list_loan ⟦<Taken as Defined>⟧.loan
+        requires kept { IsKept ⟦<TakenWindow as Defined>⟧.loan windows.old }
+        requires beside { AreBeside ⟦<TakenList as Defined>⟧.loan ⟦<TakenWindow as Defined>⟧.loan windows.old self.old }
+        ensures { IsChangedOver ⟦<TakenList as Defined>⟧.loan ⟦<TakenWindow as Defined>⟧.loan
             (IsListStep (asks.Select chosen) result) windows.old self.old windows.new self.new }
     {
         let spot = self.spot(windows, chosen.cell.list)?;
@@ -114,9 +117,9 @@ impl Lists<TakenList> {
         windows: &mut WindowManager,
         clicked: ListClick,
     ) -> Result<ListReply, Refusal>
-        requires kept { IsKept ⟦<Taken as Defined>⟧.loan windows.old }
-        requires beside { AreBeside ⟦<TakenList as DefinedList>⟧.list_loan ⟦<Taken as Defined>⟧.loan windows.old self.old }
-        ensures { IsChangedOver ⟦<TakenList as DefinedList>⟧.list_loan ⟦<Taken as Defined>⟧.loan
+        requires kept { IsKept ⟦<TakenWindow as Defined>⟧.loan windows.old }
+        requires beside { AreBeside ⟦<TakenList as Defined>⟧.loan ⟦<TakenWindow as Defined>⟧.loan windows.old self.old }
+        ensures { IsChangedOver ⟦<TakenList as Defined>⟧.loan ⟦<TakenWindow as Defined>⟧.loan
             (IsListStep (asks.Click clicked) result) windows.old self.old windows.new self.new }
     {
         let spot = self.spot(windows, clicked.list)?;

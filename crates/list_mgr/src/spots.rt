@@ -7,7 +7,8 @@ ghost use Rattle.list_mgr.specs.Spots.{IsSpotOf};
 ghost use Rattle.list_mgr.specs.WholeLists.{records_of};
 
 use crate::Lists;
-use def_iface::{Defined, DefinedList, Taken, TakenList};
+use control_mgr::spot_of;
+use def_iface::{Defined, TakenList, TakenWindow};
 use desk_call::ListOf;
 use tb_geom::Refusal;
 use window_mgr::WindowManager;
@@ -22,18 +23,20 @@ pub(crate) struct ListAt {
 impl Lists<TakenList> {
     /// Where this list stands.
     pub(crate) fn spot(&self, windows: &WindowManager, list: ListOf) -> Result<ListAt, Refusal>
-        ensures { let refusals = missing_refusals list (desk_of ⟦<Taken as Defined>⟧.loan windows.now [])
-            (records_of ⟦<TakenList as DefinedList>⟧.list_loan self.now) in
+        ensures { let refusals = missing_refusals list (desk_of ⟦<TakenWindow as Defined>⟧.loan windows.now [])
+            (records_of ⟦<TakenList as Defined>⟧.loan self.now) in
             MatchResult result
-            (λ spot. IsSpotOf ⟦<Taken as Defined>⟧.loan ⟦<TakenList as DefinedList>⟧.list_loan list windows.now self.now spot)
+            (λ spot. IsSpotOf ⟦<TakenWindow as Defined>⟧.loan ⟦<TakenList as Defined>⟧.loan list windows.now self.now
+            spot)
             (λ e. first_refusal refusals ≡ Some e) }
     {
-        let Some(window) = windows.find(list.window) else {
-            return Err(Refusal::NoSuchWindow);
-        };
-        match self.list.find(list.window, list.list) {
-            Some(list) => Ok(ListAt { window, list }),
-            None => Err(Refusal::NoSuchList),
+        let missing = Refusal::NoSuchList;
+        match spot_of(windows, &self.list, list.window, list.list, missing) {
+            Ok(at) => Ok(ListAt {
+                window: at.window,
+                list: at.item,
+            }),
+            Err(refusal) => Err(refusal),
         }
     }
 }

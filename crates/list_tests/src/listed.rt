@@ -4,7 +4,7 @@ ghost use Rattle.list_view.specs.Walks.{IsReady};
 
 use crate::plain_list::PlainView;
 use bit_map::BitMap;
-use def_iface::{DefinedList, ListDef, ListStock, Size, Stage, TakenList};
+use def_iface::{Defined, ListDef, ListStock, Size, Stage, TakenList};
 use draw_port::{Canvas, Cut};
 use list_cells::{Cell, ClickKeys, ListCells, Selecting, SelectionFlags};
 use list_view::{Axis, ListView, paint_list, toggle_cells};
@@ -53,7 +53,7 @@ pub fn cell(column: u8, row: u8) -> Cell {
 /// A definition of lists, told the size of the view's cells.
 pub fn told(alloc: Global, list: Box<dyn ListDef>, plain: PlainView) -> Result<TakenList, Refusal>
     requires { (list_meaning list).stage ≡ Stage.Fresh }
-    ensures { IfOk result (λ taken. IsReady (⟦<TakenList as DefinedList>⟧.list_loan taken).definition) }
+    ensures { IfOk result (λ taken. IsReady (⟦<TakenList as Defined>⟧.loan taken).definition) }
 {
     if plain.cell_width == 0 || plain.cell_height == 0 {
         return Err(Refusal::OutOfRange);
@@ -114,7 +114,7 @@ pub fn paint(
     cells: &ListCells,
     font: &Font,
 )
-    requires ready { IsReady (⟦<TakenList as DefinedList>⟧.list_loan definition.now).definition }
+    requires ready { IsReady (⟦<TakenList as Defined>⟧.loan definition.now).definition }
 {
     let mut canvas = Canvas {
         map,
@@ -160,7 +160,7 @@ fn toggle(
     selecting: Selecting,
     font: &Font,
 )
-    requires ready { IsReady (⟦<TakenList as DefinedList>⟧.list_loan definition.now).definition }
+    requires ready { IsReady (⟦<TakenList as Defined>⟧.loan definition.now).definition }
 {
     let mut canvas = Canvas {
         map,
@@ -181,7 +181,7 @@ pub fn turn(
     change: Change,
     font: &Font,
 ) -> bool
-    requires ready { IsReady (⟦<TakenList as DefinedList>⟧.list_loan definition.now).definition }
+    requires ready { IsReady (⟦<TakenList as Defined>⟧.loan definition.now).definition }
 {
     let cell = cell(change.column, change.row);
     match change.by {

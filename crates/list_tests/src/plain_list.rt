@@ -3,7 +3,7 @@ ghost use Rattle.list_view.specs.Walks.{IsReady};
 
 use crate::listed::{CLIP, COLUMNS, NOTHING_CUT, ORIGIN, ROWS, cell};
 use bit_map::{BitMap, Mode, Pattern};
-use def_iface::{DefinedList, TakenList};
+use def_iface::{Defined, TakenList};
 use draw_port::Canvas;
 use list_cells::{Cell, ListCells};
 use std::alloc::Global;
@@ -75,7 +75,7 @@ fn cell_map(
     cell: Cell,
     font: &Font,
 ) -> Result<BitMap, Refusal>
-    requires ready { IsReady (⟦<TakenList as DefinedList>⟧.list_loan definition.now).definition }
+    requires ready { IsReady (⟦<TakenList as Defined>⟧.loan definition.now).definition }
 {
     let bytes = cells.cell(cell)?;
     let selected = cells.is_selected(cell)?;
@@ -124,7 +124,7 @@ pub fn plain_map(
     cells: &ListCells,
     font: &Font,
 ) -> Result<BitMap, Refusal>
-    requires ready { IsReady (⟦<TakenList as DefinedList>⟧.list_loan definition.now).definition }
+    requires ready { IsReady (⟦<TakenList as Defined>⟧.loan definition.now).definition }
 {
     let mut map = black_map(alloc, font)?;
     put_cell(&mut map, CLIP, point!(0, 0), &BitMap::new(alloc, 48, 36)?);

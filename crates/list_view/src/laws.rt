@@ -41,7 +41,8 @@ pub fn one_cell_holds_a_point()
 #[tactic(auto, using(crate::proofs::LineLemmas::scrolled_least, crate::proofs::LineLemmas::scrolled_most, crate::proofs::LineLemmas::scrolled_stays))]
 pub fn scrolling_stays_within()
     ensures least { (axis : Axis) (count : ℕ) (first lines : ℤ) → pos 0 ≤ℤ scrolled_line axis count first lines }
-    ensures most { (axis : Axis) (count : ℕ) (first lines : ℤ) → scrolled_line axis count first lines ≤ℤ bound axis count }
+    ensures most { (axis : Axis) (count : ℕ) (first lines : ℤ)
+        → scrolled_line axis count first lines ≤ℤ bound axis count }
     ensures stays { (axis : Axis) (count : ℕ) (first : ℤ) → pos 0 ≤ℤ first → first ≤ℤ bound axis count
         → scrolled_line axis count first (pos 0) ≡ first }
 {}
@@ -70,5 +71,6 @@ pub fn toggling_makes_what_is_shown()
     ensures { (font : List ℕ) (d : ListDefinition) (v : View) (before after : Grid) (s : Selecting) (p : Point)
         → IsSelecting before after s
         → list_shown font d v after p
-        ≡ (if is_turned font d v before after p then not (list_shown font d v before p) else list_shown font d v before p) }
+        ≡ (if is_turned font d v before after p then not (list_shown font d v before p)
+        else list_shown font d v before p) }
 {}

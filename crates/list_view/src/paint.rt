@@ -31,7 +31,8 @@ pub fn paint_list<D: DrawnList>(
     ensures same_map { canvas.new.map.ghost_name ≡ canvas.old.map.ghost_name }
     ensures same_frame { SameFrame canvas.old canvas.new }
     ensures drawn { Draws (canvas_holds canvas.old)
-        (λ p _. list_shown canvas.old.font.now (D.list_loan definition.now).definition view cells.now (canvas_point canvas.old p))
+        (λ p _. list_shown canvas.old.font.now (D.list_loan definition.now).definition view cells.now
+        (canvas_point canvas.old p))
         canvas.old.map.now canvas.new.map.now }
 {
     canvas.fill_all(Pattern::WHITE, Mode::Copy);

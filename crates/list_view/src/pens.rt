@@ -39,7 +39,8 @@ pub(crate) struct CellPicture<'a, D> {
 impl<D: DrawnList> CellPen for CellPicture<'_, D> {
     ghost is_ready = { λ s. IsReady (D.list_loan s.definition.now).definition };
 
-    ghost value = { λ s g font c p _. cell_bit (D.list_loan s.definition.now).definition (content_of g c).selected font (content_of g c).bytes p };
+    ghost value = { λ s g font c p _. cell_bit (D.list_loan s.definition.now).definition (content_of g c).selected font
+        (content_of g c).bytes p };
 
     fn draw(&self, cells: &ListCells, cell: Cell, canvas: &mut Canvas<'_>) {
         let bytes = cells.cell(cell).unwrap();
@@ -58,7 +59,9 @@ pub(crate) struct CellToggle<'a, D> {
 impl<D: DrawnList> CellPen for CellToggle<'_, D> {
     ghost is_ready = { λ s. IsReady (D.list_loan s.definition.now).definition };
 
-    ghost value = { λ s g font c p d. if is_toggled g (selected_as s.selecting g) c && (D.list_loan s.definition.now).definition.highlight no_list_news font (content_of g c).bytes p then not d else d };
+    ghost value = { λ s g font c p d. if is_toggled g (selected_as s.selecting g) c
+        && (D.list_loan s.definition.now).definition.highlight no_list_news font (content_of g c).bytes p then not d
+        else d };
 
     fn draw(&self, cells: &ListCells, cell: Cell, canvas: &mut Canvas<'_>) {
         if cells.is_toggled(cell, self.selecting) {

@@ -55,7 +55,8 @@ fn draw_cell<P: CellPen>(
     requires origin { in_plane canvas.old.origin ≡ true }
     ensures same_map { canvas.new.map.ghost_name ≡ canvas.old.map.ghost_name }
     ensures same_frame { SameFrame canvas.old canvas.new }
-    ensures drawn { Draws (λ p. canvas_holds canvas.old p && rect_holds (cell_rect view cell) (canvas_point canvas.old p))
+    ensures drawn { Draws (λ p. canvas_holds canvas.old p && rect_holds (cell_rect view cell)
+        (canvas_point canvas.old p))
         (λ p d. P.value pen.now cells.now canvas.old.font.now cell (in_cell view cell (canvas_point canvas.old p)) d)
         canvas.old.map.now canvas.new.map.now }
 {
@@ -109,7 +110,8 @@ pub(crate) fn draw_rows<P: CellPen>(
     ensures same_map { canvas.new.map.ghost_name ≡ canvas.old.map.ghost_name }
     ensures same_frame { SameFrame canvas.old canvas.new }
     ensures drawn { Draws (canvas_holds canvas.old)
-        (λ p d. shown_value (P.value pen.now cells.now canvas.old.font.now) view cells.now (canvas_point canvas.old p) d)
+        (λ p d. shown_value (P.value pen.now cells.now canvas.old.font.now) view cells.now (canvas_point canvas.old p)
+        d)
         canvas.old.map.now canvas.new.map.now }
 {
     let first = view.first().row as usize;

@@ -16,8 +16,10 @@ impl<D> MenuList<D> {
     /// changes nothing.
     pub fn append(&mut self, at: usize, text: &[u8]) -> Result<(), Refusal>
         requires { at < length self.old.menus.items }
-        ensures appended { OnOk result (self.new.menus.items ≡ edit_at (with_menu (with_items_of text.now)) at self.old.menus.items) }
-        ensures allowed { OnOk result (why_at (λ m. why_not_appended text.now (length m.items)) at self.old.menus.items ≡ None) }
+        ensures appended { OnOk result (self.new.menus.items ≡ edit_at (with_menu (with_items_of text.now)) at
+            self.old.menus.items) }
+        ensures allowed { OnOk result (why_at (λ m. why_not_appended text.now (length m.items)) at self.old.menus.items
+            ≡ None) }
         ensures refused { IfErr result (λ e. IfSome (slice_get self.old.menus.items at)
             (λ l. IsNotAppended text.now (length l.menu.items) e)) }
         ensures kept { OnErr result (self.new.menus.items ≡ self.old.menus.items) }
@@ -31,7 +33,8 @@ impl<D> MenuList<D> {
     /// there is none, else TooLong where the text has more than 255 characters. A refusal changes nothing.
     pub fn set_text(&mut self, at: usize, item: i32, text: &[u8]) -> Result<(), Refusal>
         requires { at < length self.old.menus.items }
-        ensures done { OnOk result (self.new.menus.items ≡ edit_at (with_menu (with_item_text item text.now)) at self.old.menus.items) }
+        ensures done { OnOk result (self.new.menus.items ≡ edit_at (with_menu (with_item_text item text.now)) at
+            self.old.menus.items) }
         ensures answered { result_err result ≡ why_at (λ m. why_no_text item text.now m.items) at self.old.menus.items }
         ensures kept { OnErr result (self.new.menus.items ≡ self.old.menus.items) }
         ensures highlighted { self.new.highlighted ≡ self.old.highlighted }
@@ -44,7 +47,8 @@ impl<D> MenuList<D> {
     /// NoSuchItem, with nothing changed, where the number is neither 0 nor that of an item.
     pub fn set_enabled(&mut self, at: usize, item: i32, enabled: bool) -> Result<(), Refusal>
         requires { at < length self.old.menus.items }
-        ensures done { OnOk result (self.new.menus.items ≡ edit_at (with_menu (set_enabled item enabled)) at self.old.menus.items) }
+        ensures done { OnOk result (self.new.menus.items ≡ edit_at (with_menu (set_enabled item enabled)) at
+            self.old.menus.items) }
         ensures answered { result_err result ≡ why_at (why_not_enabled item) at self.old.menus.items }
         ensures kept { OnErr result (self.new.menus.items ≡ self.old.menus.items) }
         ensures highlighted { self.new.highlighted ≡ self.old.highlighted }
@@ -57,7 +61,8 @@ impl<D> MenuList<D> {
     /// with nothing changed, where there is none.
     pub fn check(&mut self, at: usize, item: i32, checked: bool) -> Result<(), Refusal>
         requires { at < length self.old.menus.items }
-        ensures done { OnOk result (self.new.menus.items ≡ edit_at (with_menu (with_item_checked item checked)) at self.old.menus.items) }
+        ensures done { OnOk result (self.new.menus.items ≡ edit_at (with_menu (with_item_checked item checked)) at
+            self.old.menus.items) }
         ensures answered { result_err result ≡ why_at (λ m. why_no_item item m.items) at self.old.menus.items }
         ensures kept { OnErr result (self.new.menus.items ≡ self.old.menus.items) }
         ensures highlighted { self.new.highlighted ≡ self.old.highlighted }

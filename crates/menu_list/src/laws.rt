@@ -10,7 +10,8 @@ ghost use Rattle.menu_list.specs.Lists.{has_number, menu_index, in_bar, moved_be
 /// To insert a menu, or to move it in the bar, is to lose none and to make none.
 #[tactic(auto, using(crate::proofs::LawLemmas::as_many, crate::proofs::LawLemmas::same_numbers))]
 pub fn an_insertion_keeps_the_menus<D>()
-    ensures many { (before : ℤ) (at : ℕ) (menus : List (Listed D)) → length (moved_before before at menus) ≡ length menus }
+    ensures many { (before : ℤ) (at : ℕ) (menus : List (Listed D))
+        → length (moved_before before at menus) ≡ length menus }
     ensures numbers { (before : ℤ) (at : ℕ) (menus : List (Listed D)) (id : ℤ)
         → list_any (has_number id) (moved_before before at menus) ≡ list_any (has_number id) menus }
 {}
@@ -19,7 +20,8 @@ pub fn an_insertion_keeps_the_menus<D>()
 #[tactic(auto, using(crate::proofs::LawLemmas::at_the_end))]
 pub fn a_menu_is_inserted_at_the_right_end<D>()
     ensures { (before : ℤ) (listed : Listed D) (menus : List (Listed D)) → menu_index before menus ≡ Option.None
-        → in_bar (put_before before (with_inserted true listed) menus) ≡ in_bar menus ++ with_inserted true listed ∷ [] }
+        → in_bar (put_before before (with_inserted true listed) menus)
+        ≡ in_bar menus ++ with_inserted true listed ∷ [] }
 {}
 
 /// Titles are highlighted of one number alone, that of the menu that is highlighted.

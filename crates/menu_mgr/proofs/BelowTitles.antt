@@ -5,8 +5,8 @@ use Rattle.std.proofs.lemmas.Bool.{and_parts}
 use Rattle.std.proofs.lemmas.Int.{ints, to_z-of_z}
 use Rattle.tb_geom.specs.declared.point.Point.{Point}
 use Rattle.def_iface.specs.declared.size.Size.{Size}
-use Rattle.def_iface.specs.declared.taken.Taken.{Taken}
-use Rattle.def_iface.specs.Meaning.{Loan}
+use Rattle.def_iface.specs.Slots.{TakenBox}
+use Rattle.def_iface.specs.WindowMeaning.{WindowLoan}
 use Rattle.desk_ground.specs.declared.bar.TitleHit.{TitleHit}
 use Rattle.overlay.specs.Places.{pulled_place, shown_size}
 use Rattle.window_mgr.specs.declared.manager.WindowManager.{WindowManager}
@@ -22,7 +22,7 @@ few_pixels : (n : ℕ) → is_side n ≡ true → n ≤ 1024
 few_pixels n e = grind (arith, ints)
 
 -- no side of a screen is longer
-pub narrow : {V : Type 0} {H : V → Type 0} (loan : Taken V H → Loan) (t : WindowManager V H) → IsKept loan t → (t.screen.width ≤ 1024) × (t.screen.height ≤ 1024)
+pub narrow : {V : Type 0} {H : V → Type 0} (loan : TakenBox V H → WindowLoan) (t : WindowManager V H) → IsKept loan t → (t.screen.width ≤ 1024) × (t.screen.height ≤ 1024)
 narrow loan t kept =
     let one = and_parts (is_side t.screen.width) _ kept.whole.sound.screen in
     let two = and_parts (is_side t.screen.height) _ one.1 in

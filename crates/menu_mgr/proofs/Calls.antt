@@ -2,9 +2,8 @@
 use Rattle.std.proofs.Common.{◌≡◌, List, None, Result, refl, sym, true, subst, ap, ◌∙◌}
 use Rattle.tb_geom.specs.declared.refusal.Refusal.{Refusal}
 use Rattle.tb_geom.specs.Points.{PixelSet}
-use Rattle.def_iface.specs.declared.taken.Taken.{Taken}
-use Rattle.def_iface.specs.declared.taken_menu.TakenMenu.{TakenMenu}
-use Rattle.def_iface.specs.Meaning.{Loan}
+use Rattle.def_iface.specs.Slots.{TakenBox}
+use Rattle.def_iface.specs.WindowMeaning.{WindowLoan}
 use Rattle.def_iface.specs.MenuMeaning.{MenuLoan}
 use Rattle.desk_call.specs.declared.activity.Activity.{Activity}
 use Rattle.desk_call.specs.declared.activity.Activity.TheVariants.{Idle}
@@ -30,7 +29,7 @@ edits_change (Move p) is = absurd (cc)
 edits_change (Up p) is = absurd (cc)
 edits_change _ is = refl
 
-module _ {V : Type 0} {H : V → Type 0} (loan : Taken V H → Loan) {W : Type 0} {K : W → Type 0} (menu_loan : TakenMenu W K → MenuLoan)
+module _ {V : Type 0} {H : V → Type 0} (loan : TakenBox V H → WindowLoan) {W : Type 0} {K : W → Type 0} (menu_loan : TakenBox W K → MenuLoan)
     (call : MenuCall) (activity : Activity) (may : gate activity (menu_standing call) ≡ None) (result : Result MenuReply Refusal)
     (t u : WindowManager V H) (m n : Menus W K) where
   is_idle : menu_standing call ≡ Changes → activity ≡ Idle

@@ -8,10 +8,9 @@ use Rattle.std.proofs.lemmas.List.{length-append}
 use Rattle.tb_geom.specs.declared.refusal.Refusal.{Refusal}
 use Rattle.tb_geom.specs.declared.refusal.Refusal.TheVariants.{NoDefinition, NoSuchMenu, NoSuchName, OutOfRange, TooLong, TooMany}
 use Rattle.tb_geom.specs.Refusals.{first_refusal}
-use Rattle.def_iface.specs.declared.taken_menu.TakenMenu.{TakenMenu}
 use Rattle.def_iface.specs.declared.window_def.Stage.TheVariants.{Live}
 use Rattle.def_iface.specs.MenuMeaning.{MenuDefinition, MenuLoan}
-use Rattle.def_iface.specs.Slots.{IsNotTaken, IsTaken, first_offer, has_kind, is_left}
+use Rattle.def_iface.specs.Slots.{IsNotTaken, IsTaken, first_offer, has_kind, is_left, TakenBox}
 use Rattle.menu_record.specs.declared.menu.Menu.{Menu}
 use Rattle.menu_record.specs.Edits.{is_menu_id, new_menu}
 use Rattle.menu_list.specs.declared.listed.Listed.{Listed}
@@ -77,8 +76,8 @@ few_of true kind a b left e = absurd (by_tests kind a b e)
     by_tests true false true e = cc
     by_tests true false false e = cc
 
-module _ {W : Type 0} {K : W → Type 0} (menu_loan : TakenMenu W K → MenuLoan) where
-  judged_seen : (n : NewMenu) (xs : List (Listed (TakenMenu W K))) → judged_refusals n (menus_of menu_loan xs) ≡ judged_refusals n xs
+module _ {W : Type 0} {K : W → Type 0} (menu_loan : TakenBox W K → MenuLoan) where
+  judged_seen : (n : NewMenu) (xs : List (Listed (TakenBox W K))) → judged_refusals n (menus_of menu_loan xs) ≡ judged_refusals n xs
   judged_seen n xs = λ i.
       (not (is_menu_id n.menu) || not (is_no_menu-seen menu_loan n.menu xs i), OutOfRange)
       ∷ (is_long_text n.title, TooLong)
@@ -134,7 +133,7 @@ module _ {W : Type 0} {K : W → Type 0} (menu_loan : TakenMenu W K → MenuLoan
 
   -- ---- a menu that is ended
 
-  module _ (xs : List (Listed (TakenMenu W K))) (at : ℕ) (l : Listed (TakenMenu W K)) (found : slice_get xs at ≡ Some l) where
+  module _ (xs : List (Listed (TakenBox W K))) (at : ℕ) (l : Listed (TakenBox W K)) (found : slice_get xs at ≡ Some l) where
     seen_at : slice_get (menus_of menu_loan xs) at ≡ Some (seen menu_loan l)
     seen_at = slice_get-seen menu_loan xs at ∙ ap (option_map (seen menu_loan)) found
 
@@ -144,7 +143,7 @@ module _ {W : Type 0} {K : W → Type 0} (menu_loan : TakenMenu W K → MenuLoan
     pub is_left_at : (slots : List MenuSlot) → AreMenusStocked (menus_of menu_loan xs) slots → is_left (menu_loan l.definition).slot slots ≡ true
     is_left_at slots stocked = slot_is_left (menu_loan l.definition).slot slots (slot_of at (menus_of menu_loan xs) (seen menu_loan l) slots seen_at stocked).0
 
-  pub ended : (id : ℤ) (at : ℕ) (l : Listed (TakenMenu W K)) (old new : Menus W K) (slots after : List MenuSlot)
+  pub ended : (id : ℤ) (at : ℕ) (l : Listed (TakenBox W K)) (old new : Menus W K) (slots after : List MenuSlot)
       → menu_index id old.list.menus.items ≡ Some at → slice_get old.list.menus.items at ≡ Some l → IsMenuShut (menu_loan l.definition) slots after
       → new.list.menus.items ≡ remove old.list.menus.items at → new.list.highlighted ≡ without_highlight l.menu.id old.list.highlighted → IsAsRoomy old new
       → IsEndedIfThere menu_loan (menu_index id old.list.menus.items) (Ok Done) old new slots after

@@ -4,11 +4,11 @@ use Rattle.std.specs.Prelude.{pos}
 use Rattle.tb_geom.specs.declared.point.Point.{Point}
 use Rattle.tb_geom.specs.declared.refusal.Refusal.{Refusal}
 use Rattle.def_iface.specs.MenuMeaning.{MenuDefinition}
-use Rattle.def_iface.specs.Owner.{Owner, own_bit}
-use Rattle.def_iface.specs.Owner.Owner.{Desktop, Bar, Frame, Content}
-use Rattle.def_iface.specs.Owner.{is_content}
-use Rattle.def_iface.specs.Change as plain
-use Rattle.def_iface.proofs.Changing.{stays_right}
+use Rattle.desk_layers.specs.Owner.{Owner, own_bit}
+use Rattle.desk_layers.specs.Owner.Owner.{Desktop, Bar, Frame, Content}
+use Rattle.desk_layers.specs.Owner.{is_content}
+use Rattle.desk_layers.specs.Change as plain
+use Rattle.desk_layers.proofs.Changing.{stays_right}
 use Rattle.desk_ground.specs.declared.titles.BarTitle.{BarTitle}
 use Rattle.menu_list.specs.Lists.{edit_at, in_bar, menu_index, title_of, titles_of}
 use Rattle.desk_call.specs.declared.activity.Activity.{Activity}

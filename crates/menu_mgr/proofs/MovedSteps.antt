@@ -5,9 +5,8 @@ use Rattle.tb_geom.specs.declared.point.Point.{Point}
 use Rattle.tb_geom.specs.Points.{PixelSet}
 use Rattle.tb_geom.specs.Rects.{in_plane}
 use Rattle.bit_map.specs.Bits.{Bits}
-use Rattle.def_iface.specs.declared.taken.Taken.{Taken}
-use Rattle.def_iface.specs.declared.taken_menu.TakenMenu.{TakenMenu}
-use Rattle.def_iface.specs.Meaning.{Loan}
+use Rattle.def_iface.specs.Slots.{TakenBox}
+use Rattle.def_iface.specs.WindowMeaning.{WindowLoan}
 use Rattle.def_iface.specs.MenuMeaning.{MenuLoan}
 use Rattle.menu_list.specs.Lists.{menu_index, titles_of}
 use Rattle.menu_list.specs.Seen.{seen}
@@ -36,7 +35,7 @@ use Rattle.menu_mgr.proofs.ShownBars as bars
 use Rattle.menu_mgr.proofs.SeenMenus.{another, on_no_other, on_other, seen_at, title_index}
 use Rattle.menu_mgr.proofs.ToldMenus.{as_large, told_alike}
 
-module _ {V : Type 0} {H : V → Type 0} (loan : Taken V H → Loan) {W : Type 0} {K : W → Type 0} (menu_loan : TakenMenu W K → MenuLoan) where
+module _ {V : Type 0} {H : V → Type 0} (loan : TakenBox V H → WindowLoan) {W : Type 0} {K : W → Type 0} (menu_loan : TakenBox W K → MenuLoan) where
   -- all that is known of the menus where the pulled menu was told which item is highlighted
   pub record IsToldSo (pulled : PulledMenu) (item : Option ℕ) (m k : Menus W K) : Type 0 where
     pub told : IsTold pulled item (seen_menus loan menu_loan m) (seen_menus loan menu_loan k)

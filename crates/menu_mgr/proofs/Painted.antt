@@ -10,7 +10,7 @@ use Rattle.tb_geom.specs.Rects.{rect_holds}
 use Rattle.bit_map.specs.Bits.{Bits, bit, on_map}
 use Rattle.bit_map.proofs.BitsLemmas.{on_map-same}
 use Rattle.bit_blit.specs.Draws.{Draws}
-use Rattle.def_iface.specs.declared.taken_menu.TakenMenu.{TakenMenu}
+use Rattle.def_iface.specs.Slots.{TakenBox}
 use Rattle.def_iface.specs.declared.window_def.Stage.TheVariants.{Live}
 use Rattle.def_iface.specs.MenuMeaning.{MenuLoan, no_menu_news}
 use Rattle.menu_list.specs.declared.listed.Listed.{Listed}
@@ -36,13 +36,13 @@ use Rattle.menu_mgr.proofs.Stocks.{live-at}
 pub base_shows : (font : List ℕ) (pulled : Option Pulled) (base : Bits) → pulled ≡ None → IsShown font pulled base base
 base_shows font pulled base none = subst (λ m. IsShown font m base base) (sym none) (record { width = refl; height = refl; pixels = λ p on. refl })
 
-module _ {W : Type 0} {K : W → Type 0} (menu_loan : TakenMenu W K → MenuLoan) (m : PulledMenu) (menus : List (Listed (TakenMenu W K))) (id : ℤ) (is : id ≡ pos m.menu) where
+module _ {W : Type 0} {K : W → Type 0} (menu_loan : TakenBox W K → MenuLoan) (m : PulledMenu) (menus : List (Listed (TakenBox W K))) (id : ℤ) (is : id ≡ pos m.menu) where
   -- no menu has the number of the pulled one
   pub none_pulled : menu_index id menus ≡ None → pulled_of (Pulling m) (menus_of menu_loan menus) ≡ None
   none_pulled none = ap (option_map (as_pulled m))
       (menu_with-seen menu_loan (pos m.menu) menus ∙ ap (option_map (seen menu_loan)) (with_none (pos m.menu) menus (ap (λ n. menu_index n menus) (sym is) ∙ none)))
 
-  module _ (at : ℕ) (l : Listed (TakenMenu W K)) (found : menu_index id menus ≡ Some at) (low : at < length menus) (read : l ≡ get_or menus at l) where
+  module _ (at : ℕ) (l : Listed (TakenBox W K)) (found : menu_index id menus ≡ Some at) (low : at < length menus) (read : l ≡ get_or menus at l) where
     got : slice_get menus at ≡ Some l
     got = slice_get_read menus (length menus) at l refl low read
 

@@ -7,9 +7,8 @@ use Rattle.tb_geom.specs.declared.refusal.Refusal.TheVariants.{OutOfRange}
 use Rattle.tb_geom.specs.Points.{PixelSet}
 use Rattle.tb_geom.specs.Rects.{in_plane}
 use Rattle.tb_geom.specs.Refusals.{first_refusal}
-use Rattle.def_iface.specs.declared.taken.Taken.{Taken}
-use Rattle.def_iface.specs.declared.taken_menu.TakenMenu.{TakenMenu}
-use Rattle.def_iface.specs.Meaning.{Loan}
+use Rattle.def_iface.specs.Slots.{TakenBox}
+use Rattle.def_iface.specs.WindowMeaning.{WindowLoan}
 use Rattle.def_iface.specs.MenuMeaning.{MenuLoan, is_menu_size}
 use Rattle.def_iface.specs.Stocked.{SlotView}
 use Rattle.menu_list.specs.declared.listed.Listed.{Listed}
@@ -48,7 +47,7 @@ still d = record {
   menus = refl;
 }
 
-module _ {V : Type 0} {H : V → Type 0} (loan : Taken V H → Loan) {W : Type 0} {K : W → Type 0} (menu_loan : TakenMenu W K → MenuLoan) where
+module _ {V : Type 0} {H : V → Type 0} (loan : TakenBox V H → WindowLoan) {W : Type 0} {K : W → Type 0} (menu_loan : TakenBox W K → MenuLoan) where
   abbrev pub seen_menus : Menus W K → List MenuRecord
   seen_menus m = menus_of menu_loan m.list.menus.items
 
@@ -70,7 +69,7 @@ module _ {V : Type 0} {H : V → Type 0} (loan : Taken V H → Loan) {W : Type 0
 
   -- ---- the menu bar shows other titles
 
-  pub shown : (t u : WindowManager V H) (m n : Menus W K) (o q : Opened) (slots : List SlotView) (kept : List MenuSlot) (items : List (Listed (TakenMenu W K))) (h : Option ℕ)
+  pub shown : (t u : WindowManager V H) (m n : Menus W K) (o q : Opened) (slots : List SlotView) (kept : List MenuSlot) (items : List (Listed (TakenBox W K))) (h : Option ℕ)
       → n.list.menus.items ≡ items → n.list.highlighted ≡ h → IsBarShown (titles_of h items) (state_of loan t slots) (state_of loan u slots)
       → AreMenusShown (menus_of menu_loan items) h kept (menu_desk menu_loan loan t o slots m kept) (menu_desk menu_loan loan u q slots n kept)
   shown t u m n o q slots kept items h same lit bar = record {
@@ -90,7 +89,7 @@ module _ {V : Type 0} {H : V → Type 0} (loan : Taken V H → Loan) {W : Type 0
         × IsShown u.font (Some (as_pulled pulled listed)) u.screen n.overlay.front)
     pub placed : (is_menu_place pulled.place ≡ true) × (is_menu_size pulled.size ≡ true)
 
-  module _ (title : Titled) (listed : Listed (TakenMenu W K)) (pulled : PulledMenu) (t u : WindowManager V H) (m n : Menus W K) (over : IsPulledOver title pulled t u m n)
+  module _ (title : Titled) (listed : Listed (TakenBox W K)) (pulled : PulledMenu) (t u : WindowManager V H) (m n : Menus W K) (over : IsPulledOver title pulled t u m n)
       (got : slice_get m.list.menus.items title.at ≡ Some listed) where
     here : (pulled ≡ pulled_below (desk_of loan t []) (record { hit = title.hit; record_of = seen menu_loan listed }))
         × IsShown u.font (Some (as_pulled pulled (seen menu_loan listed))) u.screen n.overlay.front
@@ -114,7 +113,7 @@ module _ {V : Type 0} {H : V → Type 0} (loan : Taken V H → Loan) {W : Type 0
 
       pub pulled_whole : (slots : List MenuSlot) → IsHeld m slots → IsWholeMenus menu_loan u (Pulling pulled) n slots
       pulled_whole slots held = record {
-        few = subst (λ (items : List (Listed (TakenMenu W K))). length items ≤ 16) (sym same_items) held.few;
+        few = subst (λ (items : List (Listed (TakenBox W K))). length items ≤ 16) (sym same_items) held.few;
         room = subst (λ k. 16 ≤ k) (sym (λ i. vec_capacity (over.menus i))) held.room;
         live = subst (λ items. AreLive (menus_of menu_loan items)) (sym same_items) held.live;
         stocked = subst (λ items. AreMenusStocked (menus_of menu_loan items) slots) (sym same_items) held.stocked;

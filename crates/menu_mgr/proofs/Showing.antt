@@ -1,9 +1,8 @@
 -- A menu bar that shows the titles of the menus anew: what it leaves whole, and what it is as a step of the desk.
 use Rattle.std.proofs.Common.{◌≡◌, ℕ, ◌≤◌, List, length, Option, sym, ap, ◌∙◌, subst, arith}
 use Rattle.std.specs.Prelude.{pos, vec_capacity}
-use Rattle.def_iface.specs.declared.taken.Taken.{Taken}
-use Rattle.def_iface.specs.declared.taken_menu.TakenMenu.{TakenMenu}
-use Rattle.def_iface.specs.Meaning.{Loan}
+use Rattle.def_iface.specs.Slots.{TakenBox}
+use Rattle.def_iface.specs.WindowMeaning.{WindowLoan}
 use Rattle.def_iface.specs.MenuMeaning.{MenuLoan}
 use Rattle.def_iface.specs.Stocked.{SlotView}
 use Rattle.desk_ground.specs.declared.titles.BarTitle.{BarTitle}
@@ -25,7 +24,7 @@ use Rattle.menu_mgr.specs.WholeMenus.{AreLive, AreMenusStocked, IsWholeMenus, me
 pos_is : (m n : ℕ) → pos m ≡ pos n → m ≡ n
 pos_is m n e = cc
 
-module _ {V : Type 0} {H : V → Type 0} (loan : Taken V H → Loan) where
+module _ {V : Type 0} {H : V → Type 0} (loan : TakenBox V H → WindowLoan) where
   -- it leaves the screen's sides and the font
   module _ (titles : List BarTitle) (t u : WindowManager V H) (slots : List SlotView) (shown : IsBarShown titles (state_of loan t slots) (state_of loan u slots)) where
     pub shown_width : u.screen.width ≡ t.screen.width
@@ -37,7 +36,7 @@ module _ {V : Type 0} {H : V → Type 0} (loan : Taken V H → Loan) where
     pub shown_font : u.font ≡ t.font
     shown_font = ap (λ (d : FullDesk). d.font) shown.desk
 
-  module _ {W : Type 0} {K : W → Type 0} (menu_loan : TakenMenu W K → MenuLoan) where
+  module _ {W : Type 0} {K : W → Type 0} (menu_loan : TakenBox W K → MenuLoan) where
     -- the menus that the code keeps are these as plain data, and the bar shows them
     pub menus_shown : (ls : List MenuRecord) (highlighted : Option ℕ) (t u : WindowManager V H) (o r : Opened) (slots : List SlotView) (m n : Menus W K) (before after : List MenuSlot)
         → menus_of menu_loan n.list.menus.items ≡ ls → n.list.highlighted ≡ highlighted

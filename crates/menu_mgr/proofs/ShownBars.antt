@@ -4,12 +4,12 @@ use Rattle.std.specs.Prelude.{int_lt}
 use Rattle.tb_geom.specs.declared.point.Point.{Point}
 use Rattle.bit_map.specs.Bits.{bit, on_map}
 use Rattle.bit_blit.specs.Draws.{Draws}
-use Rattle.def_iface.specs.declared.taken.Taken.{Taken}
-use Rattle.def_iface.specs.Meaning.{Loan}
+use Rattle.def_iface.specs.Slots.{TakenBox}
+use Rattle.def_iface.specs.WindowMeaning.{WindowLoan}
 use Rattle.def_iface.specs.Stocked.{SlotView}
-use Rattle.def_iface.specs.Desk.{on_screen}
-use Rattle.def_iface.specs.Owner.{owner_among, own_bit, is_content}
-use Rattle.def_iface.specs.Owner.Owner.{Bar}
+use Rattle.desk_layers.specs.Desk.{on_screen}
+use Rattle.desk_layers.specs.Owner.{owner_among, own_bit, is_content}
+use Rattle.desk_layers.specs.Owner.Owner.{Bar}
 use Rattle.desk_ground.specs.Bars.{bar_picture}
 use Rattle.desk_ground.specs.declared.titles.BarTitle.{BarTitle}
 use Rattle.window_mgr.specs.declared.manager.WindowManager.{WindowManager}
@@ -26,7 +26,7 @@ pub record IsAsLarge {V : Type 0} {H : V → Type 0} (t u : WindowManager V H) :
   pub width : u.screen.width ≡ t.screen.width
   pub height : u.screen.height ≡ t.screen.height
 
-module _ {V : Type 0} {H : V → Type 0} (loan : Taken V H → Loan) (t u : WindowManager V H) where
+module _ {V : Type 0} {H : V → Type 0} (loan : TakenBox V H → WindowLoan) (t u : WindowManager V H) where
   pub as_large : (slots : List SlotView) (titles : List BarTitle) → IsBarShown titles (state_of loan t slots) (state_of loan u slots) → IsAsLarge t u
   as_large slots titles bar =
       let w : pos u.screen.width ≡ pos t.screen.width = ap (λ (d : FullDesk). d.width) bar.desk in
@@ -38,7 +38,7 @@ module _ {V : Type 0} {H : V → Type 0} (loan : Taken V H → Loan) (t u : Wind
   same_titles ts us same shown slots whole =
       let done = shown slots whole in (done.0, subst (λ x. IsBarShown x (state_of loan t slots) (state_of loan u slots)) same done.1)
 
-module _ {V : Type 0} {H : V → Type 0} (loan : Taken V H → Loan) (t : WindowManager V H) where
+module _ {V : Type 0} {H : V → Type 0} (loan : TakenBox V H → WindowLoan) (t : WindowManager V H) where
   on_screen_is : (slots : List SlotView) (p : Point) → on_screen (layered_desk (desk_of loan t slots)) p ≡ on_map t.screen p
   unfolding on_map
   on_screen_is slots p = λ i. between-is_below t.screen.width p.h i && between-is_below t.screen.height p.v i

@@ -6,9 +6,8 @@ use Rattle.tb_geom.specs.declared.refusal.Refusal.{Refusal}
 use Rattle.tb_geom.specs.declared.refusal.Refusal.TheVariants.{NoSuchMenu}
 use Rattle.tb_geom.specs.Points.{PixelSet}
 use Rattle.tb_geom.specs.Refusals.{first_refusal}
-use Rattle.def_iface.specs.declared.taken.Taken.{Taken}
-use Rattle.def_iface.specs.declared.taken_menu.TakenMenu.{TakenMenu}
-use Rattle.def_iface.specs.Meaning.{Loan}
+use Rattle.def_iface.specs.Slots.{TakenBox}
+use Rattle.def_iface.specs.WindowMeaning.{WindowLoan}
 use Rattle.def_iface.specs.MenuMeaning.{MenuLoan}
 use Rattle.def_iface.specs.Stocked.{SlotView}
 use Rattle.menu_list.specs.declared.listed.Listed.{Listed}
@@ -82,15 +81,15 @@ edit_step _ answer before after is none edited = (none, edited)
 
 -- ---- there are never more than 16 menus
 
-module _ {W : Type 0} {K : W → Type 0} (menu_loan : TakenMenu W K → MenuLoan) where
+module _ {W : Type 0} {K : W → Type 0} (menu_loan : TakenBox W K → MenuLoan) where
   -- as many of the menus that the code keeps as of those that are seen
-  seen_few : (xs : List (Listed (TakenMenu W K))) → length xs ≤ 16 → length (menus_of menu_loan xs) ≤ 16
+  seen_few : (xs : List (Listed (TakenBox W K))) → length xs ≤ 16 → length (menus_of menu_loan xs) ≤ 16
   seen_few xs few = subst (λ k. k ≤ 16) (sym (length-seen menu_loan xs)) few
 
-  kept_few : (xs : List (Listed (TakenMenu W K))) → length (menus_of menu_loan xs) ≤ 16 → length xs ≤ 16
+  kept_few : (xs : List (Listed (TakenBox W K))) → length (menus_of menu_loan xs) ≤ 16 → length xs ≤ 16
   kept_few xs few = subst (λ k. k ≤ 16) (length-seen menu_loan xs) few
 
-  pub few_after : (call : MenuCall) (xs ys : List (Listed (TakenMenu W K))) → ys ≡ menus_after call xs → length xs ≤ 16 → length ys ≤ 16
+  pub few_after : (call : MenuCall) (xs ys : List (Listed (TakenBox W K))) → ys ≡ menus_after call xs → length xs ≤ 16 → length ys ≤ 16
   few_after call xs ys is few = kept_few ys (subst (λ k. k ≤ 16)
       (sym (ap length (ap (menus_of menu_loan) is ∙ menus_after-seen menu_loan call xs) ∙ (alike_after call (menus_of menu_loan xs)).many)) (seen_few xs few))
 
@@ -117,7 +116,7 @@ module _ {W : Type 0} {K : W → Type 0} (menu_loan : TakenMenu W K → MenuLoan
 
 -- ---- steps
 
-module _ {V : Type 0} {H : V → Type 0} (loan : Taken V H → Loan) {W : Type 0} {K : W → Type 0} (menu_loan : TakenMenu W K → MenuLoan) where
+module _ {V : Type 0} {H : V → Type 0} (loan : TakenBox V H → WindowLoan) {W : Type 0} {K : W → Type 0} (menu_loan : TakenBox W K → MenuLoan) where
   -- windows and menus are whole, and this step led to them
   abbrev Leaves : MenuCall → Result MenuReply Refusal → List SlotView → WindowManager V H → WindowManager V H → Opened → Opened → Menus W K → Menus W K → List MenuSlot → List MenuSlot → Type 0
   Leaves call result slots t u o r m n before after =

@@ -7,9 +7,9 @@ use Rattle.tb_geom.specs.declared.rect.Rect.{Rect}
 use Rattle.tb_geom.specs.Points.{minus}
 use Rattle.tb_geom.specs.Rects.{rect_holds}
 use Rattle.bit_map.specs.Bits.{Bits, bounds_of}
-use Rattle.def_iface.specs.declared.taken.Taken.{Taken}
-use Rattle.def_iface.specs.Desk.{on_screen}
-use Rattle.def_iface.specs.Meaning.{Loan}
+use Rattle.def_iface.specs.Slots.{TakenBox}
+use Rattle.desk_layers.specs.Desk.{on_screen}
+use Rattle.def_iface.specs.WindowMeaning.{WindowLoan}
 use Rattle.def_iface.specs.MenuMeaning.{MenuLoan}
 use Rattle.menu_list.specs.declared.listed.Listed.{Listed}
 use Rattle.menu_list.specs.Lists.{menu_index}
@@ -26,7 +26,7 @@ use Rattle.menu_mgr.specs.Pulling.{as_pulled, is_pulled_at, item_of, item_under,
 use Rattle.menu_mgr.proofs.SeenMenus.{found, found_none}
 
 -- the point is one of the screen
-pub on_it : {V : Type 0} {H : V → Type 0} (loan : Taken V H → Loan) (t : WindowManager V H) (screen : Bits) (bounds : Rect) (p : Point) (b : Bool)
+pub on_it : {V : Type 0} {H : V → Type 0} (loan : TakenBox V H → WindowLoan) (t : WindowManager V H) (screen : Bits) (bounds : Rect) (p : Point) (b : Bool)
     → screen ≡ t.screen → bounds ≡ bounds_of screen → b ≡ rect_holds bounds p → b ≡ on_screen (layered_desk (desk_of loan t [])) p
 on_it loan t screen bounds p b same sides is = is ∙ ap (λ r. rect_holds r p) (sides ∙ ap bounds_of same)
 

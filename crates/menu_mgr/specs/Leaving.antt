@@ -2,9 +2,8 @@
 use Rattle.std.specs.Prelude.{pos, ◌==◌, if◌then◌else◌, List, Option, None, Some}
 use Rattle.std.specs.Option.{option_and_then, option_map}
 use Rattle.tb_geom.specs.Points.{PixelSet}
-use Rattle.def_iface.specs.declared.taken.Taken.{Taken}
-use Rattle.def_iface.specs.declared.taken_menu.TakenMenu.{TakenMenu}
-use Rattle.def_iface.specs.Meaning.{Loan}
+use Rattle.def_iface.specs.Slots.{TakenBox}
+use Rattle.def_iface.specs.WindowMeaning.{WindowLoan}
 use Rattle.def_iface.specs.MenuMeaning.{MenuLoan}
 use Rattle.def_iface.specs.Stocked.{SlotView}
 use Rattle.desk_ground.specs.declared.bar.TitleHit.{TitleHit}
@@ -37,7 +36,7 @@ abbrev pub of_another : PulledMenu → Option Titled → Option Titled
 of_another m None = None
 of_another m (Some t) = if t.hit.menu == m.menu then None else Some t
 
-module _ {V : Type 0} {H : V → Type 0} (loan : Taken V H → Loan) {W : Type 0} {K : W → Type 0} (menu_loan : TakenMenu W K → MenuLoan) where
+module _ {V : Type 0} {H : V → Type 0} (loan : TakenBox V H → WindowLoan) {W : Type 0} {K : W → Type 0} (menu_loan : TakenBox W K → MenuLoan) where
   -- the menus beside these windows are whole over some slots
   pub record AreKeptMenus (t : WindowManager V H) (activity : Activity) (m : Menus W K) : Type 0 where
     pub slots : List MenuSlot

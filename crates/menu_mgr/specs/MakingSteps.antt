@@ -4,9 +4,8 @@ use Rattle.std.specs.List.{remove}
 use Rattle.tb_geom.specs.declared.refusal.Refusal.{Refusal}
 use Rattle.tb_geom.specs.declared.refusal.Refusal.TheVariants.{NoSuchMenu}
 use Rattle.tb_geom.specs.Refusals.{first_refusal}
-use Rattle.def_iface.specs.declared.taken_menu.TakenMenu.{TakenMenu}
 use Rattle.def_iface.specs.MenuMeaning.{MenuDefinition, MenuLoan, IsMenuBegun}
-use Rattle.def_iface.specs.Slots.{IsTaken}
+use Rattle.def_iface.specs.Slots.{IsTaken, TakenBox}
 use Rattle.menu_record.specs.declared.menu.Menu.{Menu}
 use Rattle.menu_list.specs.Lists.{without_highlight}
 use Rattle.desk_call.specs.declared.menu.NewMenu.{NewMenu}
@@ -25,7 +24,7 @@ pub record IsAsRoomy {W : Type 0} {K : W → Type 0} (old new : Menus W K) : Typ
   pub overlay : new.overlay ≡ old.overlay
 
 -- `menu_loan` says what a menu's definition that was taken means
-module _ {W : Type 0} {K : W → Type 0} (menu_loan : TakenMenu W K → MenuLoan) where
+module _ {W : Type 0} {K : W → Type 0} (menu_loan : TakenBox W K → MenuLoan) where
   -- a menu stands behind the others, and its definition was begun
   pub record IsListed (menu : Menu) (loan : MenuLoan) (old new : Menus W K) : Type 0 where
     pub begun : MenuDefinition

@@ -5,9 +5,10 @@ use Rattle.std.specs.Option.{option_map}
 use Rattle.tb_geom.specs.declared.point.Point.{Point}
 use Rattle.tb_geom.specs.declared.refusal.Refusal.{Refusal}
 use Rattle.tb_geom.specs.Refusals.{first_refusal}
-use Rattle.def_iface.specs.declared.window_def.Stage.TheVariants.{Live, Closed}
+use Rattle.def_iface.specs.declared.window_def.Stage.TheVariants.{Live}
 use Rattle.def_iface.specs.MenuMeaning.{MenuDefinition, MenuLoan, MenuHears, IsMenuBegun, SameMeasures, SameMenuLook, told_item}
-use Rattle.def_iface.specs.Slots.{IsPutBack, IsTaken, is_left}
+use Rattle.def_iface.specs.Closing as closing
+use Rattle.def_iface.specs.Slots.{IsTaken}
 use Rattle.menu_record.specs.Edits.{new_menu}
 use Rattle.menu_list.specs.Lists.{edit_at, menu_index, titles_of, without_highlight}
 use Rattle.desk_call.specs.declared.activity.Activity.{Activity}
@@ -56,12 +57,8 @@ pub record IsMenuMade (n : NewMenu) (before after : MenuDesk) : Type 0 where
   pub shown : AreMenusShown (before.menus.menus ++ new_record n loan.slot begun ∷ []) before.menus.highlighted after.menus.stock before after
 
 -- the definition was closed and put into its slot, which was empty, and every other slot is as it was
-pub record IsMenuShut (loan : MenuLoan) (old new : List MenuSlot) : Type 0 where
-  pub definition : MenuDefinition
-  pub closed : definition.stage ≡ Closed
-  pub look : SameMenuLook loan.definition definition
-  pub left : is_left loan.slot old ≡ true
-  pub back : IsPutBack (record { definition = definition; slot = loan.slot }) old new
+abbrev pub IsMenuShut : MenuLoan → List MenuSlot → List MenuSlot → Type 0
+IsMenuShut = closing.IsShut (λ (d : MenuDefinition). d.stage) SameMenuLook
 
 -- the menu at an index is there no more, and its definition went back Closed into its slot
 pub record IsMenuDisposed (at : ℕ) (before after : MenuDesk) : Type 0 where

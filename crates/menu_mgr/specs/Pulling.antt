@@ -6,7 +6,7 @@ use Rattle.tb_geom.specs.declared.point.Point.{Point}
 use Rattle.tb_geom.specs.Points.{PixelSet, minus}
 use Rattle.tb_geom.specs.Rects.{rect_holds}
 use Rattle.bit_map.specs.Bits.{Bits, on_map, bit}
-use Rattle.def_iface.specs.Desk.{on_screen}
+use Rattle.desk_layers.specs.Desk.{on_screen}
 use Rattle.def_iface.specs.declared.size.Size.{Size}
 use Rattle.desk_ground.specs.declared.bar.TitleHit.{TitleHit}
 use Rattle.desk_ground.specs.Bars.{title_at}

@@ -1,9 +1,8 @@
 -- What holds of the menus of a desk and of their stock between calls, and their state as plain data.
 use Rattle.std.specs.Prelude.{◌≡◌, ◌⊎◌, ℕ, ℤ, pos, ◌+◌, ◌≤◌, ◌==◌, true, if◌then◌else◌, List, [], ◌∷◌, length, Option, None, Some, slice_get, vec_capacity}
-use Rattle.def_iface.specs.declared.taken.Taken.{Taken}
-use Rattle.def_iface.specs.declared.taken_menu.TakenMenu.{TakenMenu}
+use Rattle.def_iface.specs.Slots.{TakenBox}
 use Rattle.def_iface.specs.declared.window_def.Stage.TheVariants.{Live}
-use Rattle.def_iface.specs.Meaning.{Loan}
+use Rattle.def_iface.specs.WindowMeaning.{WindowLoan}
 use Rattle.def_iface.specs.MenuMeaning.{MenuLoan, is_menu_size}
 use Rattle.def_iface.specs.Stocked.{SlotView}
 use Rattle.menu_list.specs.declared.listed.Listed.{Listed}
@@ -54,9 +53,9 @@ pub record AreNoMenus {W : Type 0} {K : W → Type 0} (wide high : ℤ) (m : Men
   pub height : pos m.overlay.front.height ≡ high
 
 -- `menu_loan` says what a menu's definition that was taken means
-module _ {W : Type 0} {K : W → Type 0} (menu_loan : TakenMenu W K → MenuLoan) where
+module _ {W : Type 0} {K : W → Type 0} (menu_loan : TakenBox W K → MenuLoan) where
   -- the menus as plain data
-  abbrev pub menus_of : List (Listed (TakenMenu W K)) → List MenuRecord
+  abbrev pub menus_of : List (Listed (TakenBox W K)) → List MenuRecord
   menus_of menus = all_seen menu_loan menus
 
   abbrev pub menus_state : Menus W K → List MenuSlot → MenusState
@@ -86,7 +85,7 @@ module _ {W : Type 0} {K : W → Type 0} (menu_loan : TakenMenu W K → MenuLoan
       pub front : IsFrontShown activity t m
 
     -- `loan` says what a window's definition that was taken means
-    module _ (loan : Taken V H → Loan) where
+    module _ (loan : TakenBox V H → WindowLoan) where
       -- windows and menus with what is open, as a desk
       abbrev pub menu_desk : WindowManager V H → Opened → List SlotView → Menus W K → List MenuSlot → MenuDesk
       menu_desk t o slots m kept = record { desk = desk_state loan t o slots; menus = menus_state m kept }

@@ -1,6 +1,5 @@
 //! Menus that are made and ended, and the end of a desk.
 ghost use Rattle.std.specs.Prelude.{◌≡◌, ◌<◌, ◌≤◌, ◌++◌, ◌∷◌, [], length, vec_capacity, None, Some, true, MatchResult};
-ghost use Rattle.def_iface.specs.Slots.{is_left};
 ghost use Rattle.def_iface.specs.MenuMeaning.{IsMenuBegun};
 ghost use Rattle.menu_list.specs.Lists.{menu_index};
 ghost use Rattle.menu_record.specs.Edits.{new_menu};
@@ -8,12 +7,11 @@ ghost use Rattle.menu_mgr.specs.MakingSteps.{IsEndedIfThere, IsListed, IsMadeOrR
 ghost use Rattle.menu_mgr.specs.MenuClosing.{AreMenusClosed};
 ghost use Rattle.menu_list.specs.EditRefusals.{judged_refusals};
 ghost use Rattle.menu_mgr.specs.MenuRefusals.{menu_form_refusals};
-ghost use Rattle.menu_mgr.specs.MenuSteps.{IsMenuShut};
 ghost use Rattle.menu_mgr.specs.WholeMenus.{AreLive, AreMenusStocked, menus_of};
 ghost use Rattle.tb_geom.specs.Refusals.{first_refusal};
 
 use crate::{MenuCall, MenuReply, Menus, NewMenu};
-use def_iface::{DefinedMenu, MenuStock, Stage, StockedMenus, TakenMenu};
+use def_iface::{Defined, MenuStock, Stage, Stocked, TakenMenu, put_away};
 use menu_list::{Listed, MenuList, index_of};
 use menu_record::Menu;
 use tb_geom::Refusal;
@@ -26,7 +24,7 @@ const MOST_MENUS: usize = 16;
 
 /// Why a call is refused whatever is open: the stock has no kind of menus.
 pub fn form_refusal(call: &MenuCall<'_>, stock: &MenuStock) -> Option<Refusal>
-    ensures { result ≡ first_refusal (menu_form_refusals call.now (⟦<MenuStock as StockedMenus>⟧.menu_slots stock.now)) }
+    ensures { result ≡ first_refusal (menu_form_refusals call.now (⟦<MenuStock as Stocked>⟧.slots stock.now)) }
 {
     match call {
         MenuCall::New(_) if !stock.has(KIND) => Some(Refusal::NoSuchName),
@@ -42,8 +40,8 @@ impl Menus {
         stock: &mut MenuStock,
     ) -> Result<MenuReply, Refusal>
         requires { 16 ≤ vec_capacity self.old.list.menus }
-        ensures { IsMadeOrRefused ⟦<TakenMenu as DefinedMenu>⟧.menu_loan new.now result self.old self.new
-            (⟦<MenuStock as StockedMenus>⟧.menu_slots stock.old) (⟦<MenuStock as StockedMenus>⟧.menu_slots stock.new) }
+        ensures { IsMadeOrRefused ⟦<TakenMenu as Defined>⟧.loan new.now result self.old self.new
+            (⟦<MenuStock as Stocked>⟧.slots stock.old) (⟦<MenuStock as Stocked>⟧.slots stock.new) }
     {
         if !stock.has(KIND) {
             return Err(Refusal::NoSuchName);
@@ -74,9 +72,9 @@ impl Menus {
 
     /// Begins a menu's definition, and puts both behind the other menus.
     fn list(&mut self, menu: Menu, taken: TakenMenu)
-        requires fresh { (⟦<TakenMenu as DefinedMenu>⟧.menu_loan taken).definition.stage ≡ Stage.Fresh }
+        requires fresh { (⟦<TakenMenu as Defined>⟧.loan taken).definition.stage ≡ Stage.Fresh }
         requires room { length self.old.list.menus.items < vec_capacity self.old.list.menus }
-        ensures { IsListed ⟦<TakenMenu as DefinedMenu>⟧.menu_loan menu (⟦<TakenMenu as DefinedMenu>⟧.menu_loan taken) self.old self.new }
+        ensures { IsListed ⟦<TakenMenu as Defined>⟧.loan menu (⟦<TakenMenu as Defined>⟧.loan taken) self.old self.new }
     {
         let mut taken = taken;
         taken.begin();
@@ -89,12 +87,12 @@ impl Menus {
 
     /// Ends a menu: its definition is disposed of, and put back Closed into its slot.
     pub(crate) fn end(&mut self, menu: i32, stock: &mut MenuStock) -> Result<MenuReply, Refusal>
-        requires live { AreLive (menus_of ⟦<TakenMenu as DefinedMenu>⟧.menu_loan self.old.list.menus.items) }
-        requires stocked { AreMenusStocked (menus_of ⟦<TakenMenu as DefinedMenu>⟧.menu_loan self.old.list.menus.items)
-            (⟦<MenuStock as StockedMenus>⟧.menu_slots stock.old) }
-        ensures { IsEndedIfThere ⟦<TakenMenu as DefinedMenu>⟧.menu_loan (menu_index menu self.old.list.menus.items) result
+        requires live { AreLive (menus_of ⟦<TakenMenu as Defined>⟧.loan self.old.list.menus.items) }
+        requires stocked { AreMenusStocked (menus_of ⟦<TakenMenu as Defined>⟧.loan self.old.list.menus.items)
+            (⟦<MenuStock as Stocked>⟧.slots stock.old) }
+        ensures { IsEndedIfThere ⟦<TakenMenu as Defined>⟧.loan (menu_index menu self.old.list.menus.items) result
             self.old self.new
-            (⟦<MenuStock as StockedMenus>⟧.menu_slots stock.old) (⟦<MenuStock as StockedMenus>⟧.menu_slots stock.new) }
+            (⟦<MenuStock as Stocked>⟧.slots stock.old) (⟦<MenuStock as Stocked>⟧.slots stock.new) }
     {
         let at = index_of(&self.list, menu)?;
         let Listed { definition, .. } = self.list.remove(at);
@@ -105,11 +103,11 @@ impl Menus {
     /// Ends the desk's menus: the definition of every one is disposed of, and put back Closed into its slot, while every other
     /// slot stays as it was. Takes no memory, and refuses nothing.
     pub fn close(self, stock: &mut MenuStock)
-        requires live { AreLive (menus_of ⟦<TakenMenu as DefinedMenu>⟧.menu_loan self.list.menus.items) }
-        requires stocked { AreMenusStocked (menus_of ⟦<TakenMenu as DefinedMenu>⟧.menu_loan self.list.menus.items)
-            (⟦<MenuStock as StockedMenus>⟧.menu_slots stock.old) }
-        ensures { AreMenusClosed (menus_of ⟦<TakenMenu as DefinedMenu>⟧.menu_loan self.list.menus.items)
-            (⟦<MenuStock as StockedMenus>⟧.menu_slots stock.old) (⟦<MenuStock as StockedMenus>⟧.menu_slots stock.new) }
+        requires live { AreLive (menus_of ⟦<TakenMenu as Defined>⟧.loan self.list.menus.items) }
+        requires stocked { AreMenusStocked (menus_of ⟦<TakenMenu as Defined>⟧.loan self.list.menus.items)
+            (⟦<MenuStock as Stocked>⟧.slots stock.old) }
+        ensures { AreMenusClosed (menus_of ⟦<TakenMenu as Defined>⟧.loan self.list.menus.items)
+            (⟦<MenuStock as Stocked>⟧.slots stock.old) (⟦<MenuStock as Stocked>⟧.slots stock.new) }
     {
         let Menus { list, .. } = self;
         put_all_away(list, stock);
@@ -118,27 +116,15 @@ impl Menus {
 
 /// Ends the use of every menu's definition.
 fn put_all_away(list: MenuList<TakenMenu>, stock: &mut MenuStock)
-    requires live { AreLive (menus_of ⟦<TakenMenu as DefinedMenu>⟧.menu_loan list.menus.items) }
-    requires stocked { AreMenusStocked (menus_of ⟦<TakenMenu as DefinedMenu>⟧.menu_loan list.menus.items)
-        (⟦<MenuStock as StockedMenus>⟧.menu_slots stock.old) }
-    ensures { AreMenusClosed (menus_of ⟦<TakenMenu as DefinedMenu>⟧.menu_loan list.menus.items)
-        (⟦<MenuStock as StockedMenus>⟧.menu_slots stock.old) (⟦<MenuStock as StockedMenus>⟧.menu_slots stock.new) }
+    requires live { AreLive (menus_of ⟦<TakenMenu as Defined>⟧.loan list.menus.items) }
+    requires stocked { AreMenusStocked (menus_of ⟦<TakenMenu as Defined>⟧.loan list.menus.items)
+        (⟦<MenuStock as Stocked>⟧.slots stock.old) }
+    ensures { AreMenusClosed (menus_of ⟦<TakenMenu as Defined>⟧.loan list.menus.items)
+        (⟦<MenuStock as Stocked>⟧.slots stock.old) (⟦<MenuStock as Stocked>⟧.slots stock.new) }
 {
     let MenuList { menus, .. } = list;
     let mut menus = menus;
     while let Some(listed) = menus.pop() {
         put_away(listed.definition, stock);
     }
-}
-
-/// Ends the use of a menu's definition.
-fn put_away(taken: TakenMenu, stock: &mut MenuStock)
-    requires live { (⟦<TakenMenu as DefinedMenu>⟧.menu_loan taken).definition.stage ≡ Stage.Live }
-    requires left { is_left (⟦<TakenMenu as DefinedMenu>⟧.menu_loan taken).slot (⟦<MenuStock as StockedMenus>⟧.menu_slots stock.old) ≡ true }
-    ensures { IsMenuShut (⟦<TakenMenu as DefinedMenu>⟧.menu_loan taken)
-        (⟦<MenuStock as StockedMenus>⟧.menu_slots stock.old) (⟦<MenuStock as StockedMenus>⟧.menu_slots stock.new) }
-{
-    let mut taken = taken;
-    taken.dispose();
-    stock.put_back(taken);
 }

@@ -9,7 +9,7 @@ ghost use Rattle.menu_mgr.specs.WholeMenus.{AreNoMenus};
 
 use crate::titles::are_shown;
 use bit_map::BitMap;
-use def_iface::{Defined, Taken, TakenMenu};
+use def_iface::{Defined, TakenMenu, TakenWindow};
 use menu_list::MenuList;
 use overlay::Overlay;
 use std::alloc::{AllocError, Global};
@@ -56,8 +56,8 @@ impl Menus {
     /// Shows the titles of these menus in the menu bar, which is drawn where it has others. Takes no memory.
     pub(crate) fn show_titles(&self, windows: &mut WindowManager)
         requires few { length self.now.list.menus.items ≤ 16 }
-        requires kept { IsKept ⟦<Taken as Defined>⟧.loan windows.old }
-        ensures { LeavesState ⟦<Taken as Defined>⟧.loan
+        requires kept { IsKept ⟦<TakenWindow as Defined>⟧.loan windows.old }
+        ensures { LeavesState ⟦<TakenWindow as Defined>⟧.loan
             (IsBarShown (titles_of self.now.list.highlighted self.now.list.menus.items)) windows.old windows.new }
     {
         if !are_shown(windows.parts().titles.as_slice(), &self.list) {

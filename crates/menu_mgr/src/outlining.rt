@@ -8,7 +8,7 @@ ghost use Rattle.menu_mgr.specs.Pulling.{PullsNone};
 ghost use Rattle.menu_mgr.specs.WholeMenus.{IsFrontShown, IsPlaced, IsWholeMenus};
 
 use crate::Menus;
-use def_iface::{DefinedMenu, TakenMenu};
+use def_iface::{Defined, TakenMenu};
 use desk_call::Activity;
 use tb_geom::Rect;
 use window_mgr::WindowManager;
@@ -20,12 +20,13 @@ impl Menus {
         requires width { self.old.overlay.front.width ≡ windows.now.screen.width }
         requires height { self.old.overlay.front.height ≡ windows.now.screen.height }
         requires placed { IsPlaced before }
-        requires front { IsFrontShown ⟦<TakenMenu as DefinedMenu>⟧.menu_loan before windows.now self.old }
+        requires front { IsFrontShown ⟦<TakenMenu as Defined>⟧.loan before windows.now self.old }
         requires outline { IsOutlineKept after }
         requires menu { PullsNone after }
         ensures list { self.new.list ≡ self.old.list }
-        ensures whole { (slots : List MenuSlot) → IsWholeMenus ⟦<TakenMenu as DefinedMenu>⟧.menu_loan windows.now before self.old slots
-            → IsWholeMenus ⟦<TakenMenu as DefinedMenu>⟧.menu_loan windows.now after self.new slots }
+        ensures whole { (slots : List MenuSlot) → IsWholeMenus ⟦<TakenMenu as Defined>⟧.loan windows.now before self.old
+            slots
+            → IsWholeMenus ⟦<TakenMenu as Defined>⟧.loan windows.now after self.new slots }
     {
         match after {
             Activity::Dragging(dragged) => self.show_lines(windows, before, &dragged.outline),
@@ -39,7 +40,7 @@ impl Menus {
         requires width { self.old.overlay.front.width ≡ windows.now.screen.width }
         requires height { self.old.overlay.front.height ≡ windows.now.screen.height }
         requires placed { IsPlaced before }
-        requires front { IsFrontShown ⟦<TakenMenu as DefinedMenu>⟧.menu_loan before windows.now self.old }
+        requires front { IsFrontShown ⟦<TakenMenu as Defined>⟧.loan before windows.now self.old }
         requires apart { AreApart lines.now }
         ensures list { self.new.list ≡ self.old.list }
         ensures alloc { self.new.alloc ≡ self.old.alloc }

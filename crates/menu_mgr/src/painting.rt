@@ -8,7 +8,7 @@ ghost use Rattle.overlay.specs.Overlays.{IsShown, is_menu_place};
 
 use crate::Menus;
 use bit_map::BitMap;
-use def_iface::{DefinedMenu, TakenMenu};
+use def_iface::{Defined, TakenMenu};
 use desk_call::{Activity, PulledMenu};
 use overlay::{draw_outline, draw_pulled};
 use strike_font::Font;
@@ -17,10 +17,10 @@ impl Menus {
     /// Draws the menu that is pulled down, if one is, over a base image, or the outline of a window that is dragged or grown,
     /// which leaves the first `bar` rows. It takes no memory, and does not read the map on which that is shown.
     pub fn paint_front(&self, map: &mut BitMap, font: &Font, bar: i32, activity: Activity)
-        requires live { AreLive (menus_of ⟦<TakenMenu as DefinedMenu>⟧.menu_loan self.now.list.menus.items) }
+        requires live { AreLive (menus_of ⟦<TakenMenu as Defined>⟧.loan self.now.list.menus.items) }
         requires placed { IsPlaced activity }
         ensures { IsFrontPainted font.now bar activity
-            (menus_of ⟦<TakenMenu as DefinedMenu>⟧.menu_loan self.now.list.menus.items) map.old map.new }
+            (menus_of ⟦<TakenMenu as Defined>⟧.loan self.now.list.menus.items) map.old map.new }
     {
         match activity {
             Activity::Pulling(pulled) => self.paint_pulled(map, font, pulled),
@@ -32,11 +32,12 @@ impl Menus {
 
     /// Draws the menu that is pulled down over a base image.
     fn paint_pulled(&self, map: &mut BitMap, font: &Font, pulled: PulledMenu)
-        requires live { AreLive (menus_of ⟦<TakenMenu as DefinedMenu>⟧.menu_loan self.now.list.menus.items) }
+        requires live { AreLive (menus_of ⟦<TakenMenu as Defined>⟧.loan self.now.list.menus.items) }
         requires place { is_menu_place pulled.place ≡ true }
         requires size { is_menu_size pulled.size ≡ true }
         ensures { IsShown font.now
-            (pulled_of (Pulling pulled) (menus_of ⟦<TakenMenu as DefinedMenu>⟧.menu_loan self.now.list.menus.items)) map.old map.new }
+            (pulled_of (Pulling pulled) (menus_of ⟦<TakenMenu as Defined>⟧.loan self.now.list.menus.items)) map.old
+            map.new }
     {
         if let Some(at) = self.list.find(i32::from(pulled.menu)) {
             let listed = &self.list.menus[at];

@@ -11,7 +11,7 @@ ghost use Rattle.menu_mgr.specs.MenuSteps.{IsMenuStep, is_edit};
 ghost use Rattle.menu_mgr.specs.WholeMenus.{IsWholeMenus};
 
 use crate::{MenuCall, MenuReply, Menus, NewMenu};
-use def_iface::{Defined, DefinedMenu, MenuStock, StockedMenus, Taken, TakenMenu};
+use def_iface::{Defined, MenuStock, Stocked, TakenMenu, TakenWindow};
 use desk_call::Activity;
 use menu_list::edit;
 use tb_geom::Refusal;
@@ -27,12 +27,12 @@ impl Menus {
         call: &MenuCall<'_>,
         stock: &mut MenuStock,
     ) -> Result<MenuReply, Refusal>
-        requires kept { IsKept ⟦<Taken as Defined>⟧.loan windows.old }
-        requires menus { IsWholeMenus ⟦<TakenMenu as DefinedMenu>⟧.menu_loan windows.old activity.old self.old
-            (⟦<MenuStock as StockedMenus>⟧.menu_slots stock.old) }
+        requires kept { IsKept ⟦<TakenWindow as Defined>⟧.loan windows.old }
+        requires menus { IsWholeMenus ⟦<TakenMenu as Defined>⟧.loan windows.old activity.old self.old
+            (⟦<MenuStock as Stocked>⟧.slots stock.old) }
         requires admitted { gate activity.old (menu_standing call.now) ≡ None }
-        ensures { (begun : PixelSet) → LeavesDeskOver ⟦<Taken as Defined>⟧.loan ⟦<TakenMenu as DefinedMenu>⟧.menu_loan
-            (⟦<MenuStock as StockedMenus>⟧.menu_slots stock.old) (⟦<MenuStock as StockedMenus>⟧.menu_slots stock.new)
+        ensures { (begun : PixelSet) → LeavesDeskOver ⟦<TakenWindow as Defined>⟧.loan ⟦<TakenMenu as Defined>⟧.loan
+            (⟦<MenuStock as Stocked>⟧.slots stock.old) (⟦<MenuStock as Stocked>⟧.slots stock.new)
             (IsMenuStep call.now result)
             windows.old (opened activity.old begun) self.old windows.new (opened activity.new begun) self.new }
     {
@@ -59,11 +59,11 @@ impl Menus {
         new: &NewMenu<'_>,
         stock: &mut MenuStock,
     ) -> Result<MenuReply, Refusal>
-        requires kept { IsKept ⟦<Taken as Defined>⟧.loan windows.old }
-        requires menus { IsWholeMenus ⟦<TakenMenu as DefinedMenu>⟧.menu_loan windows.old Idle self.old
-            (⟦<MenuStock as StockedMenus>⟧.menu_slots stock.old) }
-        ensures { (begun : PixelSet) → LeavesDeskOver ⟦<Taken as Defined>⟧.loan ⟦<TakenMenu as DefinedMenu>⟧.menu_loan
-            (⟦<MenuStock as StockedMenus>⟧.menu_slots stock.old) (⟦<MenuStock as StockedMenus>⟧.menu_slots stock.new)
+        requires kept { IsKept ⟦<TakenWindow as Defined>⟧.loan windows.old }
+        requires menus { IsWholeMenus ⟦<TakenMenu as Defined>⟧.loan windows.old Idle self.old
+            (⟦<MenuStock as Stocked>⟧.slots stock.old) }
+        ensures { (begun : PixelSet) → LeavesDeskOver ⟦<TakenWindow as Defined>⟧.loan ⟦<TakenMenu as Defined>⟧.loan
+            (⟦<MenuStock as Stocked>⟧.slots stock.old) (⟦<MenuStock as Stocked>⟧.slots stock.new)
             (IsMenuStep (asks.New new.now) result)
             windows.old (opened Idle begun) self.old windows.new (opened Idle begun) self.new }
     {
@@ -83,11 +83,11 @@ impl Menus {
         menu: i32,
         stock: &mut MenuStock,
     ) -> Result<MenuReply, Refusal>
-        requires kept { IsKept ⟦<Taken as Defined>⟧.loan windows.old }
-        requires menus { IsWholeMenus ⟦<TakenMenu as DefinedMenu>⟧.menu_loan windows.old Idle self.old
-            (⟦<MenuStock as StockedMenus>⟧.menu_slots stock.old) }
-        ensures { (begun : PixelSet) → LeavesDeskOver ⟦<Taken as Defined>⟧.loan ⟦<TakenMenu as DefinedMenu>⟧.menu_loan
-            (⟦<MenuStock as StockedMenus>⟧.menu_slots stock.old) (⟦<MenuStock as StockedMenus>⟧.menu_slots stock.new)
+        requires kept { IsKept ⟦<TakenWindow as Defined>⟧.loan windows.old }
+        requires menus { IsWholeMenus ⟦<TakenMenu as Defined>⟧.loan windows.old Idle self.old
+            (⟦<MenuStock as Stocked>⟧.slots stock.old) }
+        ensures { (begun : PixelSet) → LeavesDeskOver ⟦<TakenWindow as Defined>⟧.loan ⟦<TakenMenu as Defined>⟧.loan
+            (⟦<MenuStock as Stocked>⟧.slots stock.old) (⟦<MenuStock as Stocked>⟧.slots stock.new)
             (IsMenuStep (asks.Dispose menu) result)
             windows.old (opened Idle begun) self.old windows.new (opened Idle begun) self.new }
     {
@@ -106,12 +106,12 @@ impl Menus {
         windows: &mut WindowManager,
         call: &MenuCall<'_>,
     ) -> Result<MenuReply, Refusal>
-        requires kept { IsKept ⟦<Taken as Defined>⟧.loan windows.old }
+        requires kept { IsKept ⟦<TakenWindow as Defined>⟧.loan windows.old }
         requires edits { is_edit call.now ≡ true }
         requires few { length self.old.list.menus.items ≤ 16 }
         ensures { (begun : PixelSet) (kept : List MenuSlot)
-            → IsWholeMenus ⟦<TakenMenu as DefinedMenu>⟧.menu_loan windows.old Idle self.old kept
-            → LeavesDeskOver ⟦<Taken as Defined>⟧.loan ⟦<TakenMenu as DefinedMenu>⟧.menu_loan kept kept
+            → IsWholeMenus ⟦<TakenMenu as Defined>⟧.loan windows.old Idle self.old kept
+            → LeavesDeskOver ⟦<TakenWindow as Defined>⟧.loan ⟦<TakenMenu as Defined>⟧.loan kept kept
             (IsMenuStep call.now result)
             windows.old (opened Idle begun) self.old windows.new (opened Idle begun) self.new }
     {

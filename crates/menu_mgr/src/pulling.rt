@@ -1,5 +1,6 @@
 //! The menu that is pulled down.
-ghost use Rattle.std.specs.Prelude.{◌≡◌, ◌<◌, ◌≤◌, [], length, vec_capacity, Some, None, IfSome, true, List, ℕ, pos, ◌≤ℤ◌, slice_get, is_none, if◌then◌else◌};
+ghost use Rattle.std.specs.Prelude.{◌≡◌, ◌<◌, ◌≤◌, [], length, vec_capacity, Some, None, IfSome, true, List, ℕ, pos};
+ghost use Rattle.std.specs.Prelude.{◌≤ℤ◌, slice_get, is_none, if◌then◌else◌};
 ghost use Rattle.std.specs.Option.{option_map};
 ghost use Rattle.tb_geom.specs.Points.{PixelSet, minus};
 ghost use Rattle.tb_geom.specs.Rects.{in_plane};
@@ -20,7 +21,7 @@ ghost use Rattle.menu_mgr.specs.Pulling.{as_pulled, is_pulled_at, item_under, pu
 ghost use Rattle.menu_mgr.specs.WholeMenus.{AreLive, IsPlaced, menus_of};
 
 use crate::{Choice, MenuReply, Menus};
-use def_iface::{Defined, DefinedMenu, MenuChange, Taken, TakenMenu};
+use def_iface::{Defined, MenuChange, TakenMenu, TakenWindow};
 use desk_call::{Activity, PulledMenu};
 use desk_ground::{TitleHit, title_at};
 use overlay::{pulled_place, pulled_rect, shown_size};
@@ -73,7 +74,7 @@ impl Menus {
     /// The title of the menu bar that a point of the screen is on, if it is on one.
     fn title_under(&self, windows: &WindowManager, point: Point) -> Option<Titled>
         ensures value { result ≡ indexed self.now.list.menus.items
-            (title_under (desk_of ⟦<Taken as Defined>⟧.loan windows.now []) point) }
+            (title_under (desk_of ⟦<TakenWindow as Defined>⟧.loan windows.now []) point) }
         ensures within { IfSome result (λ t. t.at < length self.now.list.menus.items) }
         ensures near { IfSome result (λ t. (pos 0 ≤ℤ t.hit.left) × (t.hit.left ≤ℤ pos 1200000)) }
     {
@@ -99,7 +100,7 @@ impl Menus {
         point: Point,
     ) -> Option<Titled>
         ensures value { result ≡ of_another pulled (indexed self.now.list.menus.items
-            (title_under (desk_of ⟦<Taken as Defined>⟧.loan windows.now []) point)) }
+            (title_under (desk_of ⟦<TakenWindow as Defined>⟧.loan windows.now []) point)) }
         ensures within { IfSome result (λ t. t.at < length self.now.list.menus.items) }
         ensures near { IfSome result (λ t. (pos 0 ≤ℤ t.hit.left) × (t.hit.left ≤ℤ pos 1200000)) }
     {
@@ -114,8 +115,8 @@ impl Menus {
         requires place { is_menu_place pulled.place ≡ true }
         requires size { is_menu_size pulled.size ≡ true }
         requires point { in_plane point ≡ true }
-        ensures { result ≡ item_under (desk_of ⟦<Taken as Defined>⟧.loan windows.now []) pulled
-            (menus_of ⟦<TakenMenu as DefinedMenu>⟧.menu_loan self.now.list.menus.items) point }
+        ensures { result ≡ item_under (desk_of ⟦<TakenWindow as Defined>⟧.loan windows.now []) pulled
+            (menus_of ⟦<TakenMenu as Defined>⟧.loan self.now.list.menus.items) point }
     {
         let at = self.index_of(pulled.menu)?;
         let area = pulled_rect(pulled.place, pulled.size);
@@ -132,8 +133,8 @@ impl Menus {
     /// Whether a point is a pixel of the screen that the menu has which is pulled down, if one is.
     pub fn has_point(&self, windows: &WindowManager, activity: Activity, point: Point) -> bool
         requires { IsPlaced activity }
-        ensures { result ≡ is_pulled_at (desk_of ⟦<Taken as Defined>⟧.loan windows.now [])
-            (pulled_of activity (menus_of ⟦<TakenMenu as DefinedMenu>⟧.menu_loan self.now.list.menus.items)) point }
+        ensures { result ≡ is_pulled_at (desk_of ⟦<TakenWindow as Defined>⟧.loan windows.now [])
+            (pulled_of activity (menus_of ⟦<TakenMenu as Defined>⟧.loan self.now.list.menus.items)) point }
     {
         match activity {
             Activity::Pulling(pulled) => self.is_over(windows, pulled, point),
@@ -145,8 +146,8 @@ impl Menus {
     fn is_over(&self, windows: &WindowManager, pulled: PulledMenu, point: Point) -> bool
         requires place { is_menu_place pulled.place ≡ true }
         requires size { is_menu_size pulled.size ≡ true }
-        ensures { result ≡ is_pulled_at (desk_of ⟦<Taken as Defined>⟧.loan windows.now [])
-            (pulled_of (Pulling pulled) (menus_of ⟦<TakenMenu as DefinedMenu>⟧.menu_loan self.now.list.menus.items)) point }
+        ensures { result ≡ is_pulled_at (desk_of ⟦<TakenWindow as Defined>⟧.loan windows.now [])
+            (pulled_of (Pulling pulled) (menus_of ⟦<TakenMenu as Defined>⟧.loan self.now.list.menus.items)) point }
     {
         match self.index_of(pulled.menu) {
             Some(_) => {
@@ -159,21 +160,22 @@ impl Menus {
 
     /// Pulls a menu down below its title, which alone is highlighted then. No item is. Takes no memory.
     fn pull(&mut self, windows: &mut WindowManager, title: Titled) -> PulledMenu
-        requires kept { IsKept ⟦<Taken as Defined>⟧.loan windows.old }
+        requires kept { IsKept ⟦<TakenWindow as Defined>⟧.loan windows.old }
         requires few { length self.old.list.menus.items ≤ 16 }
         requires at { title.at < length self.old.list.menus.items }
         requires near { (pos 0 ≤ℤ title.hit.left) × (title.hit.left ≤ℤ pos 1200000) }
-        requires live { AreLive (menus_of ⟦<TakenMenu as DefinedMenu>⟧.menu_loan self.old.list.menus.items) }
+        requires live { AreLive (menus_of ⟦<TakenMenu as Defined>⟧.loan self.old.list.menus.items) }
         requires width { self.old.overlay.front.width ≡ windows.old.screen.width }
         requires height { self.old.overlay.front.height ≡ windows.old.screen.height }
         ensures menus { self.new.list.menus ≡ self.old.list.menus }
         ensures highlighted { self.new.list.highlighted ≡ Some title.hit.menu }
         ensures alloc { self.new.alloc ≡ self.old.alloc }
-        ensures bar { LeavesState ⟦<Taken as Defined>⟧.loan
+        ensures bar { LeavesState ⟦<TakenWindow as Defined>⟧.loan
             (IsBarShown (titles_of (Some title.hit.menu) self.old.list.menus.items)) windows.old windows.new }
         ensures pulled { IfSome (slice_get self.old.list.menus.items title.at) (λ l.
-            let listed = seen ⟦<TakenMenu as DefinedMenu>⟧.menu_loan l in
-            (result ≡ pulled_below (desk_of ⟦<Taken as Defined>⟧.loan windows.old []) (record { hit = title.hit; record_of = listed }))
+            let listed = seen ⟦<TakenMenu as Defined>⟧.loan l in
+            (result ≡ pulled_below (desk_of ⟦<TakenWindow as Defined>⟧.loan windows.old [])
+            (record { hit = title.hit; record_of = listed }))
             × IsShown windows.new.font (Some (as_pulled result listed)) windows.new.screen self.new.overlay.front) }
         ensures placed { (is_menu_place result.place ≡ true) × (is_menu_size result.size ≡ true) }
     {
@@ -186,12 +188,12 @@ impl Menus {
 
     /// The menu of a title, where it lies below that.
     fn below(&self, windows: &WindowManager, title: Titled) -> PulledMenu
-        requires kept { IsKept ⟦<Taken as Defined>⟧.loan windows.now }
+        requires kept { IsKept ⟦<TakenWindow as Defined>⟧.loan windows.now }
         requires at { title.at < length self.now.list.menus.items }
         requires near { (pos 0 ≤ℤ title.hit.left) × (title.hit.left ≤ℤ pos 1200000) }
         ensures pulled { IfSome (slice_get self.now.list.menus.items title.at) (λ l. result
-            ≡ pulled_below (desk_of ⟦<Taken as Defined>⟧.loan windows.now [])
-            (record { hit = title.hit; record_of = seen ⟦<TakenMenu as DefinedMenu>⟧.menu_loan l })) }
+            ≡ pulled_below (desk_of ⟦<TakenWindow as Defined>⟧.loan windows.now [])
+            (record { hit = title.hit; record_of = seen ⟦<TakenMenu as Defined>⟧.loan l })) }
         ensures placed { (is_menu_place result.place ≡ true) × (is_menu_size result.size ≡ true) }
     {
         let DeskView { width, font, .. } = windows.parts();
@@ -208,7 +210,7 @@ impl Menus {
     /// Shows the menu at an index over the base image, where it lies.
     fn show_pulled(&mut self, windows: &WindowManager, at: usize, pulled: PulledMenu)
         requires at { at < length self.old.list.menus.items }
-        requires live { AreLive (menus_of ⟦<TakenMenu as DefinedMenu>⟧.menu_loan self.old.list.menus.items) }
+        requires live { AreLive (menus_of ⟦<TakenMenu as Defined>⟧.loan self.old.list.menus.items) }
         requires place { is_menu_place pulled.place ≡ true }
         requires size { is_menu_size pulled.size ≡ true }
         requires width { self.old.overlay.front.width ≡ windows.now.screen.width }
@@ -216,7 +218,8 @@ impl Menus {
         ensures list { self.new.list ≡ self.old.list }
         ensures alloc { self.new.alloc ≡ self.old.alloc }
         ensures front { IfSome (slice_get self.old.list.menus.items at) (λ l. IsShown windows.now.font
-            (Some (as_pulled pulled (seen ⟦<TakenMenu as DefinedMenu>⟧.menu_loan l))) windows.now.screen self.new.overlay.front) }
+            (Some (as_pulled pulled (seen ⟦<TakenMenu as Defined>⟧.loan l))) windows.now.screen
+            self.new.overlay.front) }
     {
         self.overlay.show(windows.screen());
         let listed = &self.list.menus[at];
@@ -232,9 +235,9 @@ impl Menus {
     /// Tells the definition of the pulled menu, which is about to be put away, that no item is highlighted. The map in front
     /// stays as it is. Takes no memory.
     fn dim_pulled(&mut self, pulled: PulledMenu)
-        requires live { AreLive (menus_of ⟦<TakenMenu as DefinedMenu>⟧.menu_loan self.old.list.menus.items) }
-        ensures told { IsTold pulled None (menus_of ⟦<TakenMenu as DefinedMenu>⟧.menu_loan self.old.list.menus.items)
-            (menus_of ⟦<TakenMenu as DefinedMenu>⟧.menu_loan self.new.list.menus.items) }
+        requires live { AreLive (menus_of ⟦<TakenMenu as Defined>⟧.loan self.old.list.menus.items) }
+        ensures told { IsTold pulled None (menus_of ⟦<TakenMenu as Defined>⟧.loan self.old.list.menus.items)
+            (menus_of ⟦<TakenMenu as Defined>⟧.loan self.new.list.menus.items) }
         ensures highlighted { self.new.list.highlighted ≡ self.old.list.highlighted }
         ensures room { vec_capacity self.old.list.menus ≤ vec_capacity self.new.list.menus }
         ensures alloc { self.new.alloc ≡ self.old.alloc }
@@ -248,19 +251,21 @@ impl Menus {
 
     /// Tells the definition of the pulled menu which item is highlighted, and shows the menu so. Takes no memory.
     fn tell(&mut self, font: &Font, pulled: PulledMenu, item: Option<u8>)
-        requires live { AreLive (menus_of ⟦<TakenMenu as DefinedMenu>⟧.menu_loan self.old.list.menus.items) }
+        requires live { AreLive (menus_of ⟦<TakenMenu as Defined>⟧.loan self.old.list.menus.items) }
         requires place { is_menu_place pulled.place ≡ true }
         requires size { is_menu_size pulled.size ≡ true }
         requires screen { (self.old.overlay.front.width ≤ 1024) × (self.old.overlay.front.height ≤ 1024) }
-        ensures told { IsTold pulled item (menus_of ⟦<TakenMenu as DefinedMenu>⟧.menu_loan self.old.list.menus.items)
-            (menus_of ⟦<TakenMenu as DefinedMenu>⟧.menu_loan self.new.list.menus.items) }
+        ensures told { IsTold pulled item (menus_of ⟦<TakenMenu as Defined>⟧.loan self.old.list.menus.items)
+            (menus_of ⟦<TakenMenu as Defined>⟧.loan self.new.list.menus.items) }
         ensures highlighted { self.new.list.highlighted ≡ self.old.list.highlighted }
         ensures room { vec_capacity self.old.list.menus ≤ vec_capacity self.new.list.menus }
         ensures alloc { self.new.alloc ≡ self.old.alloc }
         ensures front { (base : Bits)
-            → IsShown font.now (pulled_of (Pulling pulled) (menus_of ⟦<TakenMenu as DefinedMenu>⟧.menu_loan self.old.list.menus.items))
+            → IsShown font.now (pulled_of (Pulling pulled)
+            (menus_of ⟦<TakenMenu as Defined>⟧.loan self.old.list.menus.items))
             base self.old.overlay.front
-            → IsShown font.now (pulled_of (Pulling pulled) (menus_of ⟦<TakenMenu as DefinedMenu>⟧.menu_loan self.new.list.menus.items))
+            → IsShown font.now (pulled_of (Pulling pulled)
+            (menus_of ⟦<TakenMenu as Defined>⟧.loan self.new.list.menus.items))
             base self.new.overlay.front }
     {
         if let Some(at) = self.index_of(pulled.menu) {
@@ -271,20 +276,22 @@ impl Menus {
     /// Tells it where its menu stands at this index.
     fn tell_at(&mut self, font: &Font, at: usize, pulled: PulledMenu, item: Option<u8>)
         requires at { at < length self.old.list.menus.items }
-        requires live { AreLive (menus_of ⟦<TakenMenu as DefinedMenu>⟧.menu_loan self.old.list.menus.items) }
+        requires live { AreLive (menus_of ⟦<TakenMenu as Defined>⟧.loan self.old.list.menus.items) }
         requires place { is_menu_place pulled.place ≡ true }
         requires size { is_menu_size pulled.size ≡ true }
         requires screen { (self.old.overlay.front.width ≤ 1024) × (self.old.overlay.front.height ≤ 1024) }
-        ensures told { IsToldAt (Some at) item (menus_of ⟦<TakenMenu as DefinedMenu>⟧.menu_loan self.old.list.menus.items)
-            (menus_of ⟦<TakenMenu as DefinedMenu>⟧.menu_loan self.new.list.menus.items) }
+        ensures told { IsToldAt (Some at) item (menus_of ⟦<TakenMenu as Defined>⟧.loan self.old.list.menus.items)
+            (menus_of ⟦<TakenMenu as Defined>⟧.loan self.new.list.menus.items) }
         ensures highlighted { self.new.list.highlighted ≡ self.old.list.highlighted }
         ensures room { vec_capacity self.old.list.menus ≤ vec_capacity self.new.list.menus }
         ensures alloc { self.new.alloc ≡ self.old.alloc }
         ensures front { (base : Bits)
             → IsShown font.now (option_map (as_pulled pulled)
-            (slice_get (menus_of ⟦<TakenMenu as DefinedMenu>⟧.menu_loan self.old.list.menus.items) at)) base self.old.overlay.front
+            (slice_get (menus_of ⟦<TakenMenu as Defined>⟧.loan self.old.list.menus.items) at)) base
+            self.old.overlay.front
             → IsShown font.now (option_map (as_pulled pulled)
-            (slice_get (menus_of ⟦<TakenMenu as DefinedMenu>⟧.menu_loan self.new.list.menus.items) at)) base self.new.overlay.front }
+            (slice_get (menus_of ⟦<TakenMenu as Defined>⟧.loan self.new.list.menus.items) at)) base
+            self.new.overlay.front }
     {
         let listed = &mut self.list.menus[at];
         let damage = listed.definition.told(MenuChange::Highlighted(item));
@@ -317,10 +324,11 @@ impl Menus {
         activity: &mut Activity,
         point: Point,
     ) -> Result<MenuReply, Refusal>
-        requires kept { IsKept ⟦<Taken as Defined>⟧.loan windows.old }
-        requires menus { AreKeptMenus ⟦<Taken as Defined>⟧.loan ⟦<TakenMenu as DefinedMenu>⟧.menu_loan windows.old activity.old self.old }
+        requires kept { IsKept ⟦<TakenWindow as Defined>⟧.loan windows.old }
+        requires menus { AreKeptMenus ⟦<TakenWindow as Defined>⟧.loan ⟦<TakenMenu as Defined>⟧.loan windows.old
+            activity.old self.old }
         requires idle { activity.old ≡ Idle }
-        ensures { (begun : PixelSet) → LeavesMenus ⟦<Taken as Defined>⟧.loan ⟦<TakenMenu as DefinedMenu>⟧.menu_loan
+        ensures { (begun : PixelSet) → LeavesMenus ⟦<TakenWindow as Defined>⟧.loan ⟦<TakenMenu as Defined>⟧.loan
             (IsMenuStep (asks.Down point) result)
             windows.old (opened activity.old begun) self.old windows.new (opened activity.new begun) self.new }
     {
@@ -344,10 +352,11 @@ impl Menus {
         pulled: PulledMenu,
         point: Point,
     ) -> Result<MenuReply, Refusal>
-        requires kept { IsKept ⟦<Taken as Defined>⟧.loan windows.old }
-        requires menus { AreKeptMenus ⟦<Taken as Defined>⟧.loan ⟦<TakenMenu as DefinedMenu>⟧.menu_loan windows.old activity.old self.old }
+        requires kept { IsKept ⟦<TakenWindow as Defined>⟧.loan windows.old }
+        requires menus { AreKeptMenus ⟦<TakenWindow as Defined>⟧.loan ⟦<TakenMenu as Defined>⟧.loan windows.old
+            activity.old self.old }
         requires pulling { activity.old ≡ Pulling pulled }
-        ensures { (begun : PixelSet) → LeavesMenus ⟦<Taken as Defined>⟧.loan ⟦<TakenMenu as DefinedMenu>⟧.menu_loan
+        ensures { (begun : PixelSet) → LeavesMenus ⟦<TakenWindow as Defined>⟧.loan ⟦<TakenMenu as Defined>⟧.loan
             (IsMenuStep (asks.Move point) result)
             windows.old (opened activity.old begun) self.old windows.new (opened activity.new begun) self.new }
     {
@@ -377,10 +386,11 @@ impl Menus {
         pulled: PulledMenu,
         point: Point,
     ) -> Result<MenuReply, Refusal>
-        requires kept { IsKept ⟦<Taken as Defined>⟧.loan windows.old }
-        requires menus { AreKeptMenus ⟦<Taken as Defined>⟧.loan ⟦<TakenMenu as DefinedMenu>⟧.menu_loan windows.old activity.old self.old }
+        requires kept { IsKept ⟦<TakenWindow as Defined>⟧.loan windows.old }
+        requires menus { AreKeptMenus ⟦<TakenWindow as Defined>⟧.loan ⟦<TakenMenu as Defined>⟧.loan windows.old
+            activity.old self.old }
         requires pulling { activity.old ≡ Pulling pulled }
-        ensures { (begun : PixelSet) → LeavesMenus ⟦<Taken as Defined>⟧.loan ⟦<TakenMenu as DefinedMenu>⟧.menu_loan
+        ensures { (begun : PixelSet) → LeavesMenus ⟦<TakenWindow as Defined>⟧.loan ⟦<TakenMenu as Defined>⟧.loan
             (IsMenuStep (asks.Up point) result)
             windows.old (opened activity.old begun) self.old windows.new (opened activity.new begun) self.new }
     {

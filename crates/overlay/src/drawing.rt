@@ -7,7 +7,7 @@ ghost use Rattle.def_iface.specs.MenuMeaning.{is_menu_size, no_menu_news};
 ghost use Rattle.overlay.specs.Overlays.{is_menu_place, pulled_rect};
 
 use bit_map::BitMap;
-use def_iface::{DefinedMenu, Size, Stage, TakenMenu};
+use def_iface::{Defined, Size, Stage, TakenMenu};
 use draw_port::Canvas;
 use menu_record::Menu;
 use scan_region::Cut;
@@ -23,10 +23,11 @@ pub(crate) fn draw_menu(
     place: Point,
     font: &Font,
 )
-    requires live { (⟦<TakenMenu as DefinedMenu>⟧.menu_loan taken.now).definition.stage ≡ Stage.Live }
+    requires live { (⟦<TakenMenu as Defined>⟧.loan taken.now).definition.stage ≡ Stage.Live }
     requires place { is_menu_place place ≡ true }
     ensures { Draws (rect_holds within)
-        (λ p _. (⟦<TakenMenu as DefinedMenu>⟧.menu_loan taken.now).definition.picture no_menu_news font.now menu.now (minus p place))
+        (λ p _. (⟦<TakenMenu as Defined>⟧.loan taken.now).definition.picture no_menu_news font.now menu.now
+        (minus p place))
         map.old map.new }
 {
     let cut = Cut {
@@ -85,11 +86,12 @@ pub fn draw_pulled(
     size: Size,
     font: &Font,
 )
-    requires live { (⟦<TakenMenu as DefinedMenu>⟧.menu_loan taken.now).definition.stage ≡ Stage.Live }
+    requires live { (⟦<TakenMenu as Defined>⟧.loan taken.now).definition.stage ≡ Stage.Live }
     requires place { is_menu_place place ≡ true }
     requires size { is_menu_size size ≡ true }
     ensures { Draws (rect_holds (pulled_rect place size))
-        (λ p _. (⟦<TakenMenu as DefinedMenu>⟧.menu_loan taken.now).definition.picture no_menu_news font.now menu.now (minus p place))
+        (λ p _. (⟦<TakenMenu as Defined>⟧.loan taken.now).definition.picture no_menu_news font.now menu.now
+        (minus p place))
         map.old map.new }
 {
     draw_menu(map, pulled_rect(place, size), taken, menu, place, font);

@@ -30,7 +30,8 @@ impl Overlay {
     pub fn outline_again(&mut self, bar: i32, old: &[Rect; 8], new: &[Rect; 8])
         requires old { AreApart old.now }
         requires new { AreApart new.now }
-        ensures { (base : Bits) → IsOutlined bar old.now base self.old.front → IsOutlined bar new.now base self.new.front }
+        ensures { (base : Bits) → IsOutlined bar old.now base self.old.front
+            → IsOutlined bar new.now base self.new.front }
     {
         draw_outline(&mut self.front, bar, old);
         draw_outline(&mut self.front, bar, new);

@@ -7,7 +7,7 @@ ghost use Rattle.overlay.specs.Overlays.{IsShown, is_menu_place};
 use crate::base::cover;
 use crate::drawing::{draw_menu, draw_pulled, pulled_rect};
 use bit_map::BitMap;
-use def_iface::{DefinedMenu, Size, Stage, TakenMenu};
+use def_iface::{Defined, Size, Stage, TakenMenu};
 use draw_port::placed_within;
 use menu_record::Menu;
 use std::alloc::{AllocError, Global};
@@ -52,11 +52,11 @@ impl Overlay {
 
     /// Shows a menu over the base image.
     pub fn pull(&mut self, taken: &TakenMenu, menu: &Menu, place: Point, size: Size, font: &Font)
-        requires live { (⟦<TakenMenu as DefinedMenu>⟧.menu_loan taken.now).definition.stage ≡ Stage.Live }
+        requires live { (⟦<TakenMenu as Defined>⟧.loan taken.now).definition.stage ≡ Stage.Live }
         requires place { is_menu_place place ≡ true }
         requires size { is_menu_size size ≡ true }
         ensures { (base : Bits) → IsShown font.now None base self.old.front → IsShown font.now (Some (record {
-          definition = (⟦<TakenMenu as DefinedMenu>⟧.menu_loan taken.now).definition;
+          definition = (⟦<TakenMenu as Defined>⟧.loan taken.now).definition;
           menu = menu.now;
           place = place;
           size = size;
@@ -75,15 +75,16 @@ impl Overlay {
         damage: Rect,
         font: &Font,
     )
-        requires live { (⟦<TakenMenu as DefinedMenu>⟧.menu_loan taken.now).definition.stage ≡ Stage.Live }
+        requires live { (⟦<TakenMenu as Defined>⟧.loan taken.now).definition.stage ≡ Stage.Live }
         requires place { is_menu_place place ≡ true }
         requires size { is_menu_size size ≡ true }
         requires screen { (self.old.front.width ≤ 1024) × (self.old.front.height ≤ 1024) }
         ensures { (base : Bits) (old : MenuDefinition)
-            → IsMenuDamage damage old (⟦<TakenMenu as DefinedMenu>⟧.menu_loan taken.now).definition
-            → IsShown font.now (Some (record { definition = old; menu = menu.now; place = place; size = size })) base self.old.front
+            → IsMenuDamage damage old (⟦<TakenMenu as Defined>⟧.loan taken.now).definition
+            → IsShown font.now (Some (record { definition = old; menu = menu.now; place = place; size = size })) base
+            self.old.front
             → IsShown font.now (Some (record {
-              definition = (⟦<TakenMenu as DefinedMenu>⟧.menu_loan taken.now).definition;
+              definition = (⟦<TakenMenu as Defined>⟧.loan taken.now).definition;
               menu = menu.now;
               place = place;
               size = size;

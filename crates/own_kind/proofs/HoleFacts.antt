@@ -10,7 +10,7 @@ use Rattle.tb_geom.specs.Rects.{rect_holds, is_in_range, is_coordinate, IsBoxOf}
 use Rattle.tb_geom.proofs.RectLemmas.{sides_of, holds_in}
 use Rattle.def_iface.specs.declared.size.Size.{Size}
 use Rattle.def_iface.specs.Sizes.{is_size, is_extent, rect_of}
-use Rattle.def_iface.specs.Meaning.{IsWithin}
+use Rattle.def_iface.specs.WindowMeaning.{IsWithin}
 use Rattle.looks.specs.Areas.{area_holds, piece_fits, added_rect, removed_rect}
 use Rattle.looks.proofs.AreaLemmas.{box-by-corners, coordinate, coordinate_high, two_fit, without, with_all}
 use Rattle.own_kind.specs.HollowWindows.{outline, third, hole, hollow_structure, hollow_content}

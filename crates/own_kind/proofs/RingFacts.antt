@@ -10,7 +10,7 @@ use Rattle.tb_geom.proofs.RectLemmas.{IsInside, sides_of, holds_in}
 use Rattle.def_iface.specs.declared.size.Size.{Size}
 use Rattle.def_iface.specs.Sizes.{rect_of}
 use Rattle.def_iface.specs.ControlMeaning.{is_control_size, is_control_extent}
-use Rattle.def_iface.specs.Meaning.{IsWithin}
+use Rattle.def_iface.specs.WindowMeaning.{IsWithin}
 use Rattle.looks.specs.Areas.{area_holds, piece_fits, added_rect, removed_rect}
 use Rattle.looks.proofs.AreaLemmas.{box-by-corners, coordinate, two_fit, without, with_all}
 use Rattle.own_kind.specs.Rings.{across, down, hole, ring_region}

@@ -12,8 +12,8 @@ use Rattle.def_iface.specs.declared.window_def.Hit.TheVariants.{InContent, InDra
 use Rattle.def_iface.specs.declared.window_def.WindowChange.{WindowChange}
 use Rattle.def_iface.specs.Sizes.{rect_of}
 use Rattle.def_iface.specs.Lines.{frame_lines}
-use Rattle.def_iface.specs.Meaning.{Definition, size_after}
-use Rattle.def_iface.specs.Keeping.{flags_after, title_after, flags_in, title_in, size_in}
+use Rattle.def_iface.specs.WindowMeaning.{WindowDefinition, size_after}
+use Rattle.def_iface.specs.WindowKeeping.{flags_after, title_after, flags_in, title_in, size_in}
 use Rattle.looks.specs.declared.area.Piece.{Piece}
 use Rattle.looks.specs.Areas.{added_rect, removed_rect, area_holds}
 use Rattle.looks.specs.declared.spot.Spot.{Spot}
@@ -100,7 +100,7 @@ abbrev pub hollow_hit : Flags → Size → Point → Hit
 hollow_hit f s p = if area_holds (hollow_content s) p then InContent else first_part (hollow_spots f s) InDrag p
 
 -- a hollow window's definition as a value
-abbrev pub hollow_window : Stage → Flags → List ℕ → Size → Definition
+abbrev pub hollow_window : Stage → Flags → List ℕ → Size → WindowDefinition
 hollow_window stage f title size = record {
   stage = stage;
   size = size;
@@ -113,7 +113,7 @@ hollow_window stage f title size = record {
 }
 
 -- what the window is
-abbrev pub window_meaning : HollowWindow → Definition
+abbrev pub window_meaning : HollowWindow → WindowDefinition
 window_meaning w = hollow_window w.stage w.flags w.title w.size
 
 -- the window after a change

@@ -3,9 +3,9 @@
 ghost use Rattle.std.specs.Prelude.{◌≡◌, true, false};
 ghost use Rattle.tb_geom.specs.declared.point.Point.{Point};
 ghost use Rattle.tb_geom.specs.Rects.{in_plane, rect_holds};
-ghost use Rattle.def_iface.specs.News.{told_change};
+ghost use Rattle.def_iface.specs.WindowNews.{told_change};
 ghost use Rattle.def_iface.specs.Sizes.{is_size};
-ghost use Rattle.def_iface.specs.Meaning.{SameLook, SameRegions, Hears, IsDamage, is_fitting, size_after};
+ghost use Rattle.def_iface.specs.WindowMeaning.{SameLook, SameRegions, WindowHears, IsDamage, is_fitting, size_after};
 ghost use Rattle.looks.specs.Letters.{Lettering};
 ghost use Rattle.looks.specs.Marks.{look_bit};
 ghost use Rattle.own_kind.specs.HollowWindows.{hollow_look, window_meaning, told_window, window_at};
@@ -80,7 +80,7 @@ impl WindowDef for HollowWindow {
         requires { (window_meaning self.old).stage ≡ Stage.Fresh }
         ensures live { (window_meaning self.new).stage ≡ Stage.Live }
         ensures regions { SameRegions (window_meaning self.old) (window_meaning self.new) }
-        ensures look { Hears (λ n. n) (window_meaning self.old) (window_meaning self.new) }
+        ensures look { WindowHears (λ n. n) (window_meaning self.old) (window_meaning self.new) }
         ensures kept { self.new ≡ window_at Stage.Live self.old }
     {
         self.stage = Stage::Live;
@@ -93,7 +93,7 @@ impl WindowDef for HollowWindow {
         ensures stays { (window_meaning self.new).stage ≡ Stage.Live }
         ensures size { (window_meaning self.new).size ≡ size_after change.entry (window_meaning self.old).size }
         ensures regions { SameRegions (window_meaning self.old) (window_meaning self.new) }
-        ensures heard { Hears (told_change change.entry) (window_meaning self.old) (window_meaning self.new) }
+        ensures heard { WindowHears (told_change change.entry) (window_meaning self.old) (window_meaning self.new) }
         ensures damage { IsDamage result (window_meaning self.old) (window_meaning self.new) }
         ensures kept { self.new ≡ told_window change.entry self.old }
     {

@@ -79,7 +79,8 @@ impl ControlDef for RingControl {
     /// Nothing that it is told is forgotten: the clause `kept`, over those of the trait.
     fn told(&mut self, change: &ControlChange<'_>) -> Rect
         requires live { (ring_meaning self.old).stage ≡ Stage.Live }
-        requires fits { is_fitting_control (ring_meaning self.old) (control_size_after change.now (ring_meaning self.old).size) ≡ true }
+        requires fits { is_fitting_control (ring_meaning self.old)
+            (control_size_after change.now (ring_meaning self.old).size) ≡ true }
         ensures stays { (ring_meaning self.new).stage ≡ Stage.Live }
         ensures size { (ring_meaning self.new).size ≡ control_size_after change.now (ring_meaning self.old).size }
         ensures regions { SameControlRegions (ring_meaning self.old) (ring_meaning self.new) }

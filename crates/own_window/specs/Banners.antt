@@ -9,8 +9,8 @@ use Rattle.def_iface.specs.declared.window_def.Hit.TheVariants.{NoHit, InContent
 use Rattle.def_iface.specs.declared.window_def.Stage.{Stage}
 use Rattle.def_iface.specs.Sizes.{rect_of}
 use Rattle.def_iface.specs.Lines.{frame_lines}
-use Rattle.def_iface.specs.Meaning.{Definition}
-use Rattle.def_iface.specs.Keeping.{size_in}
+use Rattle.def_iface.specs.WindowMeaning.{WindowDefinition}
+use Rattle.def_iface.specs.WindowKeeping.{size_in}
 use Rattle.looks.specs.declared.pen.Baseline.TheVariants.{At}
 use Rattle.looks.specs.declared.step.Step.{Step}
 use Rattle.looks.specs.Letters.{lettering}
@@ -43,7 +43,7 @@ abbrev pub banner_hit : Size → Point → Hit
 banner_hit s p = first_part (spot true (rect_of s) (rect_of s) InContent ∷ spot true (banner_of s) (banner_of s) InDrag ∷ []) NoHit p
 
 -- a banner window's definition as a value
-abbrev pub banner_window : Stage → Size → Definition
+abbrev pub banner_window : Stage → Size → WindowDefinition
 banner_window stage size = record {
   stage = stage;
   size = size;

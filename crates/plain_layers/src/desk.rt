@@ -1,6 +1,7 @@
 //! The desk of the model: its windows with their layers, which of them a pixel of the screen belongs to, and what it shows.
 
-use def_iface::{Part, Size};
+use def_iface::Size;
+use desk_layers::Part;
 use tb_geom::{Point, Rect};
 
 /// The pixels of the screen, which has no menu bar.

@@ -2,8 +2,8 @@
 
 use crate::desk::{COLUMNS, Owner, PlainDesk, SCREEN, seen_from};
 use crate::steps::Effect;
-use def_iface::Part;
 use desk_call::LayerKind as Kind;
+use desk_layers::Part;
 use std::alloc::{AllocError, Global};
 use tb_geom::Point;
 

@@ -4,8 +4,9 @@ ghost use Rattle.std.specs.Prelude.{◌<◌};
 use crate::desk::{
     NOTHING, Owner, Painting, PlainDesk, PlainLayer, PlainWindow, moved, moved_box, seen_from,
 };
-use def_iface::{Part, Size};
+use def_iface::Size;
 use desk_call::LayerKind as Kind;
+use desk_layers::Part;
 use tb_geom::{Point, Rect};
 
 /// One call, or a few that belong together. Windows are named by their serials.

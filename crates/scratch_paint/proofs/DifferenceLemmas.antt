@@ -9,8 +9,8 @@ use Rattle.tb_geom.specs.Points.{PixelSet}
 use Rattle.tb_geom.specs.Rects.{between, rect_holds}
 use Rattle.bit_map.specs.Bits.{Bits, on_map, bit}
 use Rattle.region_bytes.specs.Edges.{differ}
-use Rattle.def_iface.specs.Desk.{on_screen}
-use Rattle.def_iface.specs.Scratch.{scratch}
+use Rattle.desk_layers.specs.Desk.{on_screen}
+use Rattle.desk_layers.specs.Scratch.{scratch}
 use Rattle.window_mgr.proofs.Arranged.{between-is_below}
 use Rattle.window_mgr.specs.FullDesk.{FullDesk, IsRightState, layered_desk}
 use Rattle.bit_map.specs.Modes.{xor_bit}

@@ -2,15 +2,12 @@
 use Rattle.std.proofs.Common.{◌≡◌, ℕ, ℤ, List, [], pos, sym, ap, ◌∙◌, subst}
 use Rattle.bit_map.specs.Bits.{Bits, bit}
 use Rattle.bit_map.proofs.BitsLemmas.{on_map-same}
-use Rattle.def_iface.specs.declared.taken.Taken.{Taken}
-use Rattle.def_iface.specs.declared.taken_control.TakenControl.{TakenControl}
-use Rattle.def_iface.specs.declared.taken_list.TakenList.{TakenList}
-use Rattle.def_iface.specs.declared.taken_menu.TakenMenu.{TakenMenu}
+use Rattle.def_iface.specs.Slots.{TakenBox}
 use Rattle.def_iface.specs.ControlMeaning.{ControlLoan}
 use Rattle.def_iface.specs.ListMeaning.{ListLoan}
-use Rattle.def_iface.specs.Meaning.{Loan}
+use Rattle.def_iface.specs.WindowMeaning.{WindowLoan}
 use Rattle.def_iface.specs.MenuMeaning.{MenuLoan}
-use Rattle.def_iface.specs.Scratch.{scratch}
+use Rattle.desk_layers.specs.Scratch.{scratch}
 use Rattle.desk_call.specs.declared.activity.Activity.{Activity}
 use Rattle.window_mgr.specs.declared.manager.WindowManager.{WindowManager}
 use Rattle.window_mgr.specs.FullDesk.{layered_desk}
@@ -43,7 +40,7 @@ over_base s base new painted shown = record {
 }
 
 -- and that is the screen of a Toolbox, where what was painted is its own
-pub screen_painted : {V : Type 0} {H : V → Type 0} (loan : Taken V H → Loan) {W : Type 0} {K : W → Type 0} (menu_loan : TakenMenu W K → MenuLoan) {U : Type 0} {J : U → Type 0} (control_loan : TakenControl U J → ControlLoan) {X : Type 0} {L : X → Type 0} (list_loan : TakenList X L → ListLoan)
+pub screen_painted : {V : Type 0} {H : V → Type 0} (loan : TakenBox V H → WindowLoan) {W : Type 0} {K : W → Type 0} (menu_loan : TakenBox W K → MenuLoan) {U : Type 0} {J : U → Type 0} (control_loan : TakenBox U J → ControlLoan) {X : Type 0} {L : X → Type 0} (list_loan : TakenBox X L → ListLoan)
     (t : Toolbox V U W X H J K L) (windows : WindowManager V H) (menus : Menus W K) (activity : Activity) (font : List ℕ) (bar : ℤ) (base new : Bits)
     → windows ≡ t.windows → menus ≡ t.menus → activity ≡ t.activity → font ≡ windows.font → bar ≡ windows.bar.rows
     → IsPaintedDesk (desk_showing (controls_show (lists_show (lists.records_of list_loan t.lists)) (controls.records_of control_loan t.controls)) (desk_of loan windows [])) base

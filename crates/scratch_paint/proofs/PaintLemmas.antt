@@ -19,14 +19,14 @@ use Rattle.draw_port.specs.Ops.{picture_bit}
 use Rattle.desk_ground.specs.declared.ground.Ground.{Ground}
 use Rattle.desk_ground.specs.Screens.{is_screen, is_screen_side, is_bar, desktop}
 use Rattle.desk_ground.specs.Grounds.{IsGround}
-use Rattle.def_iface.specs.News.{no_news}
-use Rattle.def_iface.specs.declared.part.Part.{Part}
-use Rattle.def_iface.specs.declared.taken.Taken.{Taken}
+use Rattle.def_iface.specs.WindowNews.{no_news}
+use Rattle.desk_layers.specs.declared.part.Part.{Part}
+use Rattle.def_iface.specs.Slots.{TakenBox}
 use Rattle.def_iface.specs.declared.window_def.WindowRegions.{WindowRegions}
-use Rattle.def_iface.specs.Meaning.{IsWithin, Loan}
-use Rattle.def_iface.specs.Desk.{ContentLayer, LayeredWindow, in_structure, local, on_screen}
-use Rattle.def_iface.specs.Scratch.{painted, content_layers, window_layers, layers_of, scratch}
-use Rattle.def_iface.specs.Scratch as painting
+use Rattle.def_iface.specs.WindowMeaning.{IsWithin, WindowLoan}
+use Rattle.desk_layers.specs.Desk.{ContentLayer, LayeredWindow, in_structure, local, on_screen}
+use Rattle.desk_layers.specs.Scratch.{painted, content_layers, window_layers, layers_of, scratch}
+use Rattle.desk_layers.specs.Scratch as painting
 use Rattle.window_list.specs.declared.layer.Layer.{Layer}
 use Rattle.window_list.specs.Holders.{layer_has}
 use Rattle.window_list.specs.declared.list.WindowList.{WindowList}
@@ -216,7 +216,7 @@ module _ (look : Look) (region : Pixels) (w : WindowRecord) where
 
 -- ---- windows, the rearmost first
 
-module _ {V : Type 0} {H : V → Type 0} (loan : Taken V H → Loan) (look : Look) (region : Pixels) (ws : List (Window V H)) where
+module _ {V : Type 0} {H : V → Type 0} (loan : TakenBox V H → WindowLoan) (look : Look) (region : Pixels) (ws : List (Window V H)) where
   -- the windows from this place of the list on were painted
   abbrev pub ArePaintedFrom : ℕ → Bits → Bits → Type 0
   ArePaintedFrom i old new = Draws (holds region) (windows_value look (map (record_of loan) (drop i ws))) old new
@@ -286,7 +286,7 @@ desk_painted desk g mid new bar_is ground drawn topped = record {
             ap (over_bar (int_lt p.v desk.bar.rows)) held
 
 -- and that is the desk of a manager, where its parts were asked of what is the same
-pub kept_painted : {V : Type 0} {H : V → Type 0} (loan : Taken V H → Loan) (shows : List ℕ → Part → PixelSet) (t : WindowManager V H) (width height bar : ℤ) (font : List ℕ) (titles : List BarTitle) (windows : WindowList V H) (g : Ground) (mid new : Bits)
+pub kept_painted : {V : Type 0} {H : V → Type 0} (loan : TakenBox V H → WindowLoan) (shows : List ℕ → Part → PixelSet) (t : WindowManager V H) (width height bar : ℤ) (font : List ℕ) (titles : List BarTitle) (windows : WindowList V H) (g : Ground) (mid new : Bits)
     → width ≡ pos t.screen.width → height ≡ pos t.screen.height → bar ≡ t.bar.rows → titles ≡ t.bar.titles → font ≡ t.font → windows ≡ t.windows
     → IsKept loan t
     → IsGround width height bar g

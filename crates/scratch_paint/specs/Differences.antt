@@ -3,7 +3,7 @@ use Rattle.std.specs.Prelude.{ℕ, pos, nat_abs, ◌&&◌, not, map, sum, count_
 use Rattle.std.specs.List.{range_with_len}
 use Rattle.tb_geom.specs.Points.{PixelSet}
 use Rattle.region_bytes.specs.Edges.{differ}
-use Rattle.def_iface.specs.Desk.{on_screen}
+use Rattle.desk_layers.specs.Desk.{on_screen}
 use Rattle.window_mgr.specs.FullDesk.{layered_desk}
 use Rattle.desk_toolbox.specs.Fronts.{screen_of, screen_scratch}
 use Rattle.desk_toolbox.specs.ToolboxStates.{ToolboxState}

@@ -4,10 +4,10 @@ use Rattle.tb_geom.specs.declared.point.Point.{Point}
 use Rattle.tb_geom.specs.Points.{PixelSet}
 use Rattle.tb_geom.specs.Pixels.{Pixels, holds}
 use Rattle.bit_map.specs.Bits.{Bits, bit}
-use Rattle.def_iface.specs.declared.part.Part.{Part}
-use Rattle.def_iface.specs.Desk.{on_screen}
-use Rattle.def_iface.specs.Meaning.{IsWithin}
-use Rattle.def_iface.specs.Scratch.{painted, content_layers, window_layers, layers_of, scratch}
+use Rattle.desk_layers.specs.declared.part.Part.{Part}
+use Rattle.desk_layers.specs.Desk.{on_screen}
+use Rattle.def_iface.specs.WindowMeaning.{IsWithin}
+use Rattle.desk_layers.specs.Scratch.{painted, content_layers, window_layers, layers_of, scratch}
 use Rattle.window_list.specs.declared.layer.Layer.{Layer}
 use Rattle.vis_update.specs.Records.{WindowRecord, Look, content_layer, layered_window}
 use Rattle.window_mgr.specs.FullDesk.{FullDesk, layered_desk}

@@ -12,7 +12,7 @@ ghost use Rattle.scratch_paint.specs.Screens.{IsPaintedScreen};
 
 use crate::windows::paint_window;
 use bit_map::BitMap;
-use def_iface::{Defined, Taken};
+use def_iface::{Defined, TakenWindow};
 use desk_ground::{Ground, draw_bar, empty_ground};
 use desk_toolbox::{Desk, Toolbox};
 use scan_region::Region;
@@ -45,10 +45,10 @@ fn paint_base<S: Showing>(
     windows: &WindowManager,
     layers: &S,
 ) -> Result<BitMap, AllocError>
-    requires kept { IsKept ⟦<Taken as Defined>⟧.loan windows.now }
+    requires kept { IsKept ⟦<TakenWindow as Defined>⟧.loan windows.now }
     requires layers { S.is_whole layers.now }
     ensures { IfOk result (IsPaintedDesk
-        (desk_showing (S.shows layers.now) (desk_of ⟦<Taken as Defined>⟧.loan windows.now []))) }
+        (desk_showing (S.shows layers.now) (desk_of ⟦<TakenWindow as Defined>⟧.loan windows.now []))) }
 {
     let DeskView {
         width,
@@ -78,11 +78,11 @@ fn paint_windows<S: Showing>(
     layers: &S,
     font: &Font,
 ) -> Result<(), AllocError>
-    requires settled { All IsSettled (map (record_of ⟦<Taken as Defined>⟧.loan) windows.now.records.items) }
+    requires settled { All IsSettled (map (record_of ⟦<TakenWindow as Defined>⟧.loan) windows.now.records.items) }
     requires layers { S.is_whole layers.now }
     ensures { OnOk result (Draws (holds gray.now)
         (windows_value (look_in (S.shows layers.now) font.now)
-        (map (record_of ⟦<Taken as Defined>⟧.loan) windows.now.records.items))
+        (map (record_of ⟦<TakenWindow as Defined>⟧.loan) windows.now.records.items))
         image.old image.new) }
 {
     for at in (0..windows.len()).rev() {

@@ -7,14 +7,15 @@ ghost use Rattle.tb_geom.specs.Rects.{in_plane};
 ghost use Rattle.scan_region.specs.Moves.{StaysInRange};
 ghost use Rattle.bit_blit.specs.Draws.{Draws};
 ghost use Rattle.draw_port.specs.Ops.{picture_bit};
-ghost use Rattle.def_iface.specs.News.{no_news};
+ghost use Rattle.def_iface.specs.WindowNews.{no_news};
 ghost use Rattle.window_list.specs.Holders.{layer_has};
 ghost use Rattle.vis_update.specs.Records.{record_of};
 ghost use Rattle.window_mgr.specs.Whole.{IsSettled};
 ghost use Rattle.scratch_paint.specs.Paints.{IsLocalContent, layers_value, look_in, window_value};
 
 use bit_map::BitMap;
-use def_iface::{Defined, Part, Taken, WindowRegions};
+use def_iface::{Defined, TakenWindow, WindowRegions};
+use desk_layers::Part;
 use draw_port::Canvas;
 use scan_region::Region;
 use std::alloc::{AllocError, Global};
@@ -33,10 +34,10 @@ pub(crate) fn paint_window<S: Showing>(
     layers: &S,
     font: &Font,
 ) -> Result<(), AllocError>
-    requires settled { IsSettled (record_of ⟦<Taken as Defined>⟧.loan window.now) }
+    requires settled { IsSettled (record_of ⟦<TakenWindow as Defined>⟧.loan window.now) }
     requires layers { S.is_whole layers.now }
     ensures { OnOk result (Draws (holds gray.now)
-        (window_value (look_in (S.shows layers.now) font.now) (record_of ⟦<Taken as Defined>⟧.loan window.now))
+        (window_value (look_in (S.shows layers.now) font.now) (record_of ⟦<TakenWindow as Defined>⟧.loan window.now))
         image.old image.new) }
 {
     if !window.shown {
@@ -59,9 +60,9 @@ fn paint_frame<'a>(
     window: &Window,
     font: &Font,
 )
-    requires { IsSettled (record_of ⟦<Taken as Defined>⟧.loan window.now) }
+    requires { IsSettled (record_of ⟦<TakenWindow as Defined>⟧.loan window.now) }
     ensures { Draws (λ p. holds gray.now p && holds structure.now p)
-        (λ p _. (⟦<Taken as Defined>⟧.loan window.now.taken).definition.picture no_news font.now
+        (λ p _. (⟦<TakenWindow as Defined>⟧.loan window.now.taken).definition.picture no_news font.now
         (minus p window.now.place))
         image.old image.new }
 {
@@ -85,7 +86,7 @@ fn paint_picture<'a>(
     window: &Window,
     font: &Font,
 )
-    requires { IsSettled (record_of ⟦<Taken as Defined>⟧.loan window.now) }
+    requires { IsSettled (record_of ⟦<TakenWindow as Defined>⟧.loan window.now) }
     ensures { Draws (λ p. holds gray.now p && holds content.now p)
         (λ p _. picture_bit font.now window.now.picture (minus (minus p window.now.place) window.now.origin))
         image.old image.new }
@@ -113,12 +114,12 @@ fn paint_layers<S: Showing>(
     layers: &S,
     font: &Font,
 ) -> Result<(), AllocError>
-    requires settled { IsSettled (record_of ⟦<Taken as Defined>⟧.loan window.now) }
+    requires settled { IsSettled (record_of ⟦<TakenWindow as Defined>⟧.loan window.now) }
     requires shown { window.now.shown ≡ true }
-    requires content { IsLocalContent (record_of ⟦<Taken as Defined>⟧.loan window.now) content.now }
+    requires content { IsLocalContent (record_of ⟦<TakenWindow as Defined>⟧.loan window.now) content.now }
     requires layers { S.is_whole layers.now }
     ensures { OnOk result (Draws (holds gray.now)
-        (layers_value (look_in (S.shows layers.now) font.now) (record_of ⟦<Taken as Defined>⟧.loan window.now)
+        (layers_value (look_in (S.shows layers.now) font.now) (record_of ⟦<TakenWindow as Defined>⟧.loan window.now)
         window.now.layers.layers)
         image.old image.new) }
 {

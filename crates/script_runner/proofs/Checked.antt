@@ -2,13 +2,10 @@
 use Rattle.std.proofs.Common.{◌≡◌, inl, inr, ℕ, Bool, true, List, Option, None, Some, Result, Ok, Err, refl, sym, ap, subst}
 use Rattle.std.specs.Result.{IfOk, result_ok}
 use Rattle.std.specs.declared.alloc.AllocError.{AllocError}
-use Rattle.def_iface.specs.declared.taken.Taken.{Taken}
-use Rattle.def_iface.specs.declared.taken_control.TakenControl.{TakenControl}
-use Rattle.def_iface.specs.declared.taken_list.TakenList.{TakenList}
-use Rattle.def_iface.specs.declared.taken_menu.TakenMenu.{TakenMenu}
+use Rattle.def_iface.specs.Slots.{TakenBox}
 use Rattle.def_iface.specs.ControlMeaning.{ControlLoan}
 use Rattle.def_iface.specs.ListMeaning.{ListLoan}
-use Rattle.def_iface.specs.Meaning.{Loan}
+use Rattle.def_iface.specs.WindowMeaning.{WindowLoan}
 use Rattle.def_iface.specs.MenuMeaning.{MenuLoan}
 use Rattle.def_iface.specs.Stocks.{AllSlots}
 use Rattle.desk_toolbox.specs.declared.toolbox.Toolbox.{Toolbox}
@@ -23,7 +20,7 @@ use Rattle.script_runner.specs.Runs.{CheckedEnds, ScriptEnds}
 use Rattle.script_runner.specs.Script.{ScriptState}
 use Rattle.script_runner.specs.SessionViews.{IsReadyWith, state_with}
 
-module _ {V : Type 0} {H : V → Type 0} (loan : Taken V H → Loan) {W : Type 0} {K : W → Type 0} (menu_loan : TakenMenu W K → MenuLoan) {U : Type 0} {J : U → Type 0} (control_loan : TakenControl U J → ControlLoan) {X : Type 0} {L : X → Type 0} (list_loan : TakenList X L → ListLoan) (font : Option (List ℕ)) (stocks : AllSlots) where
+module _ {V : Type 0} {H : V → Type 0} (loan : TakenBox V H → WindowLoan) {W : Type 0} {K : W → Type 0} (menu_loan : TakenBox W K → MenuLoan) {U : Type 0} {J : U → Type 0} (control_loan : TakenBox U J → ControlLoan) {X : Type 0} {L : X → Type 0} (list_loan : TakenBox X L → ListLoan) (font : Option (List ℕ)) (stocks : AllSlots) where
   made_line : (t : Toolbox V U W X H J K L) (count : Result ℕ AllocError) → IfOk count (λ n. n ≡ difference_count (toolbox_state loan menu_loan control_loan list_loan t no_slots))
       → IsCheckLine (state_with loan menu_loan control_loan list_loan (Some t) font stocks) (check_text (result_ok count))
   unfolding differences_of row_differences
@@ -44,7 +41,7 @@ module _ {V : Type 0} {H : V → Type 0} (loan : Taken V H → Loan) {W : Type 0
   line_of_none desk none = rw none (unmade_line font)
 
 -- between two lines a desk is whole over some slots
-module _ {V : Type 0} {H : V → Type 0} (loan : Taken V H → Loan) {W : Type 0} {K : W → Type 0} (menu_loan : TakenMenu W K → MenuLoan) {U : Type 0} {J : U → Type 0} (control_loan : TakenControl U J → ControlLoan) {X : Type 0} {L : X → Type 0} (list_loan : TakenList X L → ListLoan) (stocks : AllSlots) where
+module _ {V : Type 0} {H : V → Type 0} (loan : TakenBox V H → WindowLoan) {W : Type 0} {K : W → Type 0} (menu_loan : TakenBox W K → MenuLoan) {U : Type 0} {J : U → Type 0} (control_loan : TakenBox U J → ControlLoan) {X : Type 0} {L : X → Type 0} (list_loan : TakenBox X L → ListLoan) (stocks : AllSlots) where
   pub kept_desk : (desk : Option (Toolbox V U W X H J K L)) (font : Option (List ℕ)) (t : Toolbox V U W X H J K L) → IsReadyWith loan menu_loan control_loan list_loan desk font stocks → desk ≡ Some t
       → IsKeptToolbox loan menu_loan control_loan list_loan t
   kept_desk None font t ready some = absurd (cc)

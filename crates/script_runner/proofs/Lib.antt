@@ -1,7 +1,6 @@
 mod Checked
 mod ChoicesLemmas
 mod Ends
-mod FullStocks
 mod SameImages
 mod Sessions
 mod StockKinds

@@ -4,15 +4,12 @@ use Rattle.std.proofs.lemmas.Bool.{cases_Bool}
 use Rattle.tb_geom.specs.declared.refusal.Refusal.{Refusal}
 use Rattle.tb_geom.specs.declared.refusal.Refusal.TheVariants.{NoMemory, OutOfRange}
 use Rattle.tb_geom.specs.declared.point.Point.{Point}
-use Rattle.def_iface.specs.declared.part.Part.{Part}
-use Rattle.def_iface.specs.declared.part.Part.TheVariants as parts
-use Rattle.def_iface.specs.declared.taken.Taken.{Taken}
-use Rattle.def_iface.specs.declared.taken_control.TakenControl.{TakenControl}
-use Rattle.def_iface.specs.declared.taken_list.TakenList.{TakenList}
-use Rattle.def_iface.specs.declared.taken_menu.TakenMenu.{TakenMenu}
+use Rattle.desk_layers.specs.declared.part.Part.{Part}
+use Rattle.desk_layers.specs.declared.part.Part.TheVariants as parts
+use Rattle.def_iface.specs.Slots.{TakenBox}
 use Rattle.def_iface.specs.ControlMeaning.{ControlLoan}
 use Rattle.def_iface.specs.ListMeaning.{ListLoan}
-use Rattle.def_iface.specs.Meaning.{Loan}
+use Rattle.def_iface.specs.WindowMeaning.{WindowLoan}
 use Rattle.def_iface.specs.MenuMeaning.{MenuLoan}
 use Rattle.def_iface.specs.Stocks.{AllSlots}
 use Rattle.control_mgr.specs.ControlDesks.{controls_show}
@@ -38,7 +35,7 @@ none_show font (parts.Control n) p = refl
 none_show font (parts.List n) p = refl
 
 -- the desk that the Toolbox made
-pub new_desk : {V : Type 0} {H : V → Type 0} (loan : Taken V H → Loan) {W : Type 0} {K : W → Type 0} (menu_loan : TakenMenu W K → MenuLoan) {U : Type 0} {J : U → Type 0} (control_loan : TakenControl U J → ControlLoan) {X : Type 0} {L : X → Type 0} (list_loan : TakenList X L → ListLoan) (t : Toolbox V U W X H J K L) (font : List ℕ) (stocks : AllSlots) (size wanted : DeskSize) → size ≡ wanted
+pub new_desk : {V : Type 0} {H : V → Type 0} (loan : TakenBox V H → WindowLoan) {W : Type 0} {K : W → Type 0} (menu_loan : TakenBox W K → MenuLoan) {U : Type 0} {J : U → Type 0} (control_loan : TakenBox U J → ControlLoan) {X : Type 0} {L : X → Type 0} (list_loan : TakenBox X L → ListLoan) (t : Toolbox V U W X H J K L) (font : List ℕ) (stocks : AllSlots) (size wanted : DeskSize) → size ≡ wanted
     → IsEmptyDesk loan size.width size.height size.bar font t.windows stocks.windows → IsJustBegun (toolbox_state loan menu_loan control_loan list_loan t stocks) → IsNewDesk wanted font stocks (toolbox_state loan menu_loan control_loan list_loan t stocks)
 new_desk loan menu_loan control_loan list_loan t font stocks size wanted same empty begun =
     subst (λ s. IsNewDesk s font stocks (toolbox_state loan menu_loan control_loan list_loan t stocks)) same (record {

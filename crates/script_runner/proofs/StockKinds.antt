@@ -95,7 +95,7 @@ module _ (raw : Bool) where
 -- at the end
 left_kinds : (s : SessionState) (left : AllSlots) → LeavesStock s left → kinds_of left ≡ session_kinds s
 left_kinds (unmade font stocks) left same = ap kinds_of same
-left_kinds (made s) left (windows, (menus, (controls, lists))) = λ i. record { windows = windows.kinds i; menus = menus.kinds i; controls = controls.ended.kinds i; lists = lists.ended.kinds i }
+left_kinds (made s) left (windows, (menus, (controls, lists))) = λ i. record { windows = windows.ended.kinds i; menus = menus.ended.kinds i; controls = controls.ended.kinds i; lists = lists.ended.kinds i }
 
 -- at the end of a script, whether a check follows or not
 pub kinds_stay : {X : Type 0} (raw check : Bool) (first : ScriptState) (input rest : Input) (old new : Output) (state : ScriptState) (font : List ℕ) (stocks left : AllSlots) (r : Result X Refusal)

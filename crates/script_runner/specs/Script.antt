@@ -10,7 +10,7 @@ use Rattle.script_text.specs.declared.command.Command.{Command}
 use Rattle.script_text.specs.declared.command.Command.TheVariants.{Version, Call}
 use Rattle.script_text.specs.Lines.{said}
 use Rattle.script_text.specs.Replies.{refused_text}
-use Rattle.reply_lines.specs.Texts.{done_text}
+use Rattle.line_words.specs.Replies.{done_text}
 use Rattle.script_runner.specs.Session.{SessionState, unmade, Obeys, makes_desk, reply_shown}
 
 -- a script at work: its desk, the version of its commands, and whether a line was answered

@@ -32,7 +32,7 @@ use Rattle.script_text.specs.declared.command.Command.{Command}
 use Rattle.script_text.specs.declared.command.DeskSize.{DeskSize}
 use Rattle.script_text.specs.declared.command.Command.TheVariants.{Version, Desk, Image, Call}
 use Rattle.screen_pbm.specs.Pbm.{p1, p4}
-use Rattle.reply_lines.specs.Texts.{done_text}
+use Rattle.line_words.specs.Replies.{done_text}
 use Rattle.script_text.specs.Replies.{refused_text, reply_text}
 
 -- the desk of a script: none so far, with this font and over these slots of the stock, or one in this state

@@ -8,8 +8,8 @@ use crate::script::Script;
 use crate::session::Session;
 use def_iface::{ControlDef, ListDef, MenuDef, Stock, WindowDef};
 
-/// A session over the stock that its definitions come from, as contracts see the two; over slots, where a
-/// clause speaks of any stock.
+/// A session over the stock that its definitions come from, as contracts see the two. Where a clause speaks of any
+/// stock, it names the same over slots.
 pub trait OnStock {
     /// What its definitions come from.
     type Stock;
@@ -19,6 +19,7 @@ pub trait OnStock {
     /// Its state.
     ghost session: { Self → Self.Stock → SessionState };
 
+    /// Its state over slots.
     ghost session_over: { Self → AllSlots → SessionState };
 
     /// It and the stock are as they are between two lines.

@@ -1,7 +1,7 @@
 //! What a run shows: replies and images, or, where it is raw, images alone.
 ghost use Rattle.std.specs.Prelude.{◌≡◌, ◌≤◌, false};
 ghost use Rattle.bit_map.specs.Bits.{bit};
-ghost use Rattle.reply_lines.specs.Texts.{done_text};
+ghost use Rattle.line_words.specs.Replies.{done_text};
 ghost use Rattle.script_text.specs.Replies.{reply_text};
 ghost use Rattle.script_runner.specs.Session.{reply_shown, image_shown};
 ghost use Rattle.watched_io.specs.Writes.{Sends};

@@ -8,8 +8,9 @@ use Rattle.line_words.specs.Words.{◌>>=◌, Field, word_at}
 use Rattle.line_words.proofs.Spelled.{reads, spelled, says-or-unknown}
 use Rattle.line_words.proofs.WordLemmas.{HasWord, WordCases, word_at-follows, word-cases}
 use Rattle.script_text.specs.declared.command.Command.{Command}
-use Rattle.script_text.specs.declared.verb.Verb.{Verb}
-use Rattle.script_text.specs.Commands.{verbs, shape_of, command_of, read_with}
+use Rattle.command_words.specs.declared.verb.Verb.{Verb}
+use Rattle.command_words.specs.Verbs.{verbs}
+use Rattle.script_text.specs.Commands.{shape_of, command_of, read_with}
 use Rattle.script_text.specs.Spelling.{IsLine}
 
 -- equal values that are there

@@ -1,33 +1,9 @@
--- What the definitions of verbs and lines say, in the words of their subject.
-use Rattle.std.proofs.Common.{◌≡◌, ℕ, ◌↔◌, true, false, cond, eqb, List, [], ◌∷◌, ◌++◌, length, map, Some, Contains, refl, sym, ap, ◌∙◌, arith}
+-- What the definitions of lines say, in the words of their subject.
+use Rattle.std.proofs.Common.{◌≡◌, ℕ, true, false, cond, eqb, List, [], ◌∷◌, ◌++◌, length, map, refl, sym, ap, ◌∙◌, arith}
 use Rattle.std.specs.List.{slice_split, onto_first}
 use Rattle.std.specs.Str.Lines.{lines, lines_of_parts, strip_carriage_return}
 use Rattle.std.proofs.lemmas.Bool.{ne_eqb}
-use Rattle.line_words.specs.Tables.{named, tagged}
-use Rattle.line_words.proofs.TableLemmas.{found_is_in, in_is_found, are_distinct}
-use Rattle.window_words.specs.WindowWords.{window_verbs}
-use Rattle.window_words.specs.UpdateWords.{update_verbs}
-use Rattle.window_words.specs.FrameWords.{frame_verbs}
-use Rattle.window_words.specs.OutlineWords.{outline_verbs}
-use Rattle.control_words.specs.ControlWords.{control_verbs}
-use Rattle.list_words.specs.ListWords.{list_verbs}
-use Rattle.menu_words.specs.MenuWords.{menu_verbs}
-use Rattle.event_words.specs.EventWords.{event_verbs}
-use Rattle.script_text.specs.declared.verb.Verb.{Verb}
-use Rattle.script_text.specs.Commands.{verbs}
 use Rattle.script_text.specs.Lines.{add_front, cut, whole_lines, last_part, if_any, lines_of}
-
--- ---- verbs
-
--- no word stands twice in the table
-verbs_are_distinct : are_distinct verbs ≡ true
-unfolding tagged window_verbs update_verbs frame_verbs outline_verbs control_verbs list_verbs menu_verbs event_verbs
-verbs_are_distinct = refl
-
-pub verb_is_of_the_table : (word : List ℕ) (verb : Verb) → named word verbs ≡ Some verb ↔ Contains verbs (word, verb)
-verb_is_of_the_table word verb = (found_is_in word verb verbs, in_is_found word verb verbs verbs_are_distinct)
-
--- ---- lines
 
 front-parts : (b : ℕ) (lines : List (List ℕ)) (part : List ℕ) → onto_first b (lines ++ part ∷ []) ≡ (add_front b (lines, part)).0 ++ (add_front b (lines, part)).1 ∷ []
 front-parts b [] part = refl

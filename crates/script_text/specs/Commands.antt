@@ -1,40 +1,24 @@
--- The commands: their first words, and the words that follow each.
-use Rattle.std.specs.Prelude.{ℕ, List, [], ◌∷◌, ◌++◌, Option, Some, None, Result, Err, codes}
+-- The commands: the words that follow each first word.
+use Rattle.std.specs.Prelude.{ℕ, List, Option, Some, None, Result, Err}
 use Rattle.tb_geom.specs.declared.refusal.Refusal.{Refusal}
 use Rattle.tb_geom.specs.declared.refusal.Refusal.TheVariants.{BadSyntax}
 use Rattle.desk_call.specs.declared.call.Call.TheVariants as calls
 use Rattle.line_words.specs.Words.{◌>>=◌, word_at}
 use Rattle.line_words.specs.Shapes.{Shape, says, number, mapped, reading}
-use Rattle.line_words.specs.Tables.{named, tagged}
-use Rattle.window_words.specs.WindowWords.{window_verbs, window_shape}
-use Rattle.window_words.specs.UpdateWords.{update_verbs, update_shape}
-use Rattle.window_words.specs.FrameWords.{frame_verbs, frame_shape}
-use Rattle.window_words.specs.OutlineWords.{outline_verbs, outline_shape}
-use Rattle.control_words.specs.ControlWords.{control_verbs, control_shape}
-use Rattle.list_words.specs.ListWords.{list_verbs, list_shape}
-use Rattle.menu_words.specs.MenuWords.{menu_verbs, menu_shape}
-use Rattle.event_words.specs.EventWords.{event_verbs, event_shape}
+use Rattle.line_words.specs.Tables.{named}
+use Rattle.command_words.specs.Verbs.{verbs}
+use Rattle.command_words.specs.WindowWords.{window_shape}
+use Rattle.command_words.specs.UpdateWords.{update_shape}
+use Rattle.command_words.specs.FrameWords.{frame_shape}
+use Rattle.command_words.specs.OutlineWords.{outline_shape}
+use Rattle.command_words.specs.ControlWords.{control_shape}
+use Rattle.command_words.specs.ListWords.{list_shape}
+use Rattle.command_words.specs.MenuWords.{menu_shape}
+use Rattle.command_words.specs.EventWords.{event_shape}
 use Rattle.script_text.specs.declared.command.Command.{Command}
 use Rattle.script_text.specs.declared.command.Command.TheVariants.{Version, Desk, Image, Call}
-use Rattle.script_text.specs.declared.verb.Verb.{Verb}
-use Rattle.script_text.specs.declared.verb.Verb.TheVariants as words
-
--- the first words of commands about the whole desk or the whole script
-abbrev pub desk_verbs : List (List ℕ × Verb)
-desk_verbs = (codes "desk", words.Desk) ∷ (codes "image", words.Image) ∷ (codes "version", words.Version) ∷ []
-
--- the first words of commands
-abbrev pub verbs : List (List ℕ × Verb)
-verbs =
-    tagged words.Window window_verbs
-    ++ (tagged words.Update update_verbs
-    ++ (tagged words.Frame frame_verbs
-    ++ (tagged words.Outline outline_verbs
-    ++ (tagged words.Control control_verbs
-    ++ (tagged words.List list_verbs
-    ++ (tagged words.Menu menu_verbs
-    ++ (tagged words.Event event_verbs
-    ++ desk_verbs)))))))
+use Rattle.command_words.specs.declared.verb.Verb.{Verb}
+use Rattle.command_words.specs.declared.verb.Verb.TheVariants as words
 
 -- WIDTH HEIGHT BAR
 abbrev pub desk_shape : Shape Command

@@ -5,8 +5,9 @@ use Rattle.line_words.specs.Forms.{follows, HasNo}
 use Rattle.line_words.specs.Spelling.{IsSpelled}
 use Rattle.line_words.specs.Tables.{named}
 use Rattle.script_text.specs.declared.command.Command.{Command}
-use Rattle.script_text.specs.declared.verb.Verb.{Verb}
-use Rattle.script_text.specs.Commands.{verbs, shape_of}
+use Rattle.command_words.specs.declared.verb.Verb.{Verb}
+use Rattle.command_words.specs.Verbs.{verbs}
+use Rattle.script_text.specs.Commands.{shape_of}
 
 -- The line is a verb and the words that follow it, and says this.
 abbrev pub IsLine : List ℕ → Result Command Refusal → Type 0

@@ -1,21 +1,13 @@
 //! What the definitions of commands and lines say, in the words of their subject.
-ghost use Rattle.std.specs.Prelude.{◌≡◌, ◌↔◌, ℕ, List, Some, Contains, Result, IfErr};
+ghost use Rattle.std.specs.Prelude.{◌≡◌, ℕ, List, Result, IfErr};
 ghost use Rattle.std.specs.Str.Lines.{lines};
 ghost use Rattle.tb_geom.specs.declared.refusal.Refusal.{Refusal};
 ghost use Rattle.tb_geom.specs.declared.refusal.Refusal.TheVariants.{NoSuchName};
-ghost use Rattle.line_words.specs.Tables.{named};
 ghost use Rattle.script_text.specs.declared.command.Command.{Command};
-ghost use Rattle.script_text.specs.declared.verb.Verb.{Verb};
 ghost use Rattle.script_text.specs.Spelling.{IsLine};
-ghost use Rattle.script_text.specs.Commands.{verbs};
 ghost use Rattle.script_text.specs.Lines.{lines_of};
 
-pub use window_words::laws::modes_are_read_by_their_names;
-
-/// A first word stands for a verb exactly where the table has the two.
-pub fn a_verb_is_one_of_the_table()
-    ensures { (word : List ℕ) (verb : Verb) → named word verbs ≡ Some verb ↔ Contains verbs (word, verb) }
-{}
+pub use command_words::laws::{a_verb_is_one_of_the_table, modes_are_read_by_their_names};
 
 /// What a line says is a command, or that something has not the name that it names: no other refusal, and
 /// not BadSyntax.

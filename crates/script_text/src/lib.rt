@@ -5,9 +5,8 @@
 //! write the line of a reply to a `Sink`. None of them takes memory: a line has at most 1024 bytes, and a
 //! command borrows its words from the line.
 //!
-//! What the words of windows, controls, lists, menus and events are, and their replies, `window_words`, `control_words`,
-//! `list_words`, `menu_words` and `event_words` say; here they are put together, with the commands that are about the whole
-//! desk.
+//! What the words of windows, controls, lists, menus and events are, and their replies, `command_words` says, with the one
+//! table of all first words; here they are put together, with the commands that are about the whole desk.
 //!
 //! What a line says is stated apart from how it is read: `specs/Lines.antt` cuts a script into lines,
 //! `specs/Spelling.antt` says which line says which command (`IsLine`), and `specs/Commands.antt` how it is
@@ -20,10 +19,9 @@ pub mod laws;
 mod lines;
 mod parser;
 mod reply_line;
-mod verb;
 
 pub use command::{Command, DeskSize};
+pub use line_words::write_done;
 pub use lines::LineBuffer;
 pub use parser::parse;
 pub use reply_line::write_reply;
-pub use reply_lines::write_done;

@@ -1,7 +1,7 @@
 //! Lines as commands.
 //!
 //! A line is a verb and the words that follow it: `specs/Spelling.antt` says which line says which command, and
-//! `specs/Commands.antt` how it is read. The words of a manager are read in its crate.
+//! `specs/Commands.antt` how it is read. The words of each verb are read in `command_words`.
 //! The form of a whole line is judged here, and then the names of modes and patterns; no range of a number, no kind
 //! of a window and no region.
 ghost use Rattle.std.specs.Prelude.{◌≡◌, ◌⊎◌, Result, Err};
@@ -10,20 +10,18 @@ ghost use Rattle.tb_geom.specs.declared.refusal.Refusal.TheVariants.{BadSyntax};
 ghost use Rattle.line_words.specs.Shapes.{reading, says};
 ghost use Rattle.script_text.specs.declared.command.Command.{Command};
 ghost use Rattle.script_text.specs.declared.command.Command.TheVariants.{Image};
-ghost use Rattle.script_text.specs.declared.verb.Verb.TheVariants as verbs;
+ghost use Rattle.command_words.specs.declared.verb.Verb.TheVariants as verbs;
 ghost use Rattle.script_text.specs.Commands.{command_of, shape_of, desk_shape, version_shape};
 ghost use Rattle.script_text.specs.Spelling.{IsLine};
 
 use crate::command::{Command, DeskSize};
-use crate::verb::{Verb, verb_of};
-use control_words::ControlVerb;
+use command_words::{
+    ControlVerb, EventVerb, FrameVerb, ListVerb, MenuVerb, OutlineVerb, UpdateVerb, Verb,
+    WindowVerb, verb_of,
+};
 use desk_call::Call;
-use event_words::EventVerb;
 use line_words::Words;
-use list_words::ListVerb;
-use menu_words::MenuVerb;
 use tb_geom::Refusal;
-use window_words::{FrameVerb, OutlineVerb, UpdateVerb, WindowVerb};
 
 /// The words after `desk`: the screen's width and height, and the rows of its menu bar.
 fn desk<'a>(words: Words<'a>) -> Result<Command<'a>, Refusal>

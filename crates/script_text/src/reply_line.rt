@@ -3,15 +3,14 @@ ghost use Rattle.std.specs.Prelude.{◌≡◌, false};
 ghost use Rattle.watched_io.specs.Writes.{Sends};
 ghost use Rattle.script_text.specs.Replies.{refused_text, reply_text};
 
-use control_words::write_control_reply;
+use command_words::{
+    write_control_reply, write_event_reply, write_frame_reply, write_list_reply, write_menu_reply,
+    write_outline_reply, write_window_reply,
+};
 use desk_call::Reply;
-use event_words::write_event_reply;
 use itoa::Buffer;
-use list_words::write_list_reply;
-use menu_words::write_menu_reply;
 use tb_geom::Refusal;
 use watched_io::{Sink, send_all};
-use window_words::{write_frame_reply, write_outline_reply, write_window_reply};
 
 /// Writes the line of what a call answered: `ok` and its values, or `refused` with the refusal's
 /// number and name.

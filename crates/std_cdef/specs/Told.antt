@@ -1,51 +1,54 @@
 -- The standard controls in code: what they are, and what they keep of what they are told.
+use Rattle.std.specs.Prelude.{ℕ, ℤ, List, Option}
+use Rattle.tb_geom.specs.declared.point.Point.{Point}
+use Rattle.tb_geom.specs.Points.{PixelSet}
+use Rattle.control_values.specs.declared.part.ControlPart.{ControlPart}
 use Rattle.def_iface.specs.declared.window_def.Stage.{Stage}
 use Rattle.def_iface.specs.declared.window_def.Stage.TheVariants.{Fresh}
 use Rattle.def_iface.specs.declared.control_def.ControlChange.{ControlChange}
+use Rattle.def_iface.specs.declared.control_keeping.KeptControl.{KeptControl}
 use Rattle.def_iface.specs.ControlMeaning.{ControlDefinition}
 use Rattle.def_iface.specs.ControlKeeping.{nothing_kept, kept_after}
-use Rattle.std_cdef.specs.declared.button.StdButton.{StdButton}
-use Rattle.std_cdef.specs.declared.check.StdCheck.{StdCheck}
+use Rattle.std_cdef.specs.declared.button.ButtonLook.{ButtonLook}
 use Rattle.std_cdef.specs.declared.check.Variation.{Variation}
-use Rattle.std_cdef.specs.declared.scroll.StdScroll.{StdScroll}
+use Rattle.std_cdef.specs.declared.control.StdControl.{StdControl}
+use Rattle.std_cdef.specs.declared.scroll.ScrollLook.{ScrollLook}
 use Rattle.std_cdef.specs.Controls.{std_control, same_value, button_seen, button_part, box_seen, box_part, scroll_seen, scroll_part, scrolled_value}
 
--- what they are
-abbrev pub button_meaning : StdButton → ControlDefinition
-button_meaning b = std_control button_seen button_part same_value b.stage b.kept
+module _ {L : Type 0} where
+  -- what one is, by what it looks like, its parts, and where a dragged thumb leads
+  abbrev pub std_meaning : (L → KeptControl → List ℕ → PixelSet) → (L → KeptControl → Point → Option ControlPart)
+      → (L → KeptControl → Point → Point → ℤ) → StdControl L → ControlDefinition
+  std_meaning seen part value b = std_control (seen b.look) (part b.look) (value b.look) b.stage b.kept
 
-abbrev pub check_meaning : StdCheck → ControlDefinition
-check_meaning b = std_control (box_seen b.variation) box_part same_value b.stage b.kept
+  -- one that was told nothing yet
+  abbrev pub fresh_std : L → StdControl L
+  fresh_std look = record { look = look; stage = Fresh; kept = nothing_kept }
 
-abbrev pub scroll_meaning : StdScroll → ControlDefinition
-scroll_meaning b = std_control scroll_seen scroll_part scrolled_value b.stage b.kept
+  -- one that was told of a change
+  abbrev pub told_std : ControlChange → StdControl L → StdControl L
+  told_std change b = record b { kept = kept_after change b.kept }
+
+  -- one at another stage
+  abbrev pub control_at : Stage → StdControl L → StdControl L
+  control_at stage b = record b { stage = stage }
+
+-- what buttons, check boxes and radio buttons, and scroll bars are
+abbrev pub button_meaning : StdControl ButtonLook → ControlDefinition
+button_meaning = std_meaning (λ _. button_seen) (λ _. button_part) (λ _. same_value)
+
+abbrev pub check_meaning : StdControl Variation → ControlDefinition
+check_meaning = std_meaning box_seen (λ _. box_part) (λ _. same_value)
+
+abbrev pub scroll_meaning : StdControl ScrollLook → ControlDefinition
+scroll_meaning = std_meaning (λ _. scroll_seen) (λ _. scroll_part) (λ _. scrolled_value)
 
 -- those that were told nothing yet
-abbrev pub fresh_button : StdButton
-fresh_button = record { stage = Fresh; kept = nothing_kept }
+abbrev pub fresh_button : StdControl ButtonLook
+fresh_button = record { look = record {}; stage = Fresh; kept = nothing_kept }
 
-abbrev pub fresh_check : Variation → StdCheck
-fresh_check variation = record { variation = variation; stage = Fresh; kept = nothing_kept }
+abbrev pub fresh_check : Variation → StdControl Variation
+fresh_check variation = fresh_std variation
 
-abbrev pub fresh_scroll : StdScroll
-fresh_scroll = record { stage = Fresh; kept = nothing_kept }
-
--- those that were told of a change
-abbrev pub told_button : ControlChange → StdButton → StdButton
-told_button change b = record b { kept = kept_after change b.kept }
-
-abbrev pub told_check : ControlChange → StdCheck → StdCheck
-told_check change b = record b { kept = kept_after change b.kept }
-
-abbrev pub told_scroll : ControlChange → StdScroll → StdScroll
-told_scroll change b = record b { kept = kept_after change b.kept }
-
--- those at another stage
-abbrev pub button_at : Stage → StdButton → StdButton
-button_at stage b = record b { stage = stage }
-
-abbrev pub check_at : Stage → StdCheck → StdCheck
-check_at stage b = record b { stage = stage }
-
-abbrev pub scroll_at : Stage → StdScroll → StdScroll
-scroll_at stage b = record b { stage = stage }
+abbrev pub fresh_scroll : StdControl ScrollLook
+fresh_scroll = record { look = record {}; stage = Fresh; kept = nothing_kept }

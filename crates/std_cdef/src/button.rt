@@ -2,32 +2,28 @@
 ghost use Rattle.std.specs.Prelude.{◌≡◌, true, false};
 ghost use Rattle.tb_geom.specs.declared.point.Point.{Point};
 ghost use Rattle.tb_geom.specs.Rects.{in_plane, rect_holds};
-ghost use Rattle.control_values.specs.declared.part.ControlPart.TheVariants.{Button};
-ghost use Rattle.def_iface.specs.ControlNews.{told_control};
-ghost use Rattle.def_iface.specs.ControlMeaning.{SameControlLook, SameControlRegions, ControlHears, IsControlDamage};
-ghost use Rattle.def_iface.specs.ControlMeaning.{is_control_size, is_fitting_control, control_size_after};
+ghost use Rattle.def_iface.specs.ControlMeaning.{is_control_size};
 ghost use Rattle.looks.specs.Letters.{Lettering};
 ghost use Rattle.looks.specs.Marks.{look_bit};
 ghost use Rattle.std_cdef.specs.Looks.{button_look};
-ghost use Rattle.std_cdef.specs.Told.{button_meaning, fresh_button, told_button, button_at};
+ghost use Rattle.std_cdef.specs.Controls.{button_part, button_seen, same_value};
+ghost use Rattle.std_cdef.specs.Told.{fresh_button};
 
-use crate::rects::{columns, is_control_size, middle, region_of};
+use crate::control::{ControlLook, StdControl};
+use crate::rects::{columns, is_control_size, middle};
 use crate::titles::same_title;
 use control_values::{ControlPart, Highlight};
-use def_iface::{ControlChange, ControlDef, KeptControl, Size, Stage};
+use def_iface::{ControlDef, KeptControl, Size, Stage};
 use draw_port::Canvas;
 use looks::{Step, damage_between, draw_look};
-use scan_region::Region;
-use std::alloc::{AllocError, Global};
 use tb_geom::{Point, Rect};
 
-/// The definition of a simple button (pushButProc). It keeps what it is told: of a title the first 255
-/// characters.
+/// What a simple button looks like (pushButProc).
 #[derive(Drop)]
-pub struct StdButton {
-    stage: Stage,
-    kept: KeptControl,
-}
+pub struct ButtonLook {}
+
+/// The definition of a simple button.
+pub type StdButton = StdControl<ButtonLook>;
 
 impl StdButton {
     /// A Fresh definition, with no title and no size yet.
@@ -35,7 +31,8 @@ impl StdButton {
         ensures fresh { (⟦<StdButton as ControlDef>⟧.control_meaning result).stage ≡ Stage.Fresh }
         ensures value { result ≡ fresh_button }
     {
-        StdButton {
+        StdControl {
+            look: ButtonLook {},
             stage: Stage::Fresh,
             kept: KeptControl::new(),
         }
@@ -78,71 +75,31 @@ fn button_damage(old: &KeptControl, new: &KeptControl, same_title: bool) -> Rect
     }
 }
 
-impl ControlDef for StdButton {
-    ghost control_meaning = { button_meaning };
+impl ControlLook for ButtonLook {
+    ghost seen = { λ _. button_seen };
 
-    fn stage(&self) -> Stage {
-        self.stage
+    ghost part = { λ _. button_part };
+
+    ghost value = { λ _. same_value };
+
+    fn damage(&self, old: &KeptControl, new: &KeptControl) -> Rect {
+        button_damage(old, new, same_title(old, new))
     }
 
-    fn begin(&mut self)
-        requires { (button_meaning self.old).stage ≡ Stage.Fresh }
-        ensures live { (button_meaning self.new).stage ≡ Stage.Live }
-        ensures regions { SameControlRegions (button_meaning self.old) (button_meaning self.new) }
-        ensures look { ControlHears (λ n. n) (button_meaning self.old) (button_meaning self.new) }
-        ensures kept { self.new ≡ button_at Stage.Live self.old }
-    {
-        self.stage = Stage::Live;
-    }
-
-    /// Nothing that it is told is forgotten: the clause `kept`, over those of the trait.
-    fn told(&mut self, change: &ControlChange<'_>) -> Rect
-        requires live { (button_meaning self.old).stage ≡ Stage.Live }
-        requires fits { is_fitting_control (button_meaning self.old) (control_size_after change.now (button_meaning self.old).size) ≡ true }
-        ensures stays { (button_meaning self.new).stage ≡ Stage.Live }
-        ensures size { (button_meaning self.new).size ≡ control_size_after change.now (button_meaning self.old).size }
-        ensures regions { SameControlRegions (button_meaning self.old) (button_meaning self.new) }
-        ensures heard { ControlHears (told_control change.now) (button_meaning self.old) (button_meaning self.new) }
-        ensures damage { IsControlDamage result (button_meaning self.old) (button_meaning self.new) }
-        ensures kept { self.new ≡ told_button change.now self.old }
-    {
-        let kept = self.kept.after(change);
-        let damage = button_damage(&self.kept, &kept, same_title(&self.kept, &kept));
-        self.kept = kept;
-        damage
-    }
-
-    fn regions_for(&self, alloc: Global, size: Size) -> Result<Region, AllocError> {
-        region_of(alloc, size)
-    }
-
-    fn bounds(&self, size: Size) -> Rect {
-        size.rect()
-    }
-
-    fn hit(&self, point: Point) -> Option<ControlPart> {
-        if self.kept.size.rect().contains(point) {
+    fn hit(&self, kept: &KeptControl, point: Point) -> Option<ControlPart> {
+        if kept.size.rect().contains(point) {
             Some(ControlPart::Button)
         } else {
             None
         }
     }
 
-    fn thumb_value(&self, _from: Point, _to: Point) -> i16 {
-        self.kept.values.value()
+    fn thumb_value(&self, kept: &KeptControl, _from: Point, _to: Point) -> i16 {
+        kept.values.value()
     }
 
-    fn draw(&self, canvas: &mut Canvas<'_>) {
-        let look = button_look(self.kept.size, self.kept.highlight);
-        draw_look(canvas, &look, self.kept.title.as_slice());
-    }
-
-    fn dispose(&mut self)
-        requires { (button_meaning self.old).stage ≡ Stage.Live }
-        ensures closed { (button_meaning self.new).stage ≡ Stage.Closed }
-        ensures same { SameControlLook (button_meaning self.old) (button_meaning self.new) }
-        ensures kept { self.new ≡ button_at Stage.Closed self.old }
-    {
-        self.stage = Stage::Closed;
+    fn draw(&self, kept: &KeptControl, canvas: &mut Canvas<'_>) {
+        let look = button_look(kept.size, kept.highlight);
+        draw_look(canvas, &look, kept.title.as_slice());
     }
 }

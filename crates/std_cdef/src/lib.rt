@@ -1,9 +1,9 @@
 //! The standard control definitions (*Inside Macintosh* I, "The Control Manager", "Controls and Control
 //! Definition Functions").
 //!
-//! `StdButton` is the definition of a simple button, `StdCheck` that of a check box and of a radio
-//! button (its `Variation` says which), and `StdScroll` that of a scroll bar. The pixels of each are all
-//! those of its rectangle.
+//! `StdControl` is the definition of each, and they differ in their `ControlLook` alone: `StdButton` is that
+//! of a simple button, `StdCheck` that of a check box and of a radio button (its look is a `Variation`, which
+//! says which), and `StdScroll` that of a scroll bar. The pixels of each are all those of its rectangle.
 //!
 //! What a control looks like, which part of it a point lies in, and where a scroll bar's thumb is, are
 //! tables and a few numbers of what it was told: its size, its title, its setting and how it is
@@ -18,6 +18,7 @@ mod axis;
 mod boxes;
 mod button;
 mod check;
+mod control;
 pub mod laws;
 mod rects;
 mod scroll;
@@ -25,6 +26,7 @@ mod scroll_bar;
 mod thumb;
 mod titles;
 
-pub use button::StdButton;
+pub use button::{ButtonLook, StdButton};
 pub use check::{StdCheck, Variation};
-pub use scroll::StdScroll;
+pub use control::{ControlLook, StdControl};
+pub use scroll::{ScrollLook, StdScroll};

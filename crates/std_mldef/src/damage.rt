@@ -11,7 +11,8 @@ use tb_geom::Rect;
 /// A rectangle outside which a menu looks the same with another item highlighted, within the range of coordinates: the
 /// rows of both.
 pub(crate) fn rows_damage(old: Option<u8>, new: Option<u8>) -> Rect
-    ensures { (p : Point) → in_plane p ≡ true → rect_holds result p ≡ false → (in_band old p ≡ false) × (in_band new p ≡ false) }
+    ensures { (p : Point) → in_plane p ≡ true → rect_holds result p ≡ false
+        → (in_band old p ≡ false) × (in_band new p ≡ false) }
 {
     band(old).union(band(new))
 }

@@ -26,5 +26,6 @@ pub fn a_point_chooses_the_item_of_its_row()
 /// A list that was told so highlights no pixel of an empty cell.
 pub fn an_empty_cell_is_highlighted_only_where_told()
     ensures { (list : StdList) (size : Option Size) (font : List ℕ) (p : Point)
-        → (std_list_meaning list).highlight (record { size = size; nil_hilited = Option.Some false }) font [] p ≡ false }
+        → (std_list_meaning list).highlight (record { size = size; nil_hilited = Option.Some false }) font [] p
+        ≡ false }
 {}

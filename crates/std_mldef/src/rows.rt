@@ -131,7 +131,8 @@ struct Texts<'a> {
 /// The steps of a row of these texts, or of a line across it.
 fn row_steps(row: Row, line: bool, texts: Texts<'_>, bright: bool, lit: bool) -> [Lettered<'_>; 6]
     requires { rows.is_row row ≡ true }
-    ensures { result ≡ rows.row_steps row line texts.entry.mark.now texts.entry.text.now texts.entry.key.now bright lit }
+    ensures { result ≡ rows.row_steps row line texts.entry.mark.now texts.entry.text.now texts.entry.key.now bright
+        lit }
 {
     [
         lettered(texts.mark, text_in(row, 3).when(!line)),
@@ -150,7 +151,8 @@ pub(crate) fn draw_item(canvas: &mut Canvas<'_>, row: Row, item: &MenuItem, brig
     ensures same_map { canvas.new.map.ghost_name ≡ canvas.old.map.ghost_name }
     ensures same_frame { SameFrame canvas.old canvas.new }
     ensures drawn { Draws (canvas_holds canvas.old)
-        (λ p d. lettered_value canvas.old.font.now (rows.item_steps row item.now bright lit) (canvas_point canvas.old p) d)
+        (λ p d. lettered_value canvas.old.font.now (rows.item_steps row item.now bright lit) (canvas_point canvas.old p)
+        d)
         canvas.old.map.now canvas.new.map.now }
 {
     if placed_within(canvas.clip, row_box(row), canvas.origin).is_empty() {

@@ -6,7 +6,7 @@ use Rattle.tb_geom.specs.Rects.{rect_holds, IsBoxOf}
 use Rattle.tb_geom.proofs.RectLemmas.{IsInside, sides_of, holds_in}
 use Rattle.def_iface.specs.declared.size.Size.{Size}
 use Rattle.def_iface.specs.Sizes.{is_size, is_extent, rect_of}
-use Rattle.def_iface.specs.Meaning.{IsWithin}
+use Rattle.def_iface.specs.WindowMeaning.{IsWithin}
 use Rattle.looks.specs.Areas.{area_holds}
 use Rattle.looks.specs.Marks.{box}
 use Rattle.looks.proofs.AreaLemmas.{box-by-corners}

@@ -9,7 +9,7 @@ use Rattle.tb_geom.specs.Rects.{rect_holds, is_in_range, is_coordinate, IsBoxOf}
 use Rattle.tb_geom.proofs.RectLemmas.{IsInside, sides_of, holds_in}
 use Rattle.def_iface.specs.declared.size.Size.{Size}
 use Rattle.def_iface.specs.Sizes.{is_size, rect_of}
-use Rattle.def_iface.specs.Meaning.{IsWithin}
+use Rattle.def_iface.specs.WindowMeaning.{IsWithin}
 use Rattle.looks.specs.Areas.{area_holds, piece_fits, added_rect, removed_rect}
 use Rattle.looks.specs.Marks.{box, neg}
 use Rattle.looks.proofs.AreaLemmas.{box-by-corners, coordinate, coordinate_high, two_fit, without, with_all}

@@ -10,14 +10,14 @@ use Rattle.def_iface.specs.declared.window_def.Hit.{Hit}
 use Rattle.def_iface.specs.declared.window_def.Hit.TheVariants.{NoHit, InContent}
 use Rattle.def_iface.specs.Sizes.{rect_of}
 use Rattle.def_iface.specs.Lines.{frame_lines}
-use Rattle.def_iface.specs.Meaning.{Definition, size_after}
+use Rattle.def_iface.specs.WindowMeaning.{WindowDefinition, size_after}
 use Rattle.looks.specs.declared.area.Piece.{Piece}
 use Rattle.looks.specs.Areas.{added_rect, removed_rect, area_holds}
 use Rattle.looks.specs.declared.step.Step.{Step}
 use Rattle.looks.specs.Letters.{lettering}
 use Rattle.looks.specs.Marks.{box, neg, black_fill, look_bit}
 use Rattle.std_wdef.specs.declared.notched_window.NotchedWindow.{NotchedWindow}
-use Rattle.def_iface.specs.Keeping.{size_in}
+use Rattle.def_iface.specs.WindowKeeping.{size_in}
 use Rattle.std_wdef.specs.Looks.{ring}
 
 -- n: min(w, h) div 2
@@ -46,7 +46,7 @@ abbrev pub notched_hit : Size → Point → Hit
 notched_hit s p = if area_holds (notched_content s) p then InContent else NoHit
 
 -- a notched window's definition as a value
-abbrev pub notched_window : Stage → Size → Definition
+abbrev pub notched_window : Stage → Size → WindowDefinition
 notched_window stage size = record {
   stage = stage;
   size = size;
@@ -59,7 +59,7 @@ notched_window stage size = record {
 }
 
 -- what the window is
-abbrev pub notched_meaning : NotchedWindow → Definition
+abbrev pub notched_meaning : NotchedWindow → WindowDefinition
 notched_meaning w = notched_window w.stage w.size
 
 -- a window that was told nothing yet

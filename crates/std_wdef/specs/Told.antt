@@ -3,14 +3,14 @@ use Rattle.std.specs.Prelude.{[], pos}
 use Rattle.def_iface.specs.declared.window_def.Stage.{Stage}
 use Rattle.def_iface.specs.declared.window_def.Stage.TheVariants.{Fresh}
 use Rattle.def_iface.specs.declared.window_def.WindowChange.{WindowChange}
-use Rattle.def_iface.specs.Meaning.{Definition, size_after}
+use Rattle.def_iface.specs.WindowMeaning.{WindowDefinition, size_after}
 use Rattle.std_wdef.specs.declared.std_window.StdWindow.{StdWindow}
 use Rattle.std_wdef.specs.declared.kind.Variation.{Variation}
-use Rattle.def_iface.specs.Keeping.{no_flags, flags_after, title_after}
+use Rattle.def_iface.specs.WindowKeeping.{no_flags, flags_after, title_after}
 use Rattle.std_wdef.specs.Windows.{std_window}
 
 -- what the window is
-abbrev pub window_meaning : StdWindow → Definition
+abbrev pub window_meaning : StdWindow → WindowDefinition
 window_meaning w = std_window w.variation w.stage w.flags w.title w.size
 
 -- a window that was told nothing yet

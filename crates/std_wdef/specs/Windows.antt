@@ -2,13 +2,13 @@
 use Rattle.std.specs.Prelude.{ℕ, List}
 use Rattle.def_iface.specs.declared.size.Size.{Size}
 use Rattle.def_iface.specs.declared.window_def.Stage.{Stage}
-use Rattle.def_iface.specs.Meaning.{Definition}
+use Rattle.def_iface.specs.WindowMeaning.{WindowDefinition}
 use Rattle.looks.specs.Areas.{area_holds}
 use Rattle.looks.specs.Letters.{lettering}
 use Rattle.looks.specs.Marks.{look_bit}
 use Rattle.std_wdef.specs.declared.kind.Variation.{Variation}
 use Rattle.def_iface.specs.declared.keeping.Flags.{Flags}
-use Rattle.def_iface.specs.Keeping.{flags_in, title_in, size_in}
+use Rattle.def_iface.specs.WindowKeeping.{flags_in, title_in, size_in}
 use Rattle.std_wdef.specs.Kinds.{is_titled}
 use Rattle.std_wdef.specs.Looks.{look_of}
 use Rattle.std_wdef.specs.Areas.{structure_of, content_of, structure_box}
@@ -16,7 +16,7 @@ use Rattle.std_wdef.specs.Lines.{grow_lines}
 use Rattle.std_wdef.specs.Hits.{std_hit}
 
 -- a standard window's definition as a value
-abbrev pub std_window : Variation → Stage → Flags → List ℕ → Size → Definition
+abbrev pub std_window : Variation → Stage → Flags → List ℕ → Size → WindowDefinition
 std_window v stage f title size = record {
   stage = stage;
   size = size;

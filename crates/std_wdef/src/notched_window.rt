@@ -2,8 +2,8 @@
 ghost use Rattle.std.specs.Prelude.{◌≡◌, true, false, pos, ◌≤ℤ◌, ◌+ℤ◌, ◌-ℤ◌};
 ghost use Rattle.tb_geom.specs.declared.point.Point.{Point};
 ghost use Rattle.tb_geom.specs.Rects.{in_plane, is_coordinate, rect_holds};
-ghost use Rattle.def_iface.specs.News.{told_change};
-ghost use Rattle.def_iface.specs.Meaning.{SameLook, SameRegions, Hears, IsDamage, is_fitting, size_after};
+ghost use Rattle.def_iface.specs.WindowNews.{told_change};
+ghost use Rattle.def_iface.specs.WindowMeaning.{SameLook, SameRegions, WindowHears, IsDamage, is_fitting, size_after};
 ghost use Rattle.def_iface.specs.Sizes.{is_size};
 ghost use Rattle.looks.specs.Letters.{Lettering};
 ghost use Rattle.looks.specs.Marks.{box, neg, look_bit};
@@ -133,7 +133,7 @@ impl WindowDef for NotchedWindow {
         requires { (notched_meaning self.old).stage ≡ Stage.Fresh }
         ensures live { (notched_meaning self.new).stage ≡ Stage.Live }
         ensures regions { SameRegions (notched_meaning self.old) (notched_meaning self.new) }
-        ensures look { Hears (λ n. n) (notched_meaning self.old) (notched_meaning self.new) }
+        ensures look { WindowHears (λ n. n) (notched_meaning self.old) (notched_meaning self.new) }
         ensures kept { self.new ≡ notched_at Stage.Live self.old }
     {
         self.stage = Stage::Live;
@@ -142,11 +142,12 @@ impl WindowDef for NotchedWindow {
     /// It keeps its size, and shows nothing else: the clause `kept`, over those of the trait.
     fn told(&mut self, change: WindowChange<'_>) -> Rect
         requires live { (notched_meaning self.old).stage ≡ Stage.Live }
-        requires fits { is_fitting (notched_meaning self.old) (size_after change (notched_meaning self.old).size) ≡ true }
+        requires fits { is_fitting (notched_meaning self.old) (size_after change (notched_meaning self.old).size)
+            ≡ true }
         ensures stays { (notched_meaning self.new).stage ≡ Stage.Live }
         ensures size { (notched_meaning self.new).size ≡ size_after change.entry (notched_meaning self.old).size }
         ensures regions { SameRegions (notched_meaning self.old) (notched_meaning self.new) }
-        ensures heard { Hears (told_change change.entry) (notched_meaning self.old) (notched_meaning self.new) }
+        ensures heard { WindowHears (told_change change.entry) (notched_meaning self.old) (notched_meaning self.new) }
         ensures damage { IsDamage result (notched_meaning self.old) (notched_meaning self.new) }
         ensures kept { self.new ≡ told_notched change.entry self.old }
     {

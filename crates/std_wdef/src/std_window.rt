@@ -1,7 +1,7 @@
 //! The definition of the standard windows.
 ghost use Rattle.std.specs.Prelude.{◌≡◌, true};
-ghost use Rattle.def_iface.specs.News.{told_change};
-ghost use Rattle.def_iface.specs.Meaning.{SameLook, SameRegions, Hears, IsDamage, is_fitting, size_after};
+ghost use Rattle.def_iface.specs.WindowNews.{told_change};
+ghost use Rattle.def_iface.specs.WindowMeaning.{SameLook, SameRegions, WindowHears, IsDamage, is_fitting, size_after};
 ghost use Rattle.std_wdef.specs.Told.{window_meaning, fresh_window, told_window, window_at};
 
 use crate::areas::{content_of, structure_box, structure_of};
@@ -56,7 +56,7 @@ impl WindowDef for StdWindow {
         requires { (window_meaning self.old).stage ≡ Stage.Fresh }
         ensures live { (window_meaning self.new).stage ≡ Stage.Live }
         ensures regions { SameRegions (window_meaning self.old) (window_meaning self.new) }
-        ensures look { Hears (λ n. n) (window_meaning self.old) (window_meaning self.new) }
+        ensures look { WindowHears (λ n. n) (window_meaning self.old) (window_meaning self.new) }
         ensures kept { self.new ≡ window_at Stage.Live self.old }
     {
         self.stage = Stage::Live;
@@ -69,7 +69,7 @@ impl WindowDef for StdWindow {
         ensures stays { (window_meaning self.new).stage ≡ Stage.Live }
         ensures size { (window_meaning self.new).size ≡ size_after change.entry (window_meaning self.old).size }
         ensures regions { SameRegions (window_meaning self.old) (window_meaning self.new) }
-        ensures heard { Hears (told_change change.entry) (window_meaning self.old) (window_meaning self.new) }
+        ensures heard { WindowHears (told_change change.entry) (window_meaning self.old) (window_meaning self.new) }
         ensures damage { IsDamage result (window_meaning self.old) (window_meaning self.new) }
         ensures kept { self.new ≡ told_window change.entry self.old }
     {

@@ -1,6 +1,6 @@
 -- Other layers of a window, which it may have.
 use Rattle.std.specs.Prelude.{◌≡◌, ◌<◌, length, Option, IfSome}
-use Rattle.def_iface.specs.declared.part.Part.{Part}
+use Rattle.desk_layers.specs.declared.part.Part.{Part}
 use Rattle.window_list.specs.Holders.{PlacedLayers, ArePartsApart}
 use Rattle.striped_layers.specs.declared.relaying.Relaying.{Relaying}
 use Rattle.vis_update.specs.Relayings.{IsGained}

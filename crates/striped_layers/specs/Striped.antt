@@ -1,8 +1,8 @@
 -- What the controls and lists of the tests show.
 use Rattle.std.specs.Prelude.{[], ◌∷◌}
 use Rattle.bit_map.specs.declared.pattern.Pattern.{Pattern}
-use Rattle.def_iface.specs.declared.part.Part.{Part}
-use Rattle.def_iface.specs.declared.part.Part.TheVariants as part
+use Rattle.desk_layers.specs.declared.part.Part.{Part}
+use Rattle.desk_layers.specs.declared.part.Part.TheVariants as part
 
 -- black columns of a control, and black rows of a list
 abbrev pub stripes_of : Part → Pattern

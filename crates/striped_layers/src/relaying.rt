@@ -8,7 +8,8 @@ ghost use Rattle.window_mgr.specs.Edits.{IsWindowAt};
 ghost use Rattle.striped_layers.specs.Relaying.{IsRelaying};
 
 use crate::stripes::Stripes;
-use def_iface::{Defined, Part, Taken};
+use def_iface::{Defined, TakenWindow};
+use desk_layers::Part;
 use scan_region::Region;
 use std::alloc::Global;
 use tb_geom::{Point, Rect, Refusal};
@@ -130,11 +131,11 @@ fn without(alloc: Global, layers: &Layers, part: Part) -> Result<Relaying, Refus
 
 /// Gives the window at this index these layers.
 fn relay(windows: &mut WindowManager, at: usize, relaying: Relaying) -> Result<(), Refusal>
-    requires kept { IsKept ⟦<Taken as Defined>⟧.loan windows.old }
+    requires kept { IsKept ⟦<TakenWindow as Defined>⟧.loan windows.old }
     requires at { at < length windows.old.windows.records.items }
     requires is { (w : _) → IsWindowAt windows.old.windows.records.items at w → IsRelaying w.layers relaying }
-    ensures { (slots : List SlotView) → IsWholeManager ⟦<Taken as Defined>⟧.loan windows.old slots
-        → IsWholeManager ⟦<Taken as Defined>⟧.loan windows.new slots }
+    ensures { (slots : List SlotView) → IsWholeManager ⟦<TakenWindow as Defined>⟧.loan windows.old slots
+        → IsWholeManager ⟦<TakenWindow as Defined>⟧.loan windows.new slots }
 {
     let Relaying { relaid, afresh } = relaying;
     if !relaid.layers.fit_at(windows.list().at(at).place) {
@@ -154,9 +155,9 @@ pub fn put(
     shown: bool,
     rect: Rect,
 ) -> Result<(), Refusal>
-    requires { IsKept ⟦<Taken as Defined>⟧.loan windows.old }
-    ensures { (slots : List SlotView) → IsWholeManager ⟦<Taken as Defined>⟧.loan windows.old slots
-        → IsWholeManager ⟦<Taken as Defined>⟧.loan windows.new slots }
+    requires { IsKept ⟦<TakenWindow as Defined>⟧.loan windows.old }
+    ensures { (slots : List SlotView) → IsWholeManager ⟦<TakenWindow as Defined>⟧.loan windows.old slots
+        → IsWholeManager ⟦<TakenWindow as Defined>⟧.loan windows.new slots }
 {
     let Some(at) = windows.find(window) else {
         return Err(Refusal::NoSuchWindow);
@@ -174,9 +175,9 @@ pub fn take_out(
     window: u64,
     part: Part,
 ) -> Result<(), Refusal>
-    requires { IsKept ⟦<Taken as Defined>⟧.loan windows.old }
-    ensures { (slots : List SlotView) → IsWholeManager ⟦<Taken as Defined>⟧.loan windows.old slots
-        → IsWholeManager ⟦<Taken as Defined>⟧.loan windows.new slots }
+    requires { IsKept ⟦<TakenWindow as Defined>⟧.loan windows.old }
+    ensures { (slots : List SlotView) → IsWholeManager ⟦<TakenWindow as Defined>⟧.loan windows.old slots
+        → IsWholeManager ⟦<TakenWindow as Defined>⟧.loan windows.new slots }
 {
     let Some(at) = windows.find(window) else {
         return Err(Refusal::NoSuchWindow);

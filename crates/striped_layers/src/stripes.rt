@@ -4,7 +4,7 @@ ghost use Rattle.bit_map.specs.Patterns.{pattern_bit};
 ghost use Rattle.striped_layers.specs.Striped.{stripes_of};
 
 use bit_map::{Mode, Pattern};
-use def_iface::Part;
+use desk_layers::Part;
 use draw_port::Canvas;
 use window_paint::Showing;
 

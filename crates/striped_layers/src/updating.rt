@@ -7,7 +7,7 @@ ghost use Rattle.window_mgr.specs.Whole.{IsWholeManager};
 ghost use Rattle.window_update.specs.WholeUpdates.{IsWholeUpdates};
 
 use crate::stripes::Stripes;
-use def_iface::{Defined, Taken};
+use def_iface::{Defined, TakenWindow};
 use desk_call::Activity;
 use std::alloc::Global;
 use tb_geom::Refusal;
@@ -16,8 +16,8 @@ use window_update::{UpdateCall, Updates};
 
 /// What is kept for updates of these windows, with none open.
 pub fn updates_for(alloc: Global, windows: &WindowManager) -> Result<Updates, Refusal>
-    requires { IsKept ⟦<Taken as Defined>⟧.loan windows.now }
-    ensures { IfOk result (IsWholeUpdates ⟦<Taken as Defined>⟧.loan Idle windows.now) }
+    requires { IsKept ⟦<TakenWindow as Defined>⟧.loan windows.now }
+    ensures { IfOk result (IsWholeUpdates ⟦<TakenWindow as Defined>⟧.loan Idle windows.now) }
 {
     let sides = windows.screen().bounds();
     Ok(Updates::new(alloc, sides.right, sides.bottom)?)
@@ -30,11 +30,11 @@ pub fn update(
     activity: &mut Activity,
     call: &UpdateCall<'_>,
 ) -> Result<(), Refusal>
-    requires kept { IsKept ⟦<Taken as Defined>⟧.loan windows.old }
-    requires whole { IsWholeUpdates ⟦<Taken as Defined>⟧.loan activity.old windows.old updates.old }
-    ensures updates { IsWholeUpdates ⟦<Taken as Defined>⟧.loan activity.new windows.new updates.new }
-    ensures windows { (slots : List SlotView) → IsWholeManager ⟦<Taken as Defined>⟧.loan windows.old slots
-        → IsWholeManager ⟦<Taken as Defined>⟧.loan windows.new slots }
+    requires kept { IsKept ⟦<TakenWindow as Defined>⟧.loan windows.old }
+    requires whole { IsWholeUpdates ⟦<TakenWindow as Defined>⟧.loan activity.old windows.old updates.old }
+    ensures updates { IsWholeUpdates ⟦<TakenWindow as Defined>⟧.loan activity.new windows.new updates.new }
+    ensures windows { (slots : List SlotView) → IsWholeManager ⟦<TakenWindow as Defined>⟧.loan windows.old slots
+        → IsWholeManager ⟦<TakenWindow as Defined>⟧.loan windows.new slots }
 {
     activity.admit(call.standing())?;
     let _done = updates.perform(windows, activity, call, &Stripes)?;
@@ -47,9 +47,9 @@ pub fn update_at_once(
     windows: &mut WindowManager,
     call: &UpdateCall<'_>,
 ) -> Result<(), Refusal>
-    requires { IsKept ⟦<Taken as Defined>⟧.loan windows.old }
-    ensures { (slots : List SlotView) → IsWholeManager ⟦<Taken as Defined>⟧.loan windows.old slots
-        → IsWholeManager ⟦<Taken as Defined>⟧.loan windows.new slots }
+    requires { IsKept ⟦<TakenWindow as Defined>⟧.loan windows.old }
+    ensures { (slots : List SlotView) → IsWholeManager ⟦<TakenWindow as Defined>⟧.loan windows.old slots
+        → IsWholeManager ⟦<TakenWindow as Defined>⟧.loan windows.new slots }
 {
     let mut updates = updates_for(alloc, windows)?;
     let mut activity = Activity::Idle;

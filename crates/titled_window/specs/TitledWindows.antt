@@ -10,7 +10,7 @@ use Rattle.def_iface.specs.declared.window_def.Hit.TheVariants.{InContent, InDra
 use Rattle.def_iface.specs.declared.window_def.Stage.{Stage}
 use Rattle.def_iface.specs.Sizes.{rect_of}
 use Rattle.def_iface.specs.Lines.{frame_lines}
-use Rattle.def_iface.specs.Meaning.{Definition}
+use Rattle.def_iface.specs.WindowMeaning.{WindowDefinition}
 
 -- the sides of the structure
 abbrev pub titled_box : Size → Rect
@@ -21,7 +21,7 @@ abbrev pub titled_hit : Size → Point → Hit
 titled_hit s p = if rect_holds (rect_of s) p then InContent else InDrag
 
 -- A titled window's definition as a value. Its picture is black wherever the content is not, in every font.
-abbrev pub titled_window : Stage → Size → Definition
+abbrev pub titled_window : Stage → Size → WindowDefinition
 titled_window stage size = record {
   stage = stage;
   size = size;

@@ -11,7 +11,7 @@ use Rattle.tb_geom.proofs.RectLemmas.{sides_of}
 use Rattle.scan_region.specs.Moves.{StaysInRange, LeavesRange, is_pixel_in_range}
 use Rattle.def_iface.specs.declared.size.Size.{Size}
 use Rattle.def_iface.specs.Sizes.{is_size}
-use Rattle.def_iface.specs.Meaning.{Definition, is_fitting}
+use Rattle.def_iface.specs.WindowMeaning.{WindowDefinition, is_fitting}
 use Rattle.vis_update.specs.Places.{is_placed}
 use Rattle.vis_update.specs.Areas.{is_near, IsNear}
 
@@ -32,13 +32,13 @@ stays_with_box s box d within fits = λ p e.
     λ i. one_side box.left box.right d.h p.h l.0 r.0 sides.left sides.right i && one_side box.top box.bottom d.v p.v t.0 r.1 sides.top sides.bottom i
 
 -- what it says that a window with this definition may be somewhere
-pub record IsPlaced (d : Definition) (place : Point) (size : Size) : Type 0 where
+pub record IsPlaced (d : WindowDefinition) (place : Point) (size : Size) : Type 0 where
   pub place_in : in_plane place ≡ true
   pub size_in : is_size size ≡ true
   pub fits : is_fitting d size ≡ true
   pub moved : is_in_range (moved_rect (d.bounds size) place.h place.v) ≡ true
 
-pub placed_parts : (d : Definition) (place : Point) (size : Size) → is_placed (Some d) place size ≡ true → IsPlaced d place size
+pub placed_parts : (d : WindowDefinition) (place : Point) (size : Size) → is_placed (Some d) place size ≡ true → IsPlaced d place size
 unfolding is_placed
 placed_parts d place size e =
     let a = and_parts (in_plane place) _ e in
@@ -47,7 +47,7 @@ placed_parts d place size e =
     record { place_in = a.0; size_in = b.0; fits = λ i. b.0 i && c.0 i; moved = c.1 }
 
 -- and what is enough for it
-pub placed_from : (d : Definition) (place : Point) (size : Size) → in_plane place ≡ true → is_fitting d size ≡ true → is_in_range (moved_rect (d.bounds size) place.h place.v) ≡ true → is_placed (Some d) place size ≡ true
+pub placed_from : (d : WindowDefinition) (place : Point) (size : Size) → in_plane place ≡ true → is_fitting d size ≡ true → is_in_range (moved_rect (d.bounds size) place.h place.v) ≡ true → is_placed (Some d) place size ≡ true
 unfolding is_placed
 placed_from d place size here fits inside =
     let parts = and_parts (is_size size) _ fits in

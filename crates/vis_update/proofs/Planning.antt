@@ -9,13 +9,13 @@ use Rattle.std.proofs.lemmas.List.Elements.{All-head, All-tail}
 use Rattle.tb_geom.specs.declared.point.Point.{Point}
 use Rattle.tb_geom.specs.Points.{PixelSet, minus}
 use Rattle.tb_geom.specs.Pixels.{Pixels, holds}
-use Rattle.def_iface.specs.declared.taken.Taken.{Taken}
-use Rattle.def_iface.specs.Meaning.{Loan}
-use Rattle.def_iface.specs.Desk as layers
-use Rattle.def_iface.specs.Desk.{LayeredDesk}
-use Rattle.def_iface.specs.Owner.{Owner, owner, owner_among, same_owner, is_content}
-use Rattle.def_iface.specs.Owner.Owner.{Desktop, Bar, Frame, Content}
-use Rattle.def_iface.specs.Change.{State, had}
+use Rattle.def_iface.specs.Slots.{TakenBox}
+use Rattle.def_iface.specs.WindowMeaning.{WindowLoan}
+use Rattle.desk_layers.specs.Desk as layers
+use Rattle.desk_layers.specs.Desk.{LayeredDesk}
+use Rattle.desk_layers.specs.Owner.{Owner, owner, owner_among, same_owner, is_content}
+use Rattle.desk_layers.specs.Owner.Owner.{Desktop, Bar, Frame, Content}
+use Rattle.desk_layers.specs.Change.{State, had}
 use Rattle.vis_update.specs.declared.area.Area.{Area}
 use Rattle.vis_update.specs.declared.plan.Repaint.{Repaint}
 use Rattle.vis_update.specs.declared.plan.Seat.{Seat}
@@ -32,7 +32,7 @@ use Rattle.vis_update.proofs.Sweeping.{AreSwept}
 use Rattle.vis_update.proofs.Takings.{Reaches, Taking, taking, taken_is, around_is, reaches_behind}
 use Rattle.vis_update.proofs.Sources.{kept_or_stale, stale_is, erase_is, copied_is}
 
-module _ {V : Type 0} {H : V → Type 0} (loan : Taken V H → Loan) (t : Touch) (look : Look) (before : State) (after : LayeredDesk) (changed : Pixels) (changes : IsChangedArea before.desk after changed) where
+module _ {V : Type 0} {H : V → Type 0} (loan : TakenBox V H → WindowLoan) (t : Touch) (look : Look) (before : State) (after : LayeredDesk) (changed : Pixels) (changes : IsChangedArea before.desk after changed) where
   -- outside the changed area nothing gets another owner
   same_outside : (is_its : Owner → Bool) (p : Point) → holds changed p ≡ false → (layers.on_screen before.desk p && is_its (owner before.desk p)) ≡ (layers.on_screen after p && is_its (owner after p))
   same_outside is_its p e = by_screen (layers.on_screen after p) refl

@@ -7,13 +7,13 @@ use Rattle.tb_geom.specs.declared.point.Point.{Point}
 use Rattle.tb_geom.specs.Points.{PixelSet, minus}
 use Rattle.tb_geom.specs.Pixels.{Pixels, holds}
 use Rattle.tb_geom.specs.Rects.{between}
-use Rattle.def_iface.specs.declared.part.Part.{Part}
-use Rattle.def_iface.specs.Desk as layers
-use Rattle.def_iface.specs.Desk.{LayeredDesk, on_screen, in_bar, same_part}
-use Rattle.def_iface.specs.Owner.{Owner, owner, owner_among, same_owner, is_content}
-use Rattle.def_iface.specs.Owner.Owner.{Desktop, Bar, Frame, Content}
-use Rattle.def_iface.specs.Change.{State}
-use Rattle.def_iface.proofs.Owning.{same_number, same_owner-true}
+use Rattle.desk_layers.specs.declared.part.Part.{Part}
+use Rattle.desk_layers.specs.Desk as layers
+use Rattle.desk_layers.specs.Desk.{LayeredDesk, on_screen, in_bar, same_part}
+use Rattle.desk_layers.specs.Owner.{Owner, owner, owner_among, same_owner, is_content}
+use Rattle.desk_layers.specs.Owner.Owner.{Desktop, Bar, Frame, Content}
+use Rattle.desk_layers.specs.Change.{State}
+use Rattle.desk_layers.proofs.Owning.{same_number, same_owner-true}
 use Rattle.window_list.specs.declared.layer.Layer.{Layer}
 use Rattle.window_list.specs.declared.layer.LayerShape.{LayerShape}
 use Rattle.window_list.specs.Holders.{layer_has, part_at, belongs_to, ArePartsApart}

@@ -4,12 +4,12 @@ use Rattle.std.proofs.lemmas.Bool.{false≢true, and_parts}
 use Rattle.tb_geom.specs.declared.point.Point.{Point}
 use Rattle.tb_geom.specs.Points.{minus}
 use Rattle.tb_geom.specs.Pixels.{Pixels, holds}
-use Rattle.def_iface.specs.declared.part.Part.TheVariants.{Picture}
-use Rattle.def_iface.specs.Desk.{LayeredDesk, on_screen, same_part}
-use Rattle.def_iface.specs.Owner.{Owner, owner, same_owner, is_content}
-use Rattle.def_iface.specs.Owner.Owner.{Desktop, Bar, Frame, Content}
-use Rattle.def_iface.specs.Change.{State, had, stale_by}
-use Rattle.def_iface.proofs.Owning.{same_owner-true, same_owner-self}
+use Rattle.desk_layers.specs.declared.part.Part.TheVariants.{Picture}
+use Rattle.desk_layers.specs.Desk.{LayeredDesk, on_screen, same_part}
+use Rattle.desk_layers.specs.Owner.{Owner, owner, same_owner, is_content}
+use Rattle.desk_layers.specs.Owner.Owner.{Desktop, Bar, Frame, Content}
+use Rattle.desk_layers.specs.Change.{State, had, stale_by}
+use Rattle.desk_layers.proofs.Owning.{same_owner-true, same_owner-self}
 use Rattle.vis_update.specs.declared.area.Area.{Area}
 use Rattle.vis_update.specs.Areas.{IsArea, is_content_of}
 use Rattle.vis_update.specs.Contents.{scroll_change, IsCovered, IsScrollPlan}

@@ -7,9 +7,9 @@ use Rattle.tb_geom.specs.declared.point.Point.{Point}
 use Rattle.tb_geom.specs.Points.{PixelSet, minus}
 use Rattle.tb_geom.specs.Pixels.{Pixels, holds}
 use Rattle.tb_geom.proofs.RectLemmas.{or_left, or_right}
-use Rattle.def_iface.specs.declared.taken.Taken.{Taken}
+use Rattle.def_iface.specs.Slots.{TakenBox}
 use Rattle.def_iface.specs.declared.window_def.WindowRegions.{WindowRegions}
-use Rattle.def_iface.specs.Meaning.{Loan}
+use Rattle.def_iface.specs.WindowMeaning.{WindowLoan}
 use Rattle.vis_update.specs.declared.area.Area.{Area}
 use Rattle.vis_update.specs.declared.plan.Repaint.{Repaint}
 use Rattle.vis_update.specs.declared.plan.Seat.{Seat}
@@ -23,7 +23,7 @@ use Rattle.vis_update.specs.Touches.{way_of, came_from, draws_whole}
 pub stays_where : (t : Touch) (s : ℕ) → (s == t.window) ≡ false → way_of t s ≡ None
 stays_where t s other = λ i. if other i then t.by else None
 
-module _ {V : Type 0} {H : V → Type 0} (loan : Taken V H → Loan) where
+module _ {V : Type 0} {H : V → Type 0} (loan : TakenBox V H → WindowLoan) where
   -- what a window takes of its regions
   pub share_of : (rest : Pixels) (s : Seat V H) (r : WindowRegions) (taken around both left : Pixels) → s.shown ≡ true → IsRegionsAt s.place s.size (loan s.taken.now).definition r
       → ((p : Point) → holds taken p ≡ (holds r.content p && holds rest p))
@@ -77,7 +77,7 @@ module _ {V : Type 0} {H : V → Type 0} (loan : Taken V H → Loan) where
     within = beside.within;
   }
 
-module _ {V : Type 0} {H : V → Type 0} (loan : Taken V H → Loan) (t : Touch) where
+module _ {V : Type 0} {H : V → Type 0} (loan : TakenBox V H → WindowLoan) (t : Touch) where
   -- what one window has and leaves
   pub swept_by : (changed rest : Pixels) (s : Seat V H) (taken around visible had old erase update frame redraw left : Pixels) (by : Option Point) (whole : Bool) → IsShare loan (holds rest) s taken around (holds left)
       → by ≡ way_of t s.serial → whole ≡ draws_whole t s.serial

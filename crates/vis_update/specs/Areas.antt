@@ -5,9 +5,9 @@ use Rattle.tb_geom.specs.declared.point.Point.{Point}
 use Rattle.tb_geom.specs.Points.{PixelSet}
 use Rattle.tb_geom.specs.Pixels.{Pixels, holds}
 use Rattle.tb_geom.specs.Rects.{between}
-use Rattle.def_iface.specs.Desk.{LayeredDesk, on_screen, in_bar}
-use Rattle.def_iface.specs.Owner.{Owner, owner, same_owner}
-use Rattle.def_iface.specs.Owner.Owner.{Desktop, Frame, Content}
+use Rattle.desk_layers.specs.Desk.{LayeredDesk, on_screen, in_bar}
+use Rattle.desk_layers.specs.Owner.{Owner, owner, same_owner}
+use Rattle.desk_layers.specs.Owner.Owner.{Desktop, Frame, Content}
 use Rattle.vis_update.specs.declared.area.Area.{Area}
 use Rattle.vis_update.specs.Records.{WindowRecord}
 

@@ -3,12 +3,12 @@ use Rattle.std.specs.Prelude.{◌≡◌, ℕ, true, false, not, ◌==◌, ◌&&�
 use Rattle.tb_geom.specs.declared.point.Point.{Point}
 use Rattle.tb_geom.specs.Points.{PixelSet, minus}
 use Rattle.tb_geom.specs.Pixels.{Pixels, holds}
-use Rattle.def_iface.specs.declared.taken.Taken.{Taken}
-use Rattle.def_iface.specs.Meaning.{Loan, IsWithin}
-use Rattle.def_iface.specs.Desk.{LayeredDesk, on_screen}
-use Rattle.def_iface.specs.Owner.{owner, same_owner}
-use Rattle.def_iface.specs.Owner.Owner.{Frame}
-use Rattle.def_iface.specs.Change.{Change, State, had, stale_by}
+use Rattle.def_iface.specs.Slots.{TakenBox}
+use Rattle.def_iface.specs.WindowMeaning.{WindowLoan, IsWithin}
+use Rattle.desk_layers.specs.Desk.{LayeredDesk, on_screen}
+use Rattle.desk_layers.specs.Owner.{owner, same_owner}
+use Rattle.desk_layers.specs.Owner.Owner.{Frame}
+use Rattle.desk_layers.specs.Change.{Change, State, had, stale_by}
 use Rattle.vis_update.specs.declared.area.Area.{Area}
 use Rattle.vis_update.specs.declared.plan.Repaint.{Repaint}
 use Rattle.vis_update.specs.declared.plan.Plan.{Plan}
@@ -83,7 +83,7 @@ module _ {V : Type 0} {H : V → Type 0} where
   IsLosing t changed lost s = (s.serial == t.window) ≡ false → (p : Point) → (holds s.area.now.visible p || holds s.area.now.frame p) ≡ true → changed p ≡ true → lost p ≡ true
 
 -- `loan` says what a definition that was taken means
-module _ {V : Type 0} {H : V → Type 0} (loan : Taken V H → Loan) where
+module _ {V : Type 0} {H : V → Type 0} (loan : TakenBox V H → WindowLoan) where
   -- what a window takes of the rest, for its content and around that, and what it leaves
   pub record IsShare (rest : PixelSet) (s : Seat V H) (inner outer : Pixels) (left : PixelSet) : Type 0 where
     pub taken : (p : Point) → holds inner p ≡ ((seat_stand loan s).content (minus p s.place) && (s.shown && rest p))

@@ -5,12 +5,12 @@ use Rattle.tb_geom.specs.Points.{PixelSet, minus}
 use Rattle.draw_port.specs.declared.shapes.Op.{Op}
 use Rattle.draw_port.specs.Ops.{picture_bit}
 use Rattle.def_iface.specs.declared.size.Size.{Size}
-use Rattle.def_iface.specs.declared.taken.Taken.{Taken}
-use Rattle.def_iface.specs.Meaning.{Definition, Loan}
-use Rattle.def_iface.specs.News.{AllNews, no_news}
-use Rattle.def_iface.specs.Desk as layers
-use Rattle.def_iface.specs.declared.part.Part.{Part}
-use Rattle.def_iface.specs.declared.part.Part.TheVariants.{Picture}
+use Rattle.def_iface.specs.Slots.{TakenBox}
+use Rattle.def_iface.specs.WindowMeaning.{WindowDefinition, WindowLoan}
+use Rattle.def_iface.specs.WindowNews.{AllWindowNews, no_news}
+use Rattle.desk_layers.specs.Desk as layers
+use Rattle.desk_layers.specs.declared.part.Part.{Part}
+use Rattle.desk_layers.specs.declared.part.Part.TheVariants.{Picture}
 use Rattle.window_list.specs.declared.layer.Layer.{Layer}
 use Rattle.window_list.specs.Holders.{layer_has}
 use Rattle.window_list.specs.declared.window.Heard.{Heard}
@@ -38,7 +38,7 @@ pub record WindowRecord : Type 0 where
   pub origin : Point
   -- its controls and lists, from front to back, in its own coordinates
   pub layers : List Layer
-  pub definition : Definition
+  pub definition : WindowDefinition
   -- the slot of the stock that the definition came from
   pub slot : ℕ
 
@@ -46,7 +46,7 @@ abbrev pub is_floating : WindowRecord → Bool
 is_floating w = w.floating
 
 -- all that the window's definition was told last
-abbrev pub news_of : WindowRecord → AllNews
+abbrev pub news_of : WindowRecord → AllWindowNews
 news_of w = record {
   size = w.size;
   title = w.title;
@@ -89,7 +89,7 @@ layered_window look w = record {
 }
 
 -- `loan` says what a definition that was taken means
-module _ {V : Type 0} {H : V → Type 0} (loan : Taken V H → Loan) where
+module _ {V : Type 0} {H : V → Type 0} (loan : TakenBox V H → WindowLoan) where
   abbrev pub record_of : Window V H → WindowRecord
   record_of w = record {
     serial = w.serial;

@@ -3,11 +3,11 @@ use Rattle.std.specs.Prelude.{◌≡◌, ℕ, Bool, true, false, not, ◌&&◌, 
 use Rattle.tb_geom.specs.declared.point.Point.{Point}
 use Rattle.tb_geom.specs.Points.{PixelSet}
 use Rattle.tb_geom.specs.Pixels.{Pixels, holds}
-use Rattle.def_iface.specs.declared.taken.Taken.{Taken}
-use Rattle.def_iface.specs.Meaning.{Loan}
-use Rattle.def_iface.specs.Desk.{LayeredDesk, IsDesk, on_screen, in_bar}
-use Rattle.def_iface.specs.Owner.{owner}
-use Rattle.def_iface.specs.Change.{State}
+use Rattle.def_iface.specs.Slots.{TakenBox}
+use Rattle.def_iface.specs.WindowMeaning.{WindowLoan}
+use Rattle.desk_layers.specs.Desk.{LayeredDesk, IsDesk, on_screen, in_bar}
+use Rattle.desk_layers.specs.Owner.{owner}
+use Rattle.desk_layers.specs.Change.{State}
 use Rattle.window_list.specs.declared.window.Window.{Window}
 use Rattle.vis_update.specs.declared.area.Area.{Area}
 use Rattle.vis_update.specs.declared.plan.Seat.{Seat}
@@ -58,7 +58,7 @@ module _ {V : Type 0} {H : V → Type 0} where
     pub area : s.area.now ≡ a
 
 -- `loan` says what a definition that was taken means
-module _ {V : Type 0} {H : V → Type 0} (loan : Taken V H → Loan) where
+module _ {V : Type 0} {H : V → Type 0} (loan : TakenBox V H → WindowLoan) where
   abbrev pub seat_stand : Seat V H → Stand
   seat_stand s = record {
     serial = s.serial;

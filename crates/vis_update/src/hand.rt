@@ -5,7 +5,7 @@ ghost use Rattle.vis_update.specs.Hands.{IsChangedWith, IsLostOf, covers};
 
 use crate::place::regions_of;
 use crate::{Area, Seat};
-use def_iface::{Defined, Taken, WindowRegions};
+use def_iface::{Defined, TakenWindow, WindowRegions};
 use scan_region::Region;
 use std::alloc::{AllocError, Global};
 
@@ -25,8 +25,8 @@ pub fn lost_of(alloc: Global, changed: &Region, old: &Area) -> Result<Region, Al
 
 /// What of the gray region a window had, and what it covers where it is to be, as its seat says.
 pub fn changed_with(alloc: Global, gray: &Region, seat: &Seat<'_>) -> Result<Region, AllocError>
-    requires { IsPlacedSeat ⟦<Taken as Defined>⟧.loan seat.now }
-    ensures { IfOk result (IsChangedWith seat.now.area.now (covers ⟦<Taken as Defined>⟧.loan seat.now) gray.now) }
+    requires { IsPlacedSeat ⟦<TakenWindow as Defined>⟧.loan seat.now }
+    ensures { IfOk result (IsChangedWith seat.now.area.now (covers ⟦<TakenWindow as Defined>⟧.loan seat.now) gray.now) }
 {
     if !seat.shown {
         return changed_without(alloc, gray, seat.area);

@@ -1,10 +1,10 @@
 //! Where a window may be.
 ghost use Rattle.std.specs.Prelude.{◌≡◌, ◌&&◌, true, Some, None, IfOk};
 ghost use Rattle.tb_geom.specs.Rects.{is_in_range, moved_rect, rect_holds};
-ghost use Rattle.def_iface.specs.Meaning.{IsWithin};
+ghost use Rattle.def_iface.specs.WindowMeaning.{IsWithin};
 ghost use Rattle.vis_update.specs.Places.{IsRegionsAt, is_placed};
 
-use def_iface::{Defined, Size, Taken, WindowRegions};
+use def_iface::{Defined, Size, TakenWindow, WindowRegions};
 use std::alloc::{AllocError, Global};
 use tb_geom::{Point, Rect};
 use window_list::move_by;
@@ -20,10 +20,10 @@ fn stays_in_range(judged: Rect, place: Point) -> bool
 /// Whether a window of this size and with this definition may be at the place. Its content then lies in the box of its
 /// structure.
 #[tactic(auto, unfolding(crate::specs::Places::is_placed))]
-pub fn is_placed_with(place: Point, size: Size, taken: &Taken) -> bool
-    ensures placed { result ≡ is_placed (Some (⟦<Taken as Defined>⟧.loan taken.now).definition) place size }
-    ensures within { result ≡ true → IsWithin ((⟦<Taken as Defined>⟧.loan taken.now).definition.content size)
-        (rect_holds ((⟦<Taken as Defined>⟧.loan taken.now).definition.bounds size)) }
+pub fn is_placed_with(place: Point, size: Size, taken: &TakenWindow) -> bool
+    ensures placed { result ≡ is_placed (Some (⟦<TakenWindow as Defined>⟧.loan taken.now).definition) place size }
+    ensures within { result ≡ true → IsWithin ((⟦<TakenWindow as Defined>⟧.loan taken.now).definition.content size)
+        (rect_holds ((⟦<TakenWindow as Defined>⟧.loan taken.now).definition.bounds size)) }
 {
     place.is_in_range() && (size.is_in_range() && stays_in_range(taken.bounds(size), place))
 }
@@ -41,10 +41,10 @@ pub fn regions_of(
     alloc: Global,
     place: Point,
     size: Size,
-    taken: &Taken,
+    taken: &TakenWindow,
 ) -> Result<WindowRegions, AllocError>
-    requires { is_placed (Some (⟦<Taken as Defined>⟧.loan taken.now).definition) place size ≡ true }
-    ensures { IfOk result (IsRegionsAt place size (⟦<Taken as Defined>⟧.loan taken.now).definition) }
+    requires { is_placed (Some (⟦<TakenWindow as Defined>⟧.loan taken.now).definition) place size ≡ true }
+    ensures { IfOk result (IsRegionsAt place size (⟦<TakenWindow as Defined>⟧.loan taken.now).definition) }
 {
     let mut regions = taken.regions_for(alloc, size)?;
     move_by(&mut regions.structure, place);

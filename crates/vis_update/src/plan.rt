@@ -5,7 +5,7 @@ ghost use Rattle.vis_update.specs.Seats.{IsSeatOf};
 ghost use Rattle.vis_update.specs.Plans.{IsEmptyPart, areas_then};
 
 use crate::Area;
-use def_iface::{Size, Taken};
+use def_iface::{Size, TakenWindow};
 use scan_region::Region;
 use std::alloc::Global;
 use tb_geom::Point;
@@ -98,7 +98,7 @@ pub struct Seat<'a> {
     pub shown: bool,
     /// Whether it floats in front of those that do not.
     pub floating: bool,
-    pub taken: &'a Taken,
+    pub taken: &'a TakenWindow,
     pub area: &'a Area,
 }
 

@@ -5,9 +5,9 @@
 ghost use Rattle.std.specs.Prelude.{◌≡◌, ℕ, ◌&&◌, List, Option, IfOk};
 ghost use Rattle.tb_geom.specs.declared.point.Point.{Point};
 ghost use Rattle.tb_geom.specs.Pixels.{holds};
-ghost use Rattle.def_iface.specs.declared.part.Part.{Part};
-ghost use Rattle.def_iface.specs.Desk.{LayeredDesk};
-ghost use Rattle.def_iface.specs.Change.{State};
+ghost use Rattle.desk_layers.specs.declared.part.Part.{Part};
+ghost use Rattle.desk_layers.specs.Desk.{LayeredDesk};
+ghost use Rattle.desk_layers.specs.Change.{State};
 ghost use Rattle.window_list.specs.declared.layer.Layer.{Layer};
 ghost use Rattle.vis_update.specs.Relayings.{IsRelayered, IsRelaid, IsDrawn, IsGained, AreOfContent, region_has};
 

@@ -4,7 +4,7 @@
 //! came from the picture keeps its value, and is stale where it was; all others of it become white and stale. The
 //! layers in front stay as they are.
 ghost use Rattle.std.specs.Prelude.{ℕ, IfOk};
-ghost use Rattle.def_iface.specs.Change.{State};
+ghost use Rattle.desk_layers.specs.Change.{State};
 ghost use Rattle.vis_update.specs.Areas.{IsArea, IsNear};
 ghost use Rattle.vis_update.specs.Contents.{IsCovered, IsScrollPlan};
 

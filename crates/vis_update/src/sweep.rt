@@ -10,9 +10,9 @@ ghost use Rattle.tb_geom.specs.declared.point.Point.{Point};
 ghost use Rattle.tb_geom.specs.Points.{minus};
 ghost use Rattle.tb_geom.specs.Rects.{rect_holds};
 ghost use Rattle.tb_geom.specs.Pixels.{holds};
-ghost use Rattle.def_iface.specs.Desk.{LayeredDesk};
-ghost use Rattle.def_iface.specs.Meaning.{IsWithin};
-ghost use Rattle.def_iface.specs.Change.{State};
+ghost use Rattle.desk_layers.specs.Desk.{LayeredDesk};
+ghost use Rattle.def_iface.specs.WindowMeaning.{IsWithin};
+ghost use Rattle.desk_layers.specs.Change.{State};
 ghost use Rattle.vis_update.specs.Records.{WindowRecord, Look};
 ghost use Rattle.vis_update.specs.Areas.{IsNear, IsDesktop};
 ghost use Rattle.vis_update.specs.Touches.{came_from, way_of, KeepsLayers};
@@ -21,7 +21,7 @@ ghost use Rattle.vis_update.specs.Plans.{IsSwept, IsPlan, IsShare, IsBeside, IsL
 
 use crate::place::regions_of;
 use crate::{Area, Plan, Repaint, Seat, Touch};
-use def_iface::{Defined, Taken, WindowRegions};
+use def_iface::{Defined, TakenWindow, WindowRegions};
 use scan_region::Region;
 use std::alloc::{AllocError, Global};
 use tb_geom::{Point, Rect};
@@ -54,12 +54,13 @@ pub fn plan_of(
     seats: &[Seat<'_>],
     touch: Touch,
 ) -> Result<Plan, AllocError>
-    requires placed { All (IsPlacedSeat ⟦<Taken as Defined>⟧.loan) seats.now }
+    requires placed { All (IsPlacedSeat ⟦<TakenWindow as Defined>⟧.loan) seats.now }
     requires near { All IsNearSeat seats.now }
     requires near_changed { IsNear changed.now }
     requires losing { All (IsLosing touch (holds changed.now) (holds lost.now)) seats.now }
-    ensures plan { IfOk result (λ plan. (look : Look) (before : State) (after : LayeredDesk) (windows : List WindowRecord)
-        → IsArranged ⟦<Taken as Defined>⟧.loan look before after windows changed.now seats.now
+    ensures plan { IfOk result (λ plan. (look : Look) (before : State) (after : LayeredDesk)
+        (windows : List WindowRecord)
+        → IsArranged ⟦<TakenWindow as Defined>⟧.loan look before after windows changed.now seats.now
         → IsDesktop before.desk desktop.now
         → KeepsLayers touch before.desk after
         → IsPlan touch before after desktop.now (map area_had seats.now) windows plan) }
@@ -95,7 +96,8 @@ fn with_copied(
     part: &Repaint,
     by: Option<Point>,
 ) -> Result<Region, AllocError>
-    ensures { IfOk result (λ region. (p : Point) → holds region p ≡ (holds copied p || arrives by area.now part.now p)) }
+    ensures { IfOk result
+        (λ region. (p : Point) → holds region p ≡ (holds copied p || arrives by area.now part.now p)) }
 {
     match (by, area) {
         (Some(_), Some(area)) => copied.joined(alloc, area.visible.diff(alloc, &part.erase)?),
@@ -173,11 +175,12 @@ fn kept_and(
 impl Seat<'_> {
     /// The box of the window's structure on the screen.
     fn boxed(&self) -> Rect
-        requires placed { IsPlacedSeat ⟦<Taken as Defined>⟧.loan self.now }
-        ensures holds { (p : Point) → (seat_stand ⟦<Taken as Defined>⟧.loan self.now).structure (minus p self.now.place) ≡ true
+        requires placed { IsPlacedSeat ⟦<TakenWindow as Defined>⟧.loan self.now }
+        ensures holds { (p : Point) → (seat_stand ⟦<TakenWindow as Defined>⟧.loan self.now).structure
+            (minus p self.now.place) ≡ true
             → rect_holds result p ≡ true }
-        ensures within { IsWithin (seat_stand ⟦<Taken as Defined>⟧.loan self.now).content
-            (seat_stand ⟦<Taken as Defined>⟧.loan self.now).structure }
+        ensures within { IsWithin (seat_stand ⟦<TakenWindow as Defined>⟧.loan self.now).content
+            (seat_stand ⟦<TakenWindow as Defined>⟧.loan self.now).structure }
     {
         let judged = self.taken.bounds(self.size);
         judged.offset(self.place.h, self.place.v).unwrap()
@@ -185,8 +188,8 @@ impl Seat<'_> {
 
     /// Whether the window is hidden, or beside the rest of the changed area.
     fn is_beside(&self, rest: &Region) -> bool
-        requires placed { IsPlacedSeat ⟦<Taken as Defined>⟧.loan self.now }
-        ensures beside { result ≡ true → IsBeside ⟦<Taken as Defined>⟧.loan (holds rest.now) self.now }
+        requires placed { IsPlacedSeat ⟦<TakenWindow as Defined>⟧.loan self.now }
+        ensures beside { result ≡ true → IsBeside ⟦<TakenWindow as Defined>⟧.loan (holds rest.now) self.now }
         ensures shown { result ≡ false → self.now.shown ≡ true }
     {
         !self.shown || !rest.meets_rect(self.boxed())
@@ -194,8 +197,9 @@ impl Seat<'_> {
 
     /// Whether nothing changes of the window.
     fn stays(&self, lost: &Region, rest: &Region, touch: Touch) -> bool
-        requires placed { IsPlacedSeat ⟦<Taken as Defined>⟧.loan self.now }
-        ensures { result ≡ true → IsLeftAlone ⟦<Taken as Defined>⟧.loan touch (holds lost.now) (holds rest.now) self.now }
+        requires placed { IsPlacedSeat ⟦<TakenWindow as Defined>⟧.loan self.now }
+        ensures { result ≡ true → IsLeftAlone ⟦<TakenWindow as Defined>⟧.loan touch (holds lost.now) (holds rest.now)
+            self.now }
     {
         if self.serial == touch.window {
             return false;
@@ -208,8 +212,9 @@ impl Seat<'_> {
 
     /// What the window takes of the rest of the changed area, and what it leaves.
     fn take(&self, alloc: Global, rest: Region) -> Result<Share, AllocError>
-        requires placed { IsPlacedSeat ⟦<Taken as Defined>⟧.loan self.now }
-        ensures { IfOk result (λ s. IsShare ⟦<Taken as Defined>⟧.loan (holds rest) self.now s.taken s.around (holds s.left)) }
+        requires placed { IsPlacedSeat ⟦<TakenWindow as Defined>⟧.loan self.now }
+        ensures { IfOk result (λ s. IsShare ⟦<TakenWindow as Defined>⟧.loan (holds rest) self.now s.taken s.around
+            (holds s.left)) }
     {
         if self.is_beside(&rest) {
             return Ok(Share {
@@ -240,11 +245,12 @@ impl Seat<'_> {
         rest: Region,
         touch: Touch,
     ) -> Result<Swept, AllocError>
-        requires placed { IsPlacedSeat ⟦<Taken as Defined>⟧.loan self.now }
+        requires placed { IsPlacedSeat ⟦<TakenWindow as Defined>⟧.loan self.now }
         requires near { IsNearSeat self.now }
         requires near_rest { IsNear rest }
         requires losing { IsLosing touch (holds changed.now) (holds lost.now) self.now }
-        ensures swept { IfOk result (λ s. IsSwept ⟦<Taken as Defined>⟧.loan touch (holds changed.now) (holds rest) self.now
+        ensures swept { IfOk result (λ s. IsSwept ⟦<TakenWindow as Defined>⟧.loan touch (holds changed.now) (holds rest)
+            self.now
             (area_then self.now.area.now s.area) s.part (holds s.left)) }
         ensures still { IfOk result (λ s. s.area ≡ None → way_of touch self.now.serial ≡ None) }
     {

@@ -1,6 +1,6 @@
 //! What windows look like.
 ghost use Rattle.std.specs.Prelude.{◌≡◌, true};
-ghost use Rattle.def_iface.specs.Meaning.{is_fitting};
+ghost use Rattle.def_iface.specs.WindowMeaning.{is_fitting};
 
 use crate::place::{ORIGIN, place_of};
 use bit_map::BitMap;

@@ -1,7 +1,7 @@
 -- What of a desk definitions that are told leave as it is: all but its windows.
 use Rattle.std.proofs.Common.{◌≡◌, ℕ, Bool, List, Result, refl, ap, ◌∙◌}
 use Rattle.tb_geom.specs.declared.refusal.Refusal.{Refusal}
-use Rattle.def_iface.specs.News.{News, told_title, told_highlighted, told_tracked}
+use Rattle.def_iface.specs.WindowNews.{WindowNews, told_title, told_highlighted, told_tracked}
 use Rattle.desk_call.specs.declared.activity.Standing.{Standing}
 use Rattle.desk_call.specs.declared.frame.FrameCall.{FrameCall}
 use Rattle.desk_call.specs.declared.frame.FrameReply.{FrameReply}
@@ -17,7 +17,7 @@ module _ {A : Type 0} (f : FullDesk → A) (apart : (d : FullDesk) (ws : List Wi
   abbrev Keeps : FullState → FullState → Type 0
   Keeps before after = f after.desk ≡ f before.desk
 
-  pub frame_told_keeps : (s : ℕ) (news : WindowRecord → News → News) (kept : WindowRecord → WindowRecord) (before after : FullState) → IsFrameNotified s news kept before after → f after.desk ≡ f before.desk
+  pub frame_told_keeps : (s : ℕ) (news : WindowRecord → WindowNews → WindowNews) (kept : WindowRecord → WindowRecord) (before after : FullState) → IsFrameNotified s news kept before after → f after.desk ≡ f before.desk
   frame_told_keeps s news kept before after told = ap f told.desk ∙ apart before.desk _
 
   following_keeps : HoldsOfFollowing Keeps

@@ -1,7 +1,7 @@
 -- What is right stays right where definitions are told.
 use Rattle.std.proofs.Common.{ℕ, Bool, List, Result, refl}
 use Rattle.tb_geom.specs.declared.refusal.Refusal.{Refusal}
-use Rattle.def_iface.specs.News.{told_title, told_highlighted, told_tracked}
+use Rattle.def_iface.specs.WindowNews.{told_title, told_highlighted, told_tracked}
 use Rattle.desk_call.specs.declared.activity.Standing.{Standing}
 use Rattle.desk_call.specs.declared.frame.FrameCall.{FrameCall}
 use Rattle.desk_call.specs.declared.frame.FrameReply.{FrameReply}

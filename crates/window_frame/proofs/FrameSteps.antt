@@ -5,9 +5,9 @@ use Rattle.tb_geom.specs.declared.point.Point.{Point}
 use Rattle.tb_geom.specs.declared.refusal.Refusal.{Refusal}
 use Rattle.tb_geom.specs.declared.refusal.Refusal.TheVariants.{NoSuchWindow, OutOfRange, TooLong}
 use Rattle.tb_geom.specs.Rects.{in_plane}
-use Rattle.def_iface.specs.declared.taken.Taken.{Taken}
-use Rattle.def_iface.specs.News.{News, told_title, told_highlighted, told_tracked}
-use Rattle.def_iface.specs.Meaning.{Loan}
+use Rattle.def_iface.specs.Slots.{TakenBox}
+use Rattle.def_iface.specs.WindowNews.{WindowNews, told_title, told_highlighted, told_tracked}
+use Rattle.def_iface.specs.WindowMeaning.{WindowLoan}
 use Rattle.def_iface.specs.Stocked.{SlotView}
 use Rattle.desk_call.specs.declared.frame.FrameCall.{FrameCall}
 use Rattle.desk_call.specs.declared.activity.Activity.TheVariants.{Idle, Tracking}
@@ -41,12 +41,12 @@ use Rattle.window_frame.specs.FrameSteps.{IsFrameStepOverAnySlots, IsTrackedAt, 
 use Rattle.window_frame.proofs.FrameKeeps.{frame_told_keeps, tracking_keeps}
 
 -- a window manager that was whole over some slots, and is so over the same
-pub still_kept : {V : Type 0} {H : V → Type 0} (loan : Taken V H → Loan) (t new : WindowManager V H) (after : FullState → FullState → Type 0) → IsKept loan t → LeavesState loan after t new → IsKept loan new
+pub still_kept : {V : Type 0} {H : V → Type 0} (loan : TakenBox V H → WindowLoan) (t new : WindowManager V H) (after : FullState → FullState → Type 0) → IsKept loan t → LeavesState loan after t new → IsKept loan new
 still_kept loan t new after kept leaves = record { slots = kept.slots; whole = (leaves kept.slots kept.whole).0 }
 
 -- ---- one window
 
-module _ {V : Type 0} {H : V → Type 0} (loan : Taken V H → Loan) (t : WindowManager V H) where
+module _ {V : Type 0} {H : V → Type 0} (loan : TakenBox V H → WindowLoan) (t : WindowManager V H) where
   -- ---- nothing changes
 
   pub unchanged : (u : Opened) (slots : List SlotView) → IsDeskUnchanged (desk_state loan t u slots) (desk_state loan t u slots)
@@ -73,7 +73,7 @@ module _ {V : Type 0} {H : V → Type 0} (loan : Taken V H → Loan) (t : Window
     is_there slots = ap is_none found
 
     -- what is said of the window at its place is said of that of its number
-    pub by_number : (new : WindowManager V H) (news : WindowRecord → News → News) (f : WindowRecord → WindowRecord) → ((w : Window V H) → IsWindowAt t.windows.records.items at w → LeavesState loan (IsFrameNotified w.serial news f) t new)
+    pub by_number : (new : WindowManager V H) (news : WindowRecord → WindowNews → WindowNews) (f : WindowRecord → WindowRecord) → ((w : Window V H) → IsWindowAt t.windows.records.items at w → LeavesState loan (IsFrameNotified w.serial news f) t new)
         → LeavesState loan (IsFrameNotified s news f) t new
     by_number new news f leaves = subst (λ n. LeavesState loan (IsFrameNotified n news f) t new) (stands.1 here.0 here.1) (leaves here.0 here.1)
 
@@ -101,7 +101,7 @@ module _ {V : Type 0} {H : V → Type 0} (loan : Taken V H → Loan) (t : Window
         sure e = cc
 
     -- or it heard otherwise, and was told
-    pub informed_so : (flag : Flag) (news : News → News) (kept_so : WindowRecord → WindowRecord) (new : WindowManager V H) → (Knows flag (record_of loan x) → ⊥)
+    pub informed_so : (flag : Flag) (news : WindowNews → WindowNews) (kept_so : WindowRecord → WindowRecord) (new : WindowManager V H) → (Knows flag (record_of loan x) → ⊥)
         → news ≡ told_flag flag (record_of loan x) → kept_so (record_of loan x) ≡ with_heard flag (record_of loan x)
         → ((w : Window V H) → IsWindowAt t.windows.records.items at w → LeavesState loan (IsFrameNotified w.serial (λ _. news) kept_so) t new)
         → (w : Window V H) → IsWindowAt t.windows.records.items at w → LeavesState loan (IsInformed flag w.serial) t new
@@ -198,13 +198,13 @@ module _ {V : Type 0} {H : V → Type 0} (loan : Taken V H → Loan) (t : Window
   told_stays_sized kept inside s new leaves =
       sides_stay kept new (IsTrackingNotified inside s) (λ before later told. record { width = tracking_keeps (λ d. d.width) (λ d ws. refl) inside s before later told; height = tracking_keeps (λ d. d.height) (λ d ws. refl) inside s before later told }) leaves
 
-  pub frame_stays_sized : (kept : IsKept loan t) (s at : ℕ) → StandsAt t.windows.records.items s at → (news : WindowRecord → News → News) (f : WindowRecord → WindowRecord) (new : WindowManager V H)
+  pub frame_stays_sized : (kept : IsKept loan t) (s at : ℕ) → StandsAt t.windows.records.items s at → (news : WindowRecord → WindowNews → WindowNews) (f : WindowRecord → WindowRecord) (new : WindowManager V H)
       → ((w : Window V H) → IsWindowAt t.windows.records.items at w → LeavesState loan (IsFrameNotified w.serial news f) t new) → SameScreen new
   frame_stays_sized kept s at stands news f new leaves =
       sides_stay kept new (IsFrameNotified s news f) (λ before later told. record { width = frame_told_keeps (λ d. d.width) (λ d ws. refl) s news f before later told; height = frame_told_keeps (λ d. d.height) (λ d ws. refl) s news f before later told })
       (by_number kept s at stands new news f leaves)
 
 -- the step of a call is that of the call that it is
-pub of_call : {V : Type 0} {H : V → Type 0} (loan : Taken V H → Loan) (t new : WindowManager V H) (u after : Opened) (call other : FrameCall) (result : Result FrameReply Refusal) → call ≡ other
+pub of_call : {V : Type 0} {H : V → Type 0} (loan : TakenBox V H → WindowLoan) (t new : WindowManager V H) (u after : Opened) (call other : FrameCall) (result : Result FrameReply Refusal) → call ≡ other
     → IsFrameStepOverAnySlots loan other result t u new after → IsFrameStepOverAnySlots loan call result t u new after
 of_call loan t new u after call other result is step = subst (λ k. IsFrameStepOverAnySlots loan k result t u new after) (sym is) step

@@ -4,10 +4,10 @@ use Rattle.tb_geom.specs.declared.point.Point.{Point}
 use Rattle.tb_geom.specs.declared.refusal.Refusal.{Refusal}
 use Rattle.tb_geom.specs.Points.{PixelSet}
 use Rattle.tb_geom.specs.Refusals.{first_refusal}
-use Rattle.def_iface.specs.News.{News, told_title, told_highlighted, told_tracked}
-use Rattle.def_iface.specs.declared.part.Part.{Part}
-use Rattle.def_iface.specs.Desk as layers
-use Rattle.def_iface.specs.Change.{no_change}
+use Rattle.def_iface.specs.WindowNews.{WindowNews, told_title, told_highlighted, told_tracked}
+use Rattle.desk_layers.specs.declared.part.Part.{Part}
+use Rattle.desk_layers.specs.Desk as layers
+use Rattle.desk_layers.specs.Change.{no_change}
 use Rattle.desk_call.specs.declared.activity.Standing.{Standing}
 use Rattle.desk_call.specs.declared.activity.Standing.TheVariants as standing
 use Rattle.desk_call.specs.declared.frame.FrameCall.{FrameCall}
@@ -66,7 +66,7 @@ module _ (look : Look) (n : ℕ) (f : WindowRecord → WindowRecord) (keeps : Ke
 -- ---- a definition that was told something
 
 module _ (shows : List ℕ → Part → PixelSet) where
-  pub notified_showing : (n : ℕ) (news : WindowRecord → News → News) (kept : WindowRecord → WindowRecord) (s t : FullState) → layers.IsDesk (layered_desk t.desk)
+  pub notified_showing : (n : ℕ) (news : WindowRecord → WindowNews → WindowNews) (kept : WindowRecord → WindowRecord) (s t : FullState) → layers.IsDesk (layered_desk t.desk)
       → IsFrameNotified n news kept s t → IsFrameNotified n news kept (state_showing shows s) (state_showing shows t)
   notified_showing n news kept s t distinct it = record {
     window = it.window;
@@ -77,7 +77,7 @@ module _ (shows : List ℕ → Part → PixelSet) where
     pixels = changed_showing shows no_change (λ o p. refl) (λ o. refl) s t distinct it.pixels;
   }
 
-pub distinct_notified : (n : ℕ) (news : WindowRecord → News → News) (kept : WindowRecord → WindowRecord) (s t : FullState) → KeepsApart kept
+pub distinct_notified : (n : ℕ) (news : WindowRecord → WindowNews → WindowNews) (kept : WindowRecord → WindowRecord) (s t : FullState) → KeepsApart kept
     → IsFrameNotified n news kept s t → layers.IsDesk (layered_desk s.desk) → layers.IsDesk (layered_desk t.desk)
 distinct_notified n news kept s t keeps it distinct =
     subst (λ (d : FullDesk). layers.IsDesk (layered_desk d)) (sym it.desk)

@@ -5,10 +5,10 @@ use Rattle.std.proofs.Math.Bool.{beq}
 use Rattle.std.proofs.lemmas.Bool.{eqb-true}
 use Rattle.std.proofs.lemmas.Bool.Decides.{nat_tests}
 use Rattle.std.proofs.lemmas.List.{length-map}
-use Rattle.def_iface.specs.declared.taken.Taken.{Taken}
-use Rattle.def_iface.specs.Meaning.{Definition, Loan}
-use Rattle.def_iface.specs.Desk as layers
-use Rattle.def_iface.proofs.Owning.{same_number}
+use Rattle.def_iface.specs.Slots.{TakenBox}
+use Rattle.def_iface.specs.WindowMeaning.{WindowDefinition, WindowLoan}
+use Rattle.desk_layers.specs.Desk as layers
+use Rattle.desk_layers.proofs.Owning.{same_number}
 use Rattle.vis_update.specs.Records.{WindowRecord, Look, layered_window, record_of}
 use Rattle.window_list.specs.declared.window.Window.{Window}
 use Rattle.window_mgr.specs.declared.manager.WindowManager.{WindowManager}
@@ -79,12 +79,12 @@ changed_at look f (y ∷ ys) (suc i) w d distinct e = rw (not_among look y.seria
 -- ---- what a definition that was told knows
 
 -- it knows what it was told
-knows_told : (flag : Flag) (w : WindowRecord) (d : Definition) → Knows flag (record (with_heard flag w) { definition = d })
+knows_told : (flag : Flag) (w : WindowRecord) (d : WindowDefinition) → Knows flag (record (with_heard flag w) { definition = d })
 knows_told Highlighting w d = refl
 knows_told Zooming w d = refl
 
 -- and all that it knew
-knows_still : (told flag : Flag) (w : WindowRecord) (d : Definition) → Knows flag w → Knows flag (record (with_heard told w) { definition = d })
+knows_still : (told flag : Flag) (w : WindowRecord) (d : WindowDefinition) → Knows flag w → Knows flag (record (with_heard told w) { definition = d })
 knows_still Highlighting Highlighting w d knew = refl
 knows_still Highlighting Zooming w d knew = knew
 knows_still Zooming Highlighting w d knew = knew
@@ -104,7 +104,7 @@ and_one : (flag : Flag) (s : ℕ) (before middle after : FullState) → AreSomeT
 and_one flag s before middle after (ts, told) (inl (known, same)) = (ts, subst (λ m. AreNotified ts before m) (sym same) told)
 and_one flag s before middle after (ts, told) (inr one) = (ts ++ record { window = s; flag = flag } ∷ [], several_then ts (record { window = s; flag = flag }) before middle after told one)
 
-module _ {V : Type 0} {H : V → Type 0} (loan : Taken V H → Loan) where
+module _ {V : Type 0} {H : V → Type 0} (loan : TakenBox V H → WindowLoan) where
   abbrev records : WindowManager V H → List WindowRecord
   records t = map (record_of loan) t.windows.records.items
 

@@ -6,10 +6,10 @@ use Rattle.std.proofs.Math.Bool.{beq}
 use Rattle.std.proofs.lemmas.Bool.{false≢true, eqb-true}
 use Rattle.std.proofs.lemmas.List.Elements.{All-head, All-tail}
 use Rattle.bit_map.specs.Bits.{Bits}
-use Rattle.def_iface.specs.Desk as layers
-use Rattle.def_iface.specs.Desk.{LayeredDesk}
-use Rattle.def_iface.specs.Owner.{Owner}
-use Rattle.def_iface.proofs.Owning.{same_number, not_first}
+use Rattle.desk_layers.specs.Desk as layers
+use Rattle.desk_layers.specs.Desk.{LayeredDesk}
+use Rattle.desk_layers.specs.Owner.{Owner}
+use Rattle.desk_layers.proofs.Owning.{same_number, not_first}
 use Rattle.desk_call.specs.declared.window.SendBehind.{SendBehind}
 use Rattle.vis_update.specs.Records.{WindowRecord, Look, is_floating, layered_window}
 use Rattle.vis_update.specs.Touches.{is_this}

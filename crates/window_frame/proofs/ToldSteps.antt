@@ -1,7 +1,7 @@
 -- What holds of each definition that is told holds of all that are told after a call on windows, and of a call about a frame.
 use Rattle.std.proofs.Common.{◌≡◌, ◌⊎◌, inl, inr, ℕ, Bool, true, false, List, [], ◌∷◌, Result, Ok, Err, refl, sym, subst}
 use Rattle.tb_geom.specs.declared.refusal.Refusal.{Refusal}
-use Rattle.def_iface.specs.News.{told_title, told_highlighted, told_tracked}
+use Rattle.def_iface.specs.WindowNews.{told_title, told_highlighted, told_tracked}
 use Rattle.desk_call.specs.declared.activity.Standing.{Standing}
 use Rattle.desk_call.specs.declared.activity.Standing.TheVariants.{Asks, Updates, Tracks, Pulls, TracksControl, Drags, Grows, Changes}
 use Rattle.desk_call.specs.declared.frame.FrameCall.{FrameCall}

@@ -2,8 +2,8 @@
 use Rattle.std.specs.Prelude.{◌≡◌, ℕ, ◌==◌, ◌||◌, not, Bool, true, false, List, [], map, Option, None, Some}
 use Rattle.std.proofs.Math.Bool.{beq}
 use Rattle.tb_geom.specs.declared.point.Point.{Point}
-use Rattle.def_iface.specs.declared.taken.Taken.{Taken}
-use Rattle.def_iface.specs.Meaning.{Loan}
+use Rattle.def_iface.specs.Slots.{TakenBox}
+use Rattle.def_iface.specs.WindowMeaning.{WindowLoan}
 use Rattle.desk_call.specs.declared.window.WindowCall.{WindowCall}
 use Rattle.desk_call.specs.declared.window.WindowCall.TheVariants.{Dispose, Show, Hide, ShowHide, Select, SendBehind, Move, Size}
 use Rattle.vis_update.specs.Records.{WindowRecord, record_of}
@@ -51,7 +51,7 @@ LeavesOthers (Move m) before after = AreOthersLeft m.window before after
 LeavesOthers (Size z) before after = AreOthersLeft z.window before after
 LeavesOthers _ before after = Unit {0}
 
-module _ {V : Type 0} {H : V → Type 0} (loan : Taken V H → Loan) where
+module _ {V : Type 0} {H : V → Type 0} (loan : TakenBox V H → WindowLoan) where
   abbrev pub windows_of : WindowManager V H → List WindowRecord
   windows_of t = map (record_of loan) t.windows.records.items
 

@@ -2,7 +2,7 @@
 use Rattle.std.specs.Prelude.{◌≡◌, ◌⊎◌, ℕ, ◌==◌, ◌&&◌, ◌||◌, not, Bool, false, List, [], ◌∷◌, Some, All}
 use Rattle.std.proofs.Math.Bool.{beq}
 use Rattle.std.specs.Option.{is_some}
-use Rattle.def_iface.specs.News.{News, told_highlighted, told_zoomed}
+use Rattle.def_iface.specs.WindowNews.{WindowNews, told_highlighted, told_zoomed}
 use Rattle.desk_call.specs.declared.activity.Standing.{Standing}
 use Rattle.desk_call.specs.declared.activity.Standing.TheVariants.{Asks}
 use Rattle.vis_update.specs.Records.{WindowRecord}
@@ -30,7 +30,7 @@ abbrev pub Knows : Flag → WindowRecord → Type 0
 Knows flag w = heard_of flag w ≡ flag_of flag w
 
 -- it is told how the window stands
-abbrev pub told_flag : Flag → WindowRecord → News → News
+abbrev pub told_flag : Flag → WindowRecord → WindowNews → WindowNews
 told_flag Highlighting w = told_highlighted w.highlighted
 told_flag Zooming w = told_zoomed (is_some w.user_state)
 

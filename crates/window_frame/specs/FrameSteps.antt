@@ -2,9 +2,9 @@
 use Rattle.std.specs.Prelude.{◌≡◌, ◌⊎◌, ℕ, Bool, true, false, ◌&&◌, List, Result}
 use Rattle.tb_geom.specs.declared.point.Point.{Point}
 use Rattle.tb_geom.specs.declared.refusal.Refusal.{Refusal}
-use Rattle.def_iface.specs.News.{told_title, told_highlighted, told_tracked}
-use Rattle.def_iface.specs.declared.taken.Taken.{Taken}
-use Rattle.def_iface.specs.Meaning.{Loan}
+use Rattle.def_iface.specs.WindowNews.{told_title, told_highlighted, told_tracked}
+use Rattle.def_iface.specs.Slots.{TakenBox}
+use Rattle.def_iface.specs.WindowMeaning.{WindowLoan}
 use Rattle.desk_call.specs.declared.activity.Activity.TheVariants.{Idle, Tracking}
 use Rattle.desk_call.specs.declared.frame.FrameCall.{FrameCall}
 use Rattle.desk_call.specs.declared.frame.FrameCall.TheVariants.{SetTitle, Hilite, TrackGoAway, StepGoAway, EndGoAway}
@@ -75,7 +75,7 @@ IsFrameStep call = IsStepOf (λ before why. first_refusal (frame_refusals call b
     (IsFrameEffect call) IsDeskUnchanged
 
 -- `loan` says what a definition that was taken means
-module _ {V : Type 0} {H : V → Type 0} (loan : Taken V H → Loan) where
+module _ {V : Type 0} {H : V → Type 0} (loan : TakenBox V H → WindowLoan) where
   -- over any slots over which the window manager is whole, it is whole after the call, which is one step
   abbrev pub IsFrameStepOverAnySlots : FrameCall → Result FrameReply Refusal → WindowManager V H → Opened → WindowManager V H → Opened → Type 0
   IsFrameStepOverAnySlots call result = LeavesDesk loan (IsFrameStep call result)

@@ -10,17 +10,19 @@ ghost use Rattle.vis_update.specs.Records.{record_of};
 ghost use Rattle.window_frame.specs.Followers.Flag.{Highlighting, Zooming};
 
 use crate::outcome::Outcome;
-use def_iface::{Defined, Taken, WindowChange};
+use def_iface::{Defined, TakenWindow, WindowChange};
 use window_mgr::WindowManager;
 
 /// Notifies definitions of how their windows stand, once this came of a call on windows: each that heard otherwise, and no other,
 /// is told whether its window is highlighted, and whether it is zoomed, and has the frame drawn where that shows. After a call
 /// that asks none is told anything. Takes no memory.
 pub fn follow(windows: &mut WindowManager, outcome: Outcome)
-    requires { IsKept ⟦<Taken as Defined>⟧.loan windows.old }
-    ensures told { LeavesState ⟦<Taken as Defined>⟧.loan (IsCaughtUpBy (standing_after outcome)) windows.old windows.new }
-    ensures repainted { Repaints ⟦<Taken as Defined>⟧.loan
-        (is_behind (map (record_of ⟦<Taken as Defined>⟧.loan) windows.old.windows.records.items)) windows.old windows.new }
+    requires { IsKept ⟦<TakenWindow as Defined>⟧.loan windows.old }
+    ensures told { LeavesState ⟦<TakenWindow as Defined>⟧.loan (IsCaughtUpBy (standing_after outcome)) windows.old
+        windows.new }
+    ensures repainted { Repaints ⟦<TakenWindow as Defined>⟧.loan
+        (is_behind (map (record_of ⟦<TakenWindow as Defined>⟧.loan) windows.old.windows.records.items)) windows.old
+        windows.new }
 {
     match outcome {
         Outcome::Asked => {}
@@ -30,10 +32,11 @@ pub fn follow(windows: &mut WindowManager, outcome: Outcome)
 
 /// Notifies the definition of each window, from front to back.
 fn inform_all(windows: &mut WindowManager)
-    requires { IsKept ⟦<Taken as Defined>⟧.loan windows.old }
-    ensures told { LeavesState ⟦<Taken as Defined>⟧.loan IsCaughtUp windows.old windows.new }
-    ensures repainted { Repaints ⟦<Taken as Defined>⟧.loan
-        (is_behind (map (record_of ⟦<Taken as Defined>⟧.loan) windows.old.windows.records.items)) windows.old windows.new }
+    requires { IsKept ⟦<TakenWindow as Defined>⟧.loan windows.old }
+    ensures told { LeavesState ⟦<TakenWindow as Defined>⟧.loan IsCaughtUp windows.old windows.new }
+    ensures repainted { Repaints ⟦<TakenWindow as Defined>⟧.loan
+        (is_behind (map (record_of ⟦<TakenWindow as Defined>⟧.loan) windows.old.windows.records.items)) windows.old
+        windows.new }
 {
     let count = windows.list().len();
     for at in 0..count {
@@ -44,12 +47,13 @@ fn inform_all(windows: &mut WindowManager)
 
 /// Notifies the definition of the window at this index of whether the window is highlighted, where it heard otherwise.
 fn notify_highlighting(windows: &mut WindowManager, at: usize)
-    requires kept { IsKept ⟦<Taken as Defined>⟧.loan windows.old }
+    requires kept { IsKept ⟦<TakenWindow as Defined>⟧.loan windows.old }
     requires at { at < length windows.old.windows.records.items }
     ensures told { (w : _) → IsWindowAt windows.old.windows.records.items at w
-        → LeavesState ⟦<Taken as Defined>⟧.loan (IsInformed Highlighting w.serial) windows.old windows.new }
+        → LeavesState ⟦<TakenWindow as Defined>⟧.loan (IsInformed Highlighting w.serial) windows.old windows.new }
     ensures repainted { (w : _) → IsWindowAt windows.old.windows.records.items at w
-        → Repaints ⟦<Taken as Defined>⟧.loan (draws_told Highlighting (record_of ⟦<Taken as Defined>⟧.loan w)) windows.old windows.new }
+        → Repaints ⟦<TakenWindow as Defined>⟧.loan (draws_told Highlighting
+        (record_of ⟦<TakenWindow as Defined>⟧.loan w)) windows.old windows.new }
 {
     let window = windows.list().at(at);
     let highlighted = window.highlighted;
@@ -60,12 +64,13 @@ fn notify_highlighting(windows: &mut WindowManager, at: usize)
 
 /// Notifies it of whether the window is zoomed, where it heard otherwise.
 fn notify_zooming(windows: &mut WindowManager, at: usize)
-    requires kept { IsKept ⟦<Taken as Defined>⟧.loan windows.old }
+    requires kept { IsKept ⟦<TakenWindow as Defined>⟧.loan windows.old }
     requires at { at < length windows.old.windows.records.items }
     ensures told { (w : _) → IsWindowAt windows.old.windows.records.items at w
-        → LeavesState ⟦<Taken as Defined>⟧.loan (IsInformed Zooming w.serial) windows.old windows.new }
+        → LeavesState ⟦<TakenWindow as Defined>⟧.loan (IsInformed Zooming w.serial) windows.old windows.new }
     ensures repainted { (w : _) → IsWindowAt windows.old.windows.records.items at w
-        → Repaints ⟦<Taken as Defined>⟧.loan (draws_told Zooming (record_of ⟦<Taken as Defined>⟧.loan w)) windows.old windows.new }
+        → Repaints ⟦<TakenWindow as Defined>⟧.loan (draws_told Zooming (record_of ⟦<TakenWindow as Defined>⟧.loan w))
+        windows.old windows.new }
 {
     let window = windows.list().at(at);
     let is_zoomed = window.user_state.is_some();

@@ -10,7 +10,7 @@ ghost use Rattle.window_frame.specs.FrameSteps.{IsFrameStepOverAnySlots};
 
 use crate::goaway::{end_go_away, step_go_away, track_go_away};
 use crate::{FrameCall, FrameReply, HiliteWindow, NewTitle};
-use def_iface::{Defined, Taken, WindowChange};
+use def_iface::{Defined, TakenWindow, WindowChange};
 use desk_call::Activity;
 use draw_port::LONGEST_TEXT;
 use tb_geom::Refusal;
@@ -23,12 +23,13 @@ pub fn perform(
     activity: &mut Activity,
     call: &FrameCall<'_>,
 ) -> Result<FrameReply, Refusal>
-    requires kept { IsKept ⟦<Taken as Defined>⟧.loan windows.old }
+    requires kept { IsKept ⟦<TakenWindow as Defined>⟧.loan windows.old }
     requires admitted { gate activity.old (frame_standing call.now) ≡ None }
     ensures width { windows.new.screen.width ≡ windows.old.screen.width }
     ensures height { windows.new.screen.height ≡ windows.old.screen.height }
-    ensures step { (begun : PixelSet) → IsFrameStepOverAnySlots ⟦<Taken as Defined>⟧.loan call.now result
-        windows.old (record { activity = activity.old; begun = begun }) windows.new (record { activity = activity.new; begun = begun }) }
+    ensures step { (begun : PixelSet) → IsFrameStepOverAnySlots ⟦<TakenWindow as Defined>⟧.loan call.now result
+        windows.old (record { activity = activity.old; begun = begun }) windows.new
+        (record { activity = activity.new; begun = begun }) }
 {
     match (call, *activity) {
         (FrameCall::SetTitle(new), _) => set_title(windows, new),
@@ -46,10 +47,10 @@ pub fn perform(
 
 /// Gives a window another title.
 fn set_title(windows: &mut WindowManager, new: &NewTitle<'_>) -> Result<FrameReply, Refusal>
-    requires { IsKept ⟦<Taken as Defined>⟧.loan windows.old }
+    requires { IsKept ⟦<TakenWindow as Defined>⟧.loan windows.old }
     ensures width { windows.new.screen.width ≡ windows.old.screen.width }
     ensures height { windows.new.screen.height ≡ windows.old.screen.height }
-    ensures step { (o : Opened) → IsFrameStepOverAnySlots ⟦<Taken as Defined>⟧.loan (asks.SetTitle new.now) result
+    ensures step { (o : Opened) → IsFrameStepOverAnySlots ⟦<TakenWindow as Defined>⟧.loan (asks.SetTitle new.now) result
         windows.old o windows.new o }
 {
     let Some(at) = windows.find(new.window) else {
@@ -72,10 +73,10 @@ fn is_too_long(title: &[u8]) -> bool
 
 /// Highlights a window, or not.
 fn hilite(windows: &mut WindowManager, change: HiliteWindow) -> Result<FrameReply, Refusal>
-    requires { IsKept ⟦<Taken as Defined>⟧.loan windows.old }
+    requires { IsKept ⟦<TakenWindow as Defined>⟧.loan windows.old }
     ensures width { windows.new.screen.width ≡ windows.old.screen.width }
     ensures height { windows.new.screen.height ≡ windows.old.screen.height }
-    ensures step { (o : Opened) → IsFrameStepOverAnySlots ⟦<Taken as Defined>⟧.loan (asks.Hilite change) result
+    ensures step { (o : Opened) → IsFrameStepOverAnySlots ⟦<TakenWindow as Defined>⟧.loan (asks.Hilite change) result
         windows.old o windows.new o }
 {
     let Some(at) = windows.find(change.window) else {

@@ -10,7 +10,7 @@ ghost use Rattle.window_mgr.specs.Updating.{LeavesState};
 ghost use Rattle.window_frame.specs.FrameSteps.{IsFrameStepOverAnySlots, IsTrackingNotified, in_go_away, is_go_away};
 
 use crate::{FrameReply, GoAwayPoint};
-use def_iface::{Defined, Taken, WindowChange};
+use def_iface::{Defined, TakenWindow, WindowChange};
 use desk_call::{Activity, WindowPart};
 use tb_geom::{Point, Refusal};
 use window_mgr::WindowManager;
@@ -21,11 +21,13 @@ pub(crate) fn track_go_away(
     activity: &mut Activity,
     pressed: GoAwayPoint,
 ) -> Result<FrameReply, Refusal>
-    requires kept { IsKept ⟦<Taken as Defined>⟧.loan windows.old }
+    requires kept { IsKept ⟦<TakenWindow as Defined>⟧.loan windows.old }
     ensures width { windows.new.screen.width ≡ windows.old.screen.width }
     ensures height { windows.new.screen.height ≡ windows.old.screen.height }
-    ensures step { (begun : PixelSet) → IsFrameStepOverAnySlots ⟦<Taken as Defined>⟧.loan (asks.TrackGoAway pressed) result
-        windows.old (record { activity = activity.old; begun = begun }) windows.new (record { activity = activity.new; begun = begun }) }
+    ensures step { (begun : PixelSet) → IsFrameStepOverAnySlots ⟦<TakenWindow as Defined>⟧.loan
+        (asks.TrackGoAway pressed) result
+        windows.old (record { activity = activity.old; begun = begun }) windows.new
+        (record { activity = activity.new; begun = begun }) }
 {
     let Some(at) = windows.find(pressed.window) else {
         return Err(Refusal::NoSuchWindow);
@@ -47,11 +49,13 @@ pub(crate) fn step_go_away(
     window: u64,
     point: Point,
 ) -> Result<FrameReply, Refusal>
-    requires kept { IsKept ⟦<Taken as Defined>⟧.loan windows.old }
+    requires kept { IsKept ⟦<TakenWindow as Defined>⟧.loan windows.old }
     ensures width { windows.new.screen.width ≡ windows.old.screen.width }
     ensures height { windows.new.screen.height ≡ windows.old.screen.height }
-    ensures step { (begun : PixelSet) → IsFrameStepOverAnySlots ⟦<Taken as Defined>⟧.loan (asks.StepGoAway point) result
-        windows.old (record { activity = Tracking window; begun = begun }) windows.new (record { activity = Tracking window; begun = begun }) }
+    ensures step { (begun : PixelSet) → IsFrameStepOverAnySlots ⟦<TakenWindow as Defined>⟧.loan (asks.StepGoAway point)
+        result
+        windows.old (record { activity = Tracking window; begun = begun }) windows.new
+        (record { activity = Tracking window; begun = begun }) }
 {
     let inside = is_inside(windows, window, point)?;
     notify_tracked(windows, window, inside);
@@ -65,12 +69,14 @@ pub(crate) fn end_go_away(
     window: u64,
     point: Point,
 ) -> Result<FrameReply, Refusal>
-    requires kept { IsKept ⟦<Taken as Defined>⟧.loan windows.old }
+    requires kept { IsKept ⟦<TakenWindow as Defined>⟧.loan windows.old }
     requires tracked { activity.old ≡ Tracking window }
     ensures width { windows.new.screen.width ≡ windows.old.screen.width }
     ensures height { windows.new.screen.height ≡ windows.old.screen.height }
-    ensures step { (begun : PixelSet) → IsFrameStepOverAnySlots ⟦<Taken as Defined>⟧.loan (asks.EndGoAway point) result
-        windows.old (record { activity = activity.old; begun = begun }) windows.new (record { activity = activity.new; begun = begun }) }
+    ensures step { (begun : PixelSet) → IsFrameStepOverAnySlots ⟦<TakenWindow as Defined>⟧.loan (asks.EndGoAway point)
+        result
+        windows.old (record { activity = activity.old; begun = begun }) windows.new
+        (record { activity = activity.new; begun = begun }) }
 {
     let inside = is_inside(windows, window, point)?;
     notify_tracked(windows, window, false);
@@ -80,9 +86,10 @@ pub(crate) fn end_go_away(
 
 /// Whether FindWindow answers the go-away box of this window at the point. OutOfRange where the point is out of range.
 fn is_inside(windows: &WindowManager, window: u64, point: Point) -> Result<bool, Refusal>
-    requires { IsKept ⟦<Taken as Defined>⟧.loan windows.now }
+    requires { IsKept ⟦<TakenWindow as Defined>⟧.loan windows.now }
     ensures { MatchResult result
-        (λ inside. (in_plane point ≡ true) × (inside ≡ in_go_away window (desk_of ⟦<Taken as Defined>⟧.loan windows.now []) point))
+        (λ inside. (in_plane point ≡ true) × (inside ≡ in_go_away window
+        (desk_of ⟦<TakenWindow as Defined>⟧.loan windows.now []) point))
         (λ e. (in_plane point ≡ false) × (e ≡ Refusal.OutOfRange)) }
 {
     let found = windows.find_window(point)?;
@@ -101,8 +108,8 @@ fn is_go_away(part: WindowPart) -> bool
 
 /// Notifies the definition of a window, if there is one, of whether its go-away box is tracked with the mouse in it.
 fn notify_tracked(windows: &mut WindowManager, window: u64, inside: bool)
-    requires { IsKept ⟦<Taken as Defined>⟧.loan windows.old }
-    ensures { LeavesState ⟦<Taken as Defined>⟧.loan (IsTrackingNotified inside window) windows.old windows.new }
+    requires { IsKept ⟦<TakenWindow as Defined>⟧.loan windows.old }
+    ensures { LeavesState ⟦<TakenWindow as Defined>⟧.loan (IsTrackingNotified inside window) windows.old windows.new }
 {
     if let Some(at) = windows.find(window) {
         windows.notify(at, WindowChange::Tracked(inside));

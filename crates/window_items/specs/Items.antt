@@ -1,7 +1,7 @@
 -- The items of a desk as a list: those of one window, where one of them stands, and one of them changed.
-use Rattle.std.specs.Prelude.{ℕ, zero, suc, ◌+◌, ◌^◌, nat_lt, Bool, true, false, ◌&&◌, ◌==◌, if◌then◌else◌, List, [], ◌∷◌, Option, None, Some, take, slice_get}
+use Rattle.std.specs.Prelude.{◌≡◌, ℕ, zero, suc, ◌+◌, ◌^◌, nat_lt, Bool, true, false, ◌&&◌, ◌==◌, if◌then◌else◌, List, [], ◌∷◌, Option, None, Some, take, slice_get}
 use Rattle.std.specs.Option.{option_map, option_map_or, option_and_then, option_or}
-use Rattle.std.specs.List.{filter, list_all, position, remove}
+use Rattle.std.specs.List.{filter, list_all, list_any, position, remove}
 use Rattle.window_items.specs.declared.item.Item.{Item}
 
 -- the serial after this one, of 64 bits
@@ -21,6 +21,15 @@ module _ {T : Type 0} where
   -- the item has this serial
   abbrev pub has_serial : ℕ → Item T → Bool
   has_serial serial c = c.serial == serial
+
+  -- the item of this serial, in whichever window it is
+  abbrev pub with_serial : ℕ → List (Item T) → Option (Item T)
+  with_serial serial items = option_and_then (slice_get items) (position (has_serial serial) items)
+
+  -- each of another serial
+  abbrev pub AreApart : List (Item T) → Type 0
+  AreApart [] = Unit {0}
+  AreApart (c ∷ cs) = (list_any (has_serial c.serial) cs ≡ false) × AreApart cs
 
   -- the item is this window's, of this serial
   abbrev pub is_item : ℕ → ℕ → Item T → Bool

@@ -4,10 +4,10 @@ use Rattle.std.specs.List.{All, insert, remove}
 use Rattle.std.proofs.lemmas.List.Elements.{All-head, All-tail, All-cons, All-append, All-take, All-drop}
 use Rattle.tb_geom.specs.declared.point.Point.{Point}
 use Rattle.tb_geom.specs.Pixels.{holds}
-use Rattle.def_iface.specs.declared.part.Part.{Part}
-use Rattle.def_iface.specs.declared.part.Part.TheVariants as part
-use Rattle.def_iface.specs.Desk.{same_part}
-use Rattle.def_iface.proofs.Owning.{same_part-self}
+use Rattle.desk_layers.specs.declared.part.Part.{Part}
+use Rattle.desk_layers.specs.declared.part.Part.TheVariants as part
+use Rattle.desk_layers.specs.Desk.{same_part}
+use Rattle.desk_layers.proofs.Owning.{same_part-self}
 use Rattle.window_list.specs.declared.layer.Layer.{Layer}
 use Rattle.window_list.specs.declared.layer.LayerShape.{LayerShape}
 use Rattle.window_list.specs.Holders.{layer_has, part_at, belongs_to, ArePartsApart}

@@ -12,7 +12,7 @@ use Rattle.tb_geom.specs.Rects.{rect_holds, between, is_in_range, is_coordinate,
 use Rattle.tb_geom.specs.Pixels.{Pixels, holds}
 use Rattle.tb_geom.proofs.RectLemmas.{sides_of}
 use Rattle.scan_region.specs.Moves.{StaysInRange, is_pixel_in_range}
-use Rattle.def_iface.specs.Meaning.{IsWithin}
+use Rattle.def_iface.specs.WindowMeaning.{IsWithin}
 use Rattle.window_list.specs.declared.layer.Layer.{Layer}
 use Rattle.window_list.specs.Holders.{layer_has, is_covered, fits_at, IsLayerAt}
 use Rattle.window_list.specs.Owned.{AreTaken, AreMoved}

@@ -1,8 +1,8 @@
 -- Layers after a change, and what other layers gain by it. Points are in the window's own coordinates.
 use Rattle.std.specs.Prelude.{ℕ, zero, suc, false, not, ◌&&◌, List, [], ◌∷◌, Option, None, Some}
 use Rattle.tb_geom.specs.Points.{PixelSet}
-use Rattle.def_iface.specs.declared.part.Part.{Part}
-use Rattle.def_iface.specs.Desk.{same_part}
+use Rattle.desk_layers.specs.declared.part.Part.{Part}
+use Rattle.desk_layers.specs.Desk.{same_part}
 use Rattle.window_list.specs.declared.layer.Layer.{Layer}
 use Rattle.window_list.specs.declared.layer.LayerShape.{LayerShape}
 use Rattle.window_list.specs.Holders.{part_at, belongs_to}

@@ -2,16 +2,16 @@
 use Rattle.std.specs.Prelude.{◌≡◌, ℕ, Bool, ◌==◌, List, [], ◌∷◌, Option, None, Some, if◌then◌else◌, zero, suc, map, nat_lt, false, ◌+◌, ◌++◌, ◌^◌, true, slice_set, not, ◌&&◌}
 use Rattle.tb_geom.specs.declared.point.Point.{Point}
 use Rattle.draw_port.specs.declared.shapes.Op.{Op}
-use Rattle.def_iface.specs.declared.taken.Taken.{Taken}
+use Rattle.def_iface.specs.Slots.{TakenBox}
 use Rattle.def_iface.specs.declared.window_def.Stage.TheVariants.{Live}
-use Rattle.def_iface.specs.Meaning.{Loan, SameRegions, Hears}
+use Rattle.def_iface.specs.WindowMeaning.{WindowLoan, SameRegions, WindowHears}
 use Rattle.window_list.specs.Holders.{PlacedLayers}
 use Rattle.window_list.specs.Classes.{put_front}
 use Rattle.window_list.specs.Ranks.{Ranked}
 use Rattle.window_list.specs.declared.window.Placement.{Placement}
 use Rattle.window_list.specs.declared.window.UserState.{UserState}
 use Rattle.std.specs.Option.{is_some}
-use Rattle.def_iface.specs.News.{told_placed}
+use Rattle.def_iface.specs.WindowNews.{told_placed}
 use Rattle.window_list.specs.declared.window.Window.{Window}
 
 -- the list with f of its i-th element in the place of that
@@ -102,17 +102,17 @@ module _ {V : Type 0} {H : V → Type 0} where
   }
 
   -- the i-th window, which is w, has this place and size, and its definition, which is live as before, was told the size
-  pub record IsPlacedAt (loan : Taken V H → Loan) (i : ℕ) (to : Placement) (w : Window V H) (old new : List (Window V H)) : Type 0 where
-    pub taken : Taken V H
+  pub record IsPlacedAt (loan : TakenBox V H → WindowLoan) (i : ℕ) (to : Placement) (w : Window V H) (old new : List (Window V H)) : Type 0 where
+    pub taken : TakenBox V H
     pub items : new ≡ slice_set old i (record (with_place_and_size to w) { taken = taken })
     pub live : (loan taken).definition.stage ≡ Live
     pub told : (loan taken).definition.size ≡ to.size
-    pub heard : Hears (told_placed to.size (is_some to.user_state)) (loan w.taken).definition (loan taken).definition
+    pub heard : WindowHears (told_placed to.size (is_some to.user_state)) (loan w.taken).definition (loan taken).definition
     pub regions : SameRegions (loan w.taken).definition (loan taken).definition
     pub slot : (loan taken).slot ≡ (loan w.taken).slot
 
   -- the definition was the last window's, and that window is gone
-  pub record IsLastBox (old : List (Window V H)) (taken : Taken V H) (new : List (Window V H)) : Type 0 where
+  pub record IsLastBox (old : List (Window V H)) (taken : TakenBox V H) (new : List (Window V H)) : Type 0 where
     pub window : Window V H
     pub last : old ≡ new ++ window ∷ []
     pub its : taken ≡ window.taken

@@ -6,7 +6,7 @@ ghost use Rattle.tb_geom.specs.Pixels.{holds};
 ghost use Rattle.window_list.specs.Holders.{layer_has, fits_at, IsLayerAt};
 
 use crate::moves::move_by;
-use def_iface::Part;
+use desk_layers::Part;
 use scan_region::Region;
 use std::alloc::{AllocError, Global};
 use tb_geom::{Point, Rect};

@@ -10,7 +10,7 @@ ghost use Rattle.window_list.specs.LayerChanges.{with_shape, is_gained, reshaped
 
 use crate::layer::{Layer, LayerShape};
 use crate::moves::{local, move_all, move_by};
-use def_iface::Part;
+use desk_layers::Part;
 use scan_region::Region;
 use std::alloc::{AllocError, Global};
 use std::marker::Model;
@@ -166,7 +166,8 @@ impl Layers {
         shape: LayerShape,
     ) -> Result<Relaid, AllocError>
         requires at { at < length self.now.layers }
-        requires lies { (l : Layer) → l ≡ slice_index_or self.now.layers at l → IsLayerAt self.now.place (with_shape shape l) }
+        requires lies { (l : Layer) → l ≡ slice_index_or self.now.layers at l
+            → IsLayerAt self.now.place (with_shape shape l) }
         requires apart { ArePartsApart self.now.layers }
         ensures layers { IfOk result (λ r. r.layers ≡ record self.now { layers = reshaped shape at self.now.layers }) }
         ensures gained { IfOk result (λ r. (l : Layer) → l ≡ slice_index_or self.now.layers at l → (p : Point)

@@ -1,17 +1,20 @@
 //! The windows of a desk, which of them is active, and the serial of the next.
-ghost use Rattle.std.specs.Prelude.{◌≡◌, true, ◌<◌, ◌≤◌, nat_lt, ◌==◌, [], ◌∷◌, length, map, if◌then◌else◌, position, slice_index_or, slice_get, Some, None, OnOk, OnErr, IfErr, IfNone, IfSome};
+ghost use Rattle.std.specs.Prelude.{◌≡◌, true, ◌<◌, ◌≤◌, nat_lt, ◌==◌, [], ◌∷◌, length, map, if◌then◌else◌, position};
+ghost use Rattle.std.specs.Prelude.{slice_index_or, slice_get, Some, None, OnOk, OnErr, IfErr, IfNone, IfSome};
 ghost use Rattle.std.specs.List.{remove, list_all, prefix_len};
 ghost use Rattle.std.specs.Option.{option_map};
 ghost use Rattle.tb_geom.specs.Rects.{in_plane};
-ghost use Rattle.def_iface.specs.Meaning.{is_fitting};
+ghost use Rattle.def_iface.specs.WindowMeaning.{is_fitting};
 ghost use Rattle.window_list.specs.Holders.{fits_at};
 ghost use Rattle.window_list.specs.Classes.{front_place, back_place};
 ghost use Rattle.window_list.specs.Ranks.{moved_item};
-ghost use Rattle.window_list.specs.Lists.{has_serial, floats, leads, first_leading, with_new, dimmed, relit, serial_after, map_ranked, edit_at, IsLastBox, with_stand, with_picture, with_layers, with_origin, with_operation, IsPlacedAt};
+ghost use Rattle.window_list.specs.Lists.{has_serial, floats, leads, first_leading, with_new, dimmed, relit};
+ghost use Rattle.window_list.specs.Lists.{serial_after, map_ranked, edit_at, IsLastBox, with_stand, with_picture};
+ghost use Rattle.window_list.specs.Lists.{with_layers, with_origin, with_operation, IsPlacedAt};
 ghost use Rattle.window_list.specs.Changes.{keeps_size, has_short_title, IsNotifiedAt};
 
 use crate::{Layers, Placement, Ranks, UserState, Window};
-use def_iface::{Defined, Stage, Taken, WindowChange};
+use def_iface::{Defined, Stage, TakenWindow, WindowChange};
 use draw_port::{Op, Picture};
 use std::alloc::{AllocError, Global};
 use tb_geom::{Point, Rect, Refusal};
@@ -205,8 +208,12 @@ impl WindowList {
     pub fn set_stand(&mut self, at: usize, place: Point, shown: bool, user_state: Option<UserState>)
         requires within { at < length self.old.records.items }
         requires placed { in_plane place ≡ true }
-        requires fit { IfSome (slice_get self.old.records.items at) (λ w. list_all (fits_at place) w.layers.layers ≡ true) }
-        ensures { self.new ≡ record self.old { records = edit_at (with_stand place shown user_state) at self.old.records } }
+        requires fit { IfSome (slice_get self.old.records.items at)
+            (λ w. list_all (fits_at place) w.layers.layers ≡ true) }
+        ensures { self.new ≡ record self.old {
+          records =
+              edit_at (with_stand place shown user_state) at self.old.records;
+        } }
     {
         let window = self.records.at_mut(at);
         window.layers.go_to(place);
@@ -219,13 +226,13 @@ impl WindowList {
     pub fn set_placement(&mut self, at: usize, placement: Placement)
         requires within { at < length self.old.records.items }
         requires live { IfSome (slice_get self.old.records.items at)
-            (λ w. (⟦<Taken as Defined>⟧.loan w.taken).definition.stage ≡ Stage.Live) }
+            (λ w. (⟦<TakenWindow as Defined>⟧.loan w.taken).definition.stage ≡ Stage.Live) }
         requires fits { IfSome (slice_get self.old.records.items at)
-            (λ w. is_fitting (⟦<Taken as Defined>⟧.loan w.taken).definition placement.size ≡ true) }
+            (λ w. is_fitting (⟦<TakenWindow as Defined>⟧.loan w.taken).definition placement.size ≡ true) }
         requires placed { in_plane placement.place ≡ true }
         requires fit { IfSome (slice_get self.old.records.items at)
             (λ w. list_all (fits_at placement.place) w.layers.layers ≡ true) }
-        ensures placed { IfSome (slice_get self.old.records.items at) (λ w. IsPlacedAt ⟦<Taken as Defined>⟧.loan
+        ensures placed { IfSome (slice_get self.old.records.items at) (λ w. IsPlacedAt ⟦<TakenWindow as Defined>⟧.loan
             at placement w self.old.records.items self.new.records.items) }
         ensures others { self.new ≡ record self.old { records = self.new.records } }
     {
@@ -272,7 +279,8 @@ impl WindowList {
     /// it leaves the list as it was.
     pub fn push_operation(&mut self, at: usize, operation: Op) -> Result<(), Refusal>
         requires { at < length self.old.records.items }
-        ensures added { OnOk result (self.new ≡ record self.old { records = edit_at (with_operation operation) at self.old.records }) }
+        ensures added { OnOk result
+            (self.new ≡ record self.old { records = edit_at (with_operation operation) at self.old.records }) }
         ensures kept { OnErr result (self.new ≡ self.old) }
         ensures refused { IfErr result (λ e. IfSome (slice_get self.old.records.items at) (λ w.
             e ≡ (if nat_lt (length w.picture) 1024 then Refusal.NoMemory else Refusal.TooMany))) }
@@ -305,11 +313,11 @@ impl WindowList {
         requires size { keeps_size change ≡ true }
         requires title { has_short_title change ≡ true }
         requires live { IfSome (slice_get self.old.records.items at)
-            (λ w. (⟦<Taken as Defined>⟧.loan w.taken).definition.stage ≡ Stage.Live) }
+            (λ w. (⟦<TakenWindow as Defined>⟧.loan w.taken).definition.stage ≡ Stage.Live) }
         requires fits { IfSome (slice_get self.old.records.items at)
-            (λ w. is_fitting (⟦<Taken as Defined>⟧.loan w.taken).definition
-            (⟦<Taken as Defined>⟧.loan w.taken).definition.size ≡ true) }
-        ensures told { IfSome (slice_get self.old.records.items at) (λ w. IsNotifiedAt ⟦<Taken as Defined>⟧.loan
+            (λ w. is_fitting (⟦<TakenWindow as Defined>⟧.loan w.taken).definition
+            (⟦<TakenWindow as Defined>⟧.loan w.taken).definition.size ≡ true) }
+        ensures told { IfSome (slice_get self.old.records.items at) (λ w. IsNotifiedAt ⟦<TakenWindow as Defined>⟧.loan
             at change.entry result w self.old.records.items self.new.records.items) }
         ensures others { self.new ≡ record self.old { records = self.new.records } }
     {
@@ -320,7 +328,7 @@ impl WindowList {
 
     /// Takes the rearmost window's definition out and ends the window, or answers None where no window
     /// is left.
-    pub fn next_box(&mut self) -> Option<Taken>
+    pub fn next_box(&mut self) -> Option<TakenWindow>
         ensures taken { IfSome result (λ taken. IsLastBox self.old.records.items taken self.new.records.items) }
         ensures none { IfNone result (self.old.records.items ≡ []) }
         ensures others { self.new ≡ record self.old { records = self.new.records } }

@@ -6,7 +6,7 @@ ghost use Rattle.window_list.specs.Changes.{has_short_title, with_change};
 
 use crate::Layers;
 use arrayvec::ArrayVec;
-use def_iface::{Size, Taken, WindowChange};
+use def_iface::{Size, TakenWindow, WindowChange};
 use draw_port::Picture;
 use tb_geom::Point;
 
@@ -63,7 +63,7 @@ pub struct Window {
     pub origin: Point,
     /// What lies in front of the picture in the window's content.
     pub layers: Layers,
-    pub taken: Taken,
+    pub taken: TakenWindow,
 }
 
 impl Window {

@@ -1,8 +1,8 @@
 //! Lists of windows, and of values in an order of their own.
 ghost use Rattle.std.specs.Prelude.{◌≡◌, ◌<◌, [], length, true, IfOk, OnOk, Some};
-ghost use Rattle.def_iface.specs.Meaning.{is_fitting};
+ghost use Rattle.def_iface.specs.WindowMeaning.{is_fitting};
 
-use def_iface::{Defined, Size, Stage, Taken, WindowChange, WindowDef, WindowStock};
+use def_iface::{Defined, Size, Stage, TakenWindow, WindowChange, WindowDef, WindowStock};
 use draw_port::{Op, Picture, Shape};
 use std::alloc::Global;
 use std::test::Fail;
@@ -43,7 +43,7 @@ const WIDE: Size = Size {
 };
 
 /// An ordinary window of this serial, highlighted where it is visible, with a white picture.
-fn window(alloc: Global, serial: u64, shown: bool, taken: Taken) -> Window
+fn window(alloc: Global, serial: u64, shown: bool, taken: TakenWindow) -> Window
     ensures serial { result.serial ≡ serial }
     ensures taken { result.taken ≡ taken }
     ensures layers { result.layers.layers ≡ [] }
@@ -52,7 +52,7 @@ fn window(alloc: Global, serial: u64, shown: bool, taken: Taken) -> Window
 }
 
 /// The same, of either class.
-fn window_of(alloc: Global, serial: u64, shown: bool, floating: bool, taken: Taken) -> Window
+fn window_of(alloc: Global, serial: u64, shown: bool, floating: bool, taken: TakenWindow) -> Window
     ensures serial { result.serial ≡ serial }
     ensures taken { result.taken ≡ taken }
     ensures layers { result.layers.layers ≡ [] }
@@ -156,10 +156,10 @@ fn filled(alloc: Global, count: u32) -> Result<WindowStock, Fail> {
 }
 
 /// A definition out of the stock, begun at the size.
-fn begun(stock: &mut WindowStock) -> Result<Taken, Refusal>
-    ensures live { IfOk result (λ t. (⟦<Taken as Defined>⟧.loan t).definition.stage ≡ Stage.Live) }
-    ensures told { IfOk result (λ t. is_fitting (⟦<Taken as Defined>⟧.loan t).definition
-        (⟦<Taken as Defined>⟧.loan t).definition.size ≡ true) }
+fn begun(stock: &mut WindowStock) -> Result<TakenWindow, Refusal>
+    ensures live { IfOk result (λ t. (⟦<TakenWindow as Defined>⟧.loan t).definition.stage ≡ Stage.Live) }
+    ensures told { IfOk result (λ t. is_fitting (⟦<TakenWindow as Defined>⟧.loan t).definition
+        (⟦<TakenWindow as Defined>⟧.loan t).definition.size ≡ true) }
 {
     let mut taken = stock.take(b"titled")?;
     if !SIZE.is_in_range() || !taken.bounds(SIZE).is_in_range() {

@@ -7,14 +7,14 @@ use Rattle.tb_geom.specs.declared.point.Point.{Point}
 use Rattle.tb_geom.specs.Pixels.{Pixels}
 use Rattle.tb_geom.specs.Rects.{between}
 use Rattle.bit_map.specs.Bits.{on_map, bit, is_below}
-use Rattle.def_iface.specs.declared.taken.Taken.{Taken}
-use Rattle.def_iface.specs.Meaning.{Loan}
+use Rattle.def_iface.specs.Slots.{TakenBox}
+use Rattle.def_iface.specs.WindowMeaning.{WindowLoan}
 use Rattle.def_iface.specs.Stocked.{SlotView}
-use Rattle.def_iface.specs.Desk as layers
-use Rattle.def_iface.specs.Desk.{LayeredDesk}
-use Rattle.def_iface.specs.Owner.{owner, own_bit, is_content}
-use Rattle.def_iface.specs.Owner.Owner.{Frame}
-use Rattle.def_iface.specs.Change as plain
+use Rattle.desk_layers.specs.Desk as layers
+use Rattle.desk_layers.specs.Desk.{LayeredDesk}
+use Rattle.desk_layers.specs.Owner.{owner, own_bit, is_content}
+use Rattle.desk_layers.specs.Owner.Owner.{Frame}
+use Rattle.desk_layers.specs.Change as plain
 use Rattle.window_mgr.specs.declared.manager.WindowManager.{WindowManager}
 use Rattle.vis_update.specs.declared.area.Area.{Area}
 use Rattle.vis_update.specs.declared.plan.Plan.{Plan}
@@ -37,7 +37,7 @@ pub between-is_below : (n : ℕ) (x : ℤ) → between (pos 0) x (pos n) ≡ is_
 between-is_below n (pos k) = grind (arith, ints, nat_tests)
 between-is_below n (negsuc k) = refl
 
-module _ {V : Type 0} {H : V → Type 0} (loan : Taken V H → Loan) where
+module _ {V : Type 0} {H : V → Type 0} (loan : TakenBox V H → WindowLoan) where
   -- all that is known where a call arranged windows
   pub record IsArrangedCall (touch : Touch) (t new : WindowManager V H) (slots left : List SlotView) (after : FullDesk) (olds : List Area) (plan : Plan) : Type 0 where
     pub whole : IsWholeManager loan t slots

@@ -6,11 +6,11 @@ use Rattle.tb_geom.specs.declared.point.Point.{Point}
 use Rattle.tb_geom.specs.declared.refusal.Refusal.{Refusal}
 use Rattle.tb_geom.specs.declared.refusal.Refusal.TheVariants.{NoSuchWindow}
 use Rattle.tb_geom.specs.Points.{minus}
-use Rattle.def_iface.specs.declared.part.Part.{Part}
-use Rattle.def_iface.specs.Desk as layers
-use Rattle.def_iface.specs.Owner.{content_bit, layer_bit}
-use Rattle.def_iface.specs.Owner.Owner.{Content}
-use Rattle.def_iface.proofs.Owning.{same_number}
+use Rattle.desk_layers.specs.declared.part.Part.{Part}
+use Rattle.desk_layers.specs.Desk as layers
+use Rattle.desk_layers.specs.Owner.{content_bit, layer_bit}
+use Rattle.desk_layers.specs.Owner.Owner.{Content}
+use Rattle.desk_layers.proofs.Owning.{same_number}
 use Rattle.window_list.specs.Classes.{front_place, back_place}
 use Rattle.vis_update.specs.Records.{WindowRecord, Look, layered_window, is_floating}
 use Rattle.vis_update.specs.Touches.{moved_from, came_from}
@@ -18,7 +18,7 @@ use Rattle.desk_call.specs.declared.window.WindowCall.{WindowCall}
 use Rattle.desk_call.specs.declared.window.WindowCall.TheVariants.{New, NewFloating, Dispose, Show, Hide, ShowHide, Select, BringToFront, SendBehind, Move, Size, Zoom, Draw, SetPicture, Scroll, Find, Front, Info, VisibleRegion, UpdateRegion}
 use Rattle.desk_call.specs.declared.window.MoveWindow.{MoveWindow}
 use Rattle.desk_call.specs.declared.window.SendBehind as sending
-use Rattle.def_iface.specs.Meaning.{Definition}
+use Rattle.def_iface.specs.WindowMeaning.{WindowDefinition}
 use Rattle.window_mgr.specs.FullDesk.{FullDesk, FullState, layered_desk, look_of}
 use Rattle.window_mgr.specs.Finding.{record_with}
 use Rattle.window_mgr.specs.Arrange.{Arrangement, put_next, put_behind, behind_this, in_front, without, brought, changed, at_place, with_shown, with_placement, way_to, moved, placed}
@@ -152,7 +152,7 @@ module _ (desk : FullDesk) (distinct : layers.IsDesk (layered_desk desk)) (s : �
   shown_sound a shown its still windows = stays a out.place (with_shown shown w) its still refl refl (windows ∙ ap (changed s (with_shown shown)) out.is ∙ changed_is (look_of desk) s out.place w out.rest out.serial free (with_shown shown)) (λ part p. refl)
 
   -- wherever it lies and whatever its size, the window's content has the same picture
-  pub placed_sound : (p : Placing) (d : Definition) → p.window ≡ s → IsWay p w → IsSoundArrangement (placed p d desk.windows) desk
+  pub placed_sound : (p : Placing) (d : WindowDefinition) → p.window ≡ s → IsWay p w → IsSoundArrangement (placed p d desk.windows) desk
   placed_sound p d named way = record {
     old = w;
     new = with_placement p.to d w;

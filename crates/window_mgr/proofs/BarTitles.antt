@@ -5,17 +5,17 @@ use Rattle.std.proofs.lemmas.Bool.{false≢true}
 use Rattle.tb_geom.specs.declared.point.Point.{Point}
 use Rattle.bit_map.specs.Bits.{Bits, bit, on_map}
 use Rattle.bit_blit.specs.Draws.{Draws}
-use Rattle.def_iface.specs.declared.taken.Taken.{Taken}
-use Rattle.def_iface.specs.Meaning.{Loan}
+use Rattle.def_iface.specs.Slots.{TakenBox}
+use Rattle.def_iface.specs.WindowMeaning.{WindowLoan}
 use Rattle.def_iface.specs.Stocked.{SlotView}
-use Rattle.def_iface.specs.Desk as layers
-use Rattle.def_iface.specs.Desk.{LayeredDesk}
-use Rattle.def_iface.specs.Owner.{Owner, owner, owner_among, own_bit, same_owner, is_content}
-use Rattle.def_iface.specs.Owner.Owner.{Desktop, Bar, Frame, Content}
-use Rattle.def_iface.specs.Scratch.{scratch}
-use Rattle.def_iface.specs.Change as plain
-use Rattle.def_iface.proofs.Owning.{same_owner-self}
-use Rattle.def_iface.proofs.Painting.{scratch_is_owners}
+use Rattle.desk_layers.specs.Desk as layers
+use Rattle.desk_layers.specs.Desk.{LayeredDesk}
+use Rattle.desk_layers.specs.Owner.{Owner, owner, owner_among, own_bit, same_owner, is_content}
+use Rattle.desk_layers.specs.Owner.Owner.{Desktop, Bar, Frame, Content}
+use Rattle.desk_layers.specs.Scratch.{scratch}
+use Rattle.desk_layers.specs.Change as plain
+use Rattle.desk_layers.proofs.Owning.{same_owner-self}
+use Rattle.desk_layers.proofs.Painting.{scratch_is_owners}
 use Rattle.desk_ground.specs.declared.titles.BarTitle.{BarTitle}
 use Rattle.desk_ground.specs.Bars.{bar_picture}
 use Rattle.vis_update.specs.Areas.{IsGray, IsDesktop, AreAreas, stale_in}
@@ -31,7 +31,7 @@ use Rattle.window_mgr.proofs.Committing.{not_bar_among}
 use Rattle.window_mgr.proofs.Remarked.{unless}
 use Rattle.window_mgr.proofs.Repicturing.{not_stale}
 
-module _ {V : Type 0} {H : V → Type 0} (loan : Taken V H → Loan) (t : WindowManager V H) (slots : List SlotView) (whole : IsWholeManager loan t slots) (titles : List BarTitle) (screen : Bits)
+module _ {V : Type 0} {H : V → Type 0} (loan : TakenBox V H → WindowLoan) (t : WindowManager V H) (slots : List SlotView) (whole : IsWholeManager loan t slots) (titles : List BarTitle) (screen : Bits)
     (drawn : Draws (λ p. int_lt p.v t.bar.rows) (λ p _. bar_picture t.font titles p) t.screen screen) where
   abbrev pub with_titles : WindowManager V H
   with_titles = record t { bar = record t.bar { titles = titles }; screen = screen }

@@ -7,12 +7,12 @@ use Rattle.std.proofs.lemmas.List.Elements.{All-nil, All-cons}
 use Rattle.tb_geom.specs.declared.point.Point.{Point}
 use Rattle.tb_geom.specs.Points.{PixelSet, minus}
 use Rattle.tb_geom.specs.Pixels.{Pixels, holds}
-use Rattle.def_iface.specs.declared.taken.Taken.{Taken}
-use Rattle.def_iface.specs.Meaning.{Definition, Loan, SameRegions}
-use Rattle.def_iface.specs.Desk as layers
-use Rattle.def_iface.specs.Desk.{LayeredDesk}
-use Rattle.def_iface.specs.Change.{State}
-use Rattle.def_iface.proofs.Owning.{same_number}
+use Rattle.def_iface.specs.Slots.{TakenBox}
+use Rattle.def_iface.specs.WindowMeaning.{WindowDefinition, WindowLoan, SameRegions}
+use Rattle.desk_layers.specs.Desk as layers
+use Rattle.desk_layers.specs.Desk.{LayeredDesk}
+use Rattle.desk_layers.specs.Change.{State}
+use Rattle.desk_layers.proofs.Owning.{same_number}
 use Rattle.desk_call.specs.declared.window.NewWindow.{NewWindow}
 use Rattle.window_list.specs.declared.window.Window.{Window}
 use Rattle.vis_update.specs.declared.area.Area.{Area}
@@ -69,13 +69,13 @@ lost_none old gray changed none its empty p = empty p ∙ out (holds old.visible
     out false false g = refl
 
 -- the region has what of the gray region the window at the place of an edit had, and what it covers where it is to be
-pub record IsChangedBy {V : Type 0} {H : V → Type 0} (loan : Taken V H → Loan) (e : Edit) (t : WindowManager V H) (changed : Pixels) : Type 0 where
+pub record IsChangedBy {V : Type 0} {H : V → Type 0} (loan : TakenBox V H → WindowLoan) (e : Edit) (t : WindowManager V H) (changed : Pixels) : Type 0 where
   pub area : Area
   pub at : area ≡ get_or t.areas.items e.at area
   pub is : (w : Window V H) → IsWindowAt t.windows.records.items e.at w
       → IsChangedWith area (λ p. e.shown && (loan w.taken).definition.structure e.size (minus p e.place)) t.gray changed
 
-module _ {V : Type 0} {H : V → Type 0} (loan : Taken V H → Loan) (t : WindowManager V H) (kept : IsKept loan t) where
+module _ {V : Type 0} {H : V → Type 0} (loan : TakenBox V H → WindowLoan) (t : WindowManager V H) (kept : IsKept loan t) where
   abbrev before : State
   before = layered_state (state_of loan t [])
 
@@ -159,7 +159,7 @@ module _ {V : Type 0} {H : V → Type 0} (loan : Taken V H → Loan) (t : Window
       stands_are = D.stands ∙ ap (map stand_of) (sym (put_is_insert e.to anew (rest e.at w w_is low)))
 
   -- where a new one is put in
-  pub changes_new : (floating : Bool) (w : NewWindow) (n slot : ℕ) (d begun : Definition) → t.windows.next ≡ Some n → SameRegions d begun → (old : Area) → IsNowhere old → (changed : Pixels) → IsChangedWith old (λ p. w.shown && d.structure w.size (minus p w.place)) t.gray changed → IsChangedArea before.desk (layered_desk (desk_with_new floating w n slot begun (desk_of loan t []))) changed
+  pub changes_new : (floating : Bool) (w : NewWindow) (n slot : ℕ) (d begun : WindowDefinition) → t.windows.next ≡ Some n → SameRegions d begun → (old : Area) → IsNowhere old → (changed : Pixels) → IsChangedWith old (λ p. w.shown && d.structure w.size (minus p w.place)) t.gray changed → IsChangedArea before.desk (layered_desk (desk_with_new floating w n slot begun (desk_of loan t []))) changed
   changes_new floating w n slot d begun next regions old nowhere changed its =
       changed_on n after old (λ p. w.shown && d.structure w.size (minus p w.place)) changed refl
       (others_then n were behind after.windows (others_alike n were behind (sym stands) (sym its_layers)) (record {

@@ -4,12 +4,12 @@ use Rattle.std.specs.List.{insert}
 use Rattle.std.proofs.lemmas.Bool.{not-true}
 use Rattle.std.proofs.lemmas.List.{length-map}
 use Rattle.tb_geom.specs.declared.point.Point.{Point}
-use Rattle.def_iface.specs.declared.taken.Taken.{Taken}
-use Rattle.def_iface.specs.Meaning.{Definition, Loan}
-use Rattle.def_iface.specs.Desk as layers
-use Rattle.def_iface.specs.Owner.{Owner, own_bit, frame_bit, content_bit}
-use Rattle.def_iface.specs.Owner.Owner.{Desktop, Bar, Frame, Content}
-use Rattle.def_iface.proofs.Owning.{is_other}
+use Rattle.def_iface.specs.Slots.{TakenBox}
+use Rattle.def_iface.specs.WindowMeaning.{WindowDefinition, WindowLoan}
+use Rattle.desk_layers.specs.Desk as layers
+use Rattle.desk_layers.specs.Owner.{Owner, own_bit, frame_bit, content_bit}
+use Rattle.desk_layers.specs.Owner.Owner.{Desktop, Bar, Frame, Content}
+use Rattle.desk_layers.proofs.Owning.{is_other}
 use Rattle.desk_call.specs.declared.window.NewWindow.{NewWindow}
 use Rattle.window_list.specs.Classes.{front_place, back_place}
 use Rattle.window_list.specs.Lists.{floats}
@@ -29,11 +29,11 @@ module _ (floating : Bool) where
   place_behind active false ws = refl
 
   -- the records are of the classes of their windows
-  pub place_records : {V : Type 0} {H : V → Type 0} (loan : Taken V H → Loan) (ws : List (Window V H)) → front_place is_floating floating (map (record_of loan) ws) ≡ front_place floats floating ws
+  pub place_records : {V : Type 0} {H : V → Type 0} (loan : TakenBox V H → WindowLoan) (ws : List (Window V H)) → front_place is_floating floating (map (record_of loan) ws) ≡ front_place floats floating ws
   place_records loan ws = front_map (record_of loan) floats is_floating (λ w. refl) floating ws
 
   -- nor is its back another place for them
-  pub back_records : {V : Type 0} {H : V → Type 0} (loan : Taken V H → Loan) (ws : List (Window V H)) → back_place is_floating floating (map (record_of loan) ws) ≡ back_place floats floating ws
+  pub back_records : {V : Type 0} {H : V → Type 0} (loan : TakenBox V H → WindowLoan) (ws : List (Window V H)) → back_place is_floating floating (map (record_of loan) ws) ≡ back_place floats floating ws
   back_records loan ws = by_class floating
     where
       by_class : (b : Bool) → back_place is_floating b (map (record_of loan) ws) ≡ back_place floats b ws
@@ -49,7 +49,7 @@ module _ (floating : Bool) where
   others_with w desk = windows_behind desk.active (begins_active floating w) desk.windows
 
   -- a new window stands among the others at its place
-  pub new_windows : (w : NewWindow) (n slot : ℕ) (d : Definition) (desk : FullDesk) → (desk_with_new floating w n slot d desk).windows ≡ put_in (place_on desk) (new_record floating w n slot d) (others_with w desk)
+  pub new_windows : (w : NewWindow) (n slot : ℕ) (d : WindowDefinition) (desk : FullDesk) → (desk_with_new floating w n slot d desk).windows ≡ put_in (place_on desk) (new_record floating w n slot d) (others_with w desk)
   new_windows w n slot d desk =
       (λ i. insert (others_with w desk) (place_behind desk.active (begins_active floating w) desk.windows i) (new_record floating w n slot d))
       ∙ sym (put_is_insert (place_on desk) (new_record floating w n slot d) (others_with w desk))

@@ -8,9 +8,9 @@ use Rattle.std.proofs.lemmas.Bool.{cases_eq}
 use Rattle.std.proofs.lemmas.List.{map-append}
 use Rattle.std.proofs.lemmas.List.Elements.{All-nil, All-pop, All-push}
 use Rattle.std.proofs.lemmas.Option.{slice_get-get_or}
-use Rattle.def_iface.specs.declared.taken.Taken.{Taken}
+use Rattle.def_iface.specs.Slots.{TakenBox}
 use Rattle.def_iface.specs.declared.window_def.Stage.TheVariants.{Live, Closed}
-use Rattle.def_iface.specs.Meaning.{Definition, Loan, SameLook}
+use Rattle.def_iface.specs.WindowMeaning.{WindowDefinition, WindowLoan, SameLook}
 use Rattle.def_iface.specs.Stocked.{SlotView, IsFull, is_left, holding}
 use Rattle.window_list.specs.declared.window.Window.{Window}
 use Rattle.window_list.specs.Lists.{IsLastBox}
@@ -53,19 +53,19 @@ module _ {X : Type 0} where
       (subst (λ x. R (get_or (xs ++ y ∷ []) i d) x) (get_or-append_seam xs y [] d) (pairs i (length xs) d low (omega arith)))
 
 -- an empty slot got a closed definition
-pub record Shut (loan : Loan) (old new : List SlotView) : Type 0 where
+pub record Shut (loan : WindowLoan) (old new : List SlotView) : Type 0 where
   pub view : SlotView
-  pub definition : Definition
+  pub definition : WindowDefinition
   pub found : slice_get old loan.slot ≡ Some view
   pub empty : view.held ≡ None
   pub closed : definition.stage ≡ Closed
   pub look : SameLook loan.definition definition
   pub back : new ≡ slice_set old loan.slot (holding (Some definition) view)
 
-pub shut_facts : (loan : Loan) (old new : List SlotView) → IsShut loan old new → Shut loan old new
+pub shut_facts : (loan : WindowLoan) (old new : List SlotView) → IsShut loan old new → Shut loan old new
 shut_facts loan old new shut = by_cases (slice_get old loan.slot) refl shut.left shut.back
   where
-    held_none : (o : Option Definition) → is_none o ≡ true → o ≡ None
+    held_none : (o : Option WindowDefinition) → is_none o ≡ true → o ≡ None
     held_none None e = refl
     held_none (Some d) e = absurd (cc)
 
@@ -119,10 +119,12 @@ module _ (ws : List WindowRecord) (w : WindowRecord) (old new : List SlotView) (
   -- what ends the desk without its last window ends the whole desk
   closed_with : (final : List SlotView) → IsClosed ws new final → IsClosed (ws ++ w ∷ []) old final
   closed_with final rest = record {
-    kinds = rest.kinds ∙ ap (map (λ s. s.kind)) shut.back ∙ map-set (λ (s : SlotView). s.kind) old w.slot shut.view _ shut.found refl;
+    ended = record {
+      kinds = rest.ended.kinds ∙ ap (map (λ s. s.kind)) shut.back ∙ map-set (λ (s : SlotView). s.kind) old w.slot shut.view _ shut.found refl;
+      others = others;
+      closed = All-push (IsClosedAt final) ws w rest.ended.closed (_, rest.ended.others w.slot _ here here_full, (shut.definition, refl, shut.closed, shut.look));
+    };
     full = rest.full;
-    others = others;
-    closed = All-push (IsClosedAt final) ws w rest.closed (_, rest.others w.slot _ here here_full, (shut.definition, refl, shut.closed, shut.look));
   }
     where
       others : (k : ℕ) (s : SlotView) → slice_get old k ≡ Some s → IsFull s → slice_get final k ≡ Some s
@@ -132,16 +134,18 @@ module _ (ws : List WindowRecord) (w : WindowRecord) (old new : List SlotView) (
           let is : shut.view ≡ s = cc in
           let none : None ≡ Some full.0 = sym shut.empty ∙ ap (λ (t : SlotView). t.held) is ∙ full.1 in
           cc))
-          (λ away. rest.others k s (elsewhere k away ∙ e) full)
+          (λ away. rest.ended.others k s (elsewhere k away ∙ e) full)
           (cases_eq k w.slot)
 
 -- a stock without an empty slot is as the end of a desk without a window leaves it
 closed_none : (slots : List SlotView) → IsStocked [] slots → IsClosed [] slots slots
 closed_none slots stocked = record {
-  kinds = refl;
+  ended = record {
+    kinds = refl;
+    others = λ k s e full. e;
+    closed = All-nil (IsClosedAt slots);
+  };
   full = λ k d low. ⊎_elim (λ full. full) (λ none. absurd (let within = none.1.1 in omega arith)) (stocked.others k (get_or slots k d) (slice_get-get_or slots k d low));
-  others = λ k s e full. e;
-  closed = All-nil _;
 }
 
 -- of all windows these are left to put away
@@ -155,12 +159,12 @@ pub begins : (all : List WindowRecord) (old : List SlotView) → All IsSettled a
 begins all old settled stocked = record { settled = settled; stocked = stocked; rest = λ final c. c }
 
 -- where none is left, the desk has ended
-pub ends : {V : Type 0} {H : V → Type 0} (loan : Taken V H → Loan) (all : List WindowRecord) (us : List (Window V H)) (none : us ≡ []) (old now : List SlotView) → IsUnderWay all (map (record_of loan) us) old now → IsClosed all old now
+pub ends : {V : Type 0} {H : V → Type 0} (loan : TakenBox V H → WindowLoan) (all : List WindowRecord) (us : List (Window V H)) (none : us ≡ []) (old now : List SlotView) → IsUnderWay all (map (record_of loan) us) old now → IsClosed all old now
 ends loan all us none old now under =
     let last : IsUnderWay all [] old now = subst (λ us. IsUnderWay all (map (record_of loan) us) old now) none under in
     last.rest now (closed_none now last.stocked)
 
-module _ {V : Type 0} {H : V → Type 0} (loan : Taken V H → Loan) (all : List WindowRecord) (us vs : List (Window V H)) (taken : Taken V H) (box : IsLastBox us taken vs) (old now : List SlotView) (under : IsUnderWay all (map (record_of loan) us) old now) where
+module _ {V : Type 0} {H : V → Type 0} (loan : TakenBox V H → WindowLoan) (all : List WindowRecord) (us vs : List (Window V H)) (taken : TakenBox V H) (box : IsLastBox us taken vs) (old now : List SlotView) (under : IsUnderWay all (map (record_of loan) us) old now) where
   abbrev v : Window V H
   v = box.window
 

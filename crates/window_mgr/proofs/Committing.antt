@@ -7,16 +7,16 @@ use Rattle.tb_geom.specs.Points.{minus}
 use Rattle.tb_geom.specs.Pixels.{Pixels, holds}
 use Rattle.bit_map.specs.Bits.{Bits, on_map, bit}
 use Rattle.bit_map.specs.Patterns.{pattern_bit}
-use Rattle.def_iface.specs.News.{no_news}
-use Rattle.def_iface.specs.Desk as layers
-use Rattle.def_iface.specs.Desk.{LayeredDesk}
-use Rattle.def_iface.specs.declared.part.Part.{Part as Layer}
-use Rattle.def_iface.specs.Owner.{Owner, owner, owner_among, owner_within, own_bit, same_owner, is_content, frame_bit}
-use Rattle.def_iface.specs.Owner.Owner.{Desktop, Bar, Frame, Content}
-use Rattle.def_iface.specs.Scratch.{scratch}
-use Rattle.def_iface.specs.Change as plain
-use Rattle.def_iface.proofs.Owning.{same_number, same_owner-true, is_other, owner_is_other, not_first}
-use Rattle.def_iface.proofs.Painting.{scratch_is_owners}
+use Rattle.def_iface.specs.WindowNews.{no_news}
+use Rattle.desk_layers.specs.Desk as layers
+use Rattle.desk_layers.specs.Desk.{LayeredDesk}
+use Rattle.desk_layers.specs.declared.part.Part.{Part as Layer}
+use Rattle.desk_layers.specs.Owner.{Owner, owner, owner_among, owner_within, own_bit, same_owner, is_content, frame_bit}
+use Rattle.desk_layers.specs.Owner.Owner.{Desktop, Bar, Frame, Content}
+use Rattle.desk_layers.specs.Scratch.{scratch}
+use Rattle.desk_layers.specs.Change as plain
+use Rattle.desk_layers.proofs.Owning.{same_number, same_owner-true, is_other, owner_is_other, not_first}
+use Rattle.desk_layers.proofs.Painting.{scratch_is_owners}
 use Rattle.vis_update.specs.declared.plan.Repaint.{Repaint}
 use Rattle.vis_update.specs.declared.plan.Plan.{Plan}
 use Rattle.vis_update.specs.declared.plan.Touch.{Touch}

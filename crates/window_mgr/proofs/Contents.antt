@@ -4,18 +4,18 @@ use Rattle.std.proofs.lemmas.Bool.{false≢true, and_parts}
 use Rattle.tb_geom.specs.declared.point.Point.{Point}
 use Rattle.tb_geom.specs.Points.{PixelSet, minus}
 use Rattle.draw_port.specs.Ops.{picture_bit}
-use Rattle.def_iface.specs.declared.part.Part.{Part}
-use Rattle.def_iface.specs.declared.part.Part.TheVariants as part
-use Rattle.def_iface.specs.declared.taken.Taken.{Taken}
-use Rattle.def_iface.specs.Meaning.{Loan}
+use Rattle.desk_layers.specs.declared.part.Part.{Part}
+use Rattle.desk_layers.specs.declared.part.Part.TheVariants as part
+use Rattle.def_iface.specs.Slots.{TakenBox}
+use Rattle.def_iface.specs.WindowMeaning.{WindowLoan}
 use Rattle.def_iface.specs.Stocked.{SlotView}
-use Rattle.def_iface.specs.Desk as layers
-use Rattle.def_iface.specs.Desk.{LayeredDesk, same_part}
-use Rattle.def_iface.specs.Owner.{Owner, owner, own_bit, content_bit}
-use Rattle.def_iface.specs.Owner.Owner.{Desktop, Bar, Frame, Content}
-use Rattle.def_iface.specs.Scratch.{scratch}
-use Rattle.def_iface.proofs.Owning.{same_number}
-use Rattle.def_iface.proofs.Painting.{scratch_is_owners}
+use Rattle.desk_layers.specs.Desk as layers
+use Rattle.desk_layers.specs.Desk.{LayeredDesk, same_part}
+use Rattle.desk_layers.specs.Owner.{Owner, owner, own_bit, content_bit}
+use Rattle.desk_layers.specs.Owner.Owner.{Desktop, Bar, Frame, Content}
+use Rattle.desk_layers.specs.Scratch.{scratch}
+use Rattle.desk_layers.proofs.Owning.{same_number}
+use Rattle.desk_layers.proofs.Painting.{scratch_is_owners}
 use Rattle.desk_call.specs.declared.update.LayerKind.{LayerKind}
 use Rattle.window_list.specs.Holders.{part_at, ArePartsApart}
 use Rattle.vis_update.specs.Areas.{is_content_of}
@@ -53,7 +53,7 @@ kind_content kind s (Content t a) e = (and_parts (t == s) (is_of kind a) e).0
 
 -- ---- a window of a desk with what its controls and lists show
 
-module _ {V : Type 0} {H : V → Type 0} (loan : Taken V H → Loan) (t : WindowManager V H) (slots : List SlotView) (whole : IsWholeManager loan t slots) (at : ℕ) (low : at < length t.windows.records.items) (w : Window V H) (there : IsWindowAt t.windows.records.items at w) (shows : List ℕ → Part → PixelSet) where
+module _ {V : Type 0} {H : V → Type 0} (loan : TakenBox V H → WindowLoan) (t : WindowManager V H) (slots : List SlotView) (whole : IsWholeManager loan t slots) (at : ℕ) (low : at < length t.windows.records.items) (w : Window V H) (there : IsWindowAt t.windows.records.items at w) (shows : List ℕ → Part → PixelSet) where
   abbrev full : FullDesk
   full = desk_showing shows (desk_of loan t slots)
 

@@ -1,8 +1,8 @@
 -- Windows of which one may have lost its highlighting.
 use Rattle.std.proofs.Common.{◌≡◌, ℕ, ◌==◌, Bool, true, false, if◌then◌else◌, List, [], ◌∷◌, map, Option, None, Some, refl}
 use Rattle.std.specs.Prelude.{All}
-use Rattle.def_iface.specs.declared.taken.Taken.{Taken}
-use Rattle.def_iface.specs.Meaning.{Loan}
+use Rattle.def_iface.specs.Slots.{TakenBox}
+use Rattle.def_iface.specs.WindowMeaning.{WindowLoan}
 use Rattle.def_iface.specs.Stocked.{SlotView}
 use Rattle.window_list.specs.declared.window.Window.{Window}
 use Rattle.vis_update.specs.Records.{WindowRecord, record_of}
@@ -39,7 +39,7 @@ module _ (active : Option ℕ) where
 
 -- ---- the records of the code
 
-module _ {V : Type 0} {H : V → Type 0} (loan : Taken V H → Loan) (active : Option ℕ) where
+module _ {V : Type 0} {H : V → Type 0} (loan : TakenBox V H → WindowLoan) (active : Option ℕ) where
   pub dimmed_record : (w : Window V H) → record_of loan (dimmed active w) ≡ with_highlighting false active (record_of loan w)
   dimmed_record w = by_active active
     where

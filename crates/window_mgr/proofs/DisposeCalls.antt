@@ -4,12 +4,12 @@ use Rattle.std.specs.Prelude.{All, Ok, Err}
 use Rattle.std.specs.List.{remove}
 use Rattle.std.proofs.lemmas.List.Elements.{All-head}
 use Rattle.tb_geom.specs.declared.refusal.Refusal.TheVariants.{NoMemory}
-use Rattle.def_iface.specs.declared.taken.Taken.{Taken}
+use Rattle.def_iface.specs.Slots.{TakenBox}
 use Rattle.def_iface.specs.declared.window_def.Stage.TheVariants.{Live}
-use Rattle.def_iface.specs.Meaning.{Loan}
+use Rattle.def_iface.specs.WindowMeaning.{WindowLoan}
 use Rattle.def_iface.specs.Stocked.{SlotView, is_left}
-use Rattle.def_iface.specs.Owner.{frame_bit}
-use Rattle.def_iface.specs.Change.{IsChanged, no_change}
+use Rattle.desk_layers.specs.Owner.{frame_bit}
+use Rattle.desk_layers.specs.Change.{IsChanged, no_change}
 use Rattle.window_list.specs.declared.window.Window.{Window}
 use Rattle.vis_update.specs.declared.plan.Plan.{Plan}
 use Rattle.vis_update.specs.declared.plan.Touch.{Touch}
@@ -42,7 +42,7 @@ use Rattle.window_mgr.proofs.Steps.{found, not_missing}
 use Rattle.window_mgr.proofs.Arranged.{IsArrangedCall, is_left as arranged_is_left, is_whole as arranged_is_whole, spares as arranged_spares}
 use Rattle.window_mgr.specs.Sparing.{Spares}
 
-module _ {V : Type 0} {H : V → Type 0} (loan : Taken V H → Loan) where
+module _ {V : Type 0} {H : V → Type 0} (loan : TakenBox V H → WindowLoan) where
   -- ---- a window of the list, and the rest
 
   module _ (t : WindowManager V H) (at : ℕ) (w : Window V H) (w_is : IsWindowAt t.windows.records.items at w) (low : at < length t.windows.records.items) where
@@ -53,12 +53,12 @@ module _ {V : Type 0} {H : V → Type 0} (loan : Taken V H → Loan) where
     its_own P all = All-head P (record_of loan w) (records_without loan at t) (All-out P at (record_of loan w) (records_without loan at t) (subst (All P) windows_were all))
 
   -- the definition of a window that is taken off is live
-  pub is_live : (t new : WindowManager V H) (at : ℕ) (a : Activation) (plan : Plan) (taken : Taken V H) → IsTakenOff loan at a plan taken t new → at < length t.windows.records.items
+  pub is_live : (t new : WindowManager V H) (at : ℕ) (a : Activation) (plan : Plan) (taken : TakenBox V H) → IsTakenOff loan at a plan taken t new → at < length t.windows.records.items
       → All IsSettled (map (record_of loan) t.windows.records.items) → (loan taken).definition.stage ≡ Live
   is_live t new at a plan taken off low all = ap (λ x. (loan x).definition.stage) off.its ∙ (its_own t at off.window off.there low IsSettled all).live
 
   -- its slot is there, and empty
-  pub slot_is_left : (t new : WindowManager V H) (slots : List SlotView) (at : ℕ) (a : Activation) (plan : Plan) (taken : Taken V H) → IsTakenOff loan at a plan taken t new → at < length t.windows.records.items
+  pub slot_is_left : (t new : WindowManager V H) (slots : List SlotView) (at : ℕ) (a : Activation) (plan : Plan) (taken : TakenBox V H) → IsTakenOff loan at a plan taken t new → at < length t.windows.records.items
       → All (λ v. is_left v.slot slots ≡ true) (map (record_of loan) t.windows.records.items) → is_left (loan taken).slot slots ≡ true
   slot_is_left t new slots at a plan taken off low all = ap (λ x. is_left (loan x).slot slots) off.its ∙ its_own t at off.window off.there low (λ v. is_left v.slot slots ≡ true) all
 
@@ -79,7 +79,7 @@ module _ {V : Type 0} {H : V → Type 0} (loan : Taken V H → Loan) where
 
   -- ---- all that is known where a call ended a window
 
-  pub record IsDisposeCall (s at : ℕ) (activation : Activation) (plan : Plan) (taken : Taken V H) (t new : WindowManager V H) (slots now : List SlotView) : Type 0 where
+  pub record IsDisposeCall (s at : ℕ) (activation : Activation) (plan : Plan) (taken : TakenBox V H) (t new : WindowManager V H) (slots now : List SlotView) : Type 0 where
     pub whole : IsWholeManager loan t slots
     pub low : at < length t.windows.records.items
     pub serial : (w : Window V H) → IsWindowAt t.windows.records.items at w → w.serial ≡ s
@@ -88,7 +88,7 @@ module _ {V : Type 0} {H : V → Type 0} (loan : Taken V H → Loan) where
     pub off : IsTakenOff loan at activation plan taken t new
     pub shut : IsShut (loan taken) slots now
 
-  module _ (s at : ℕ) (activation : Activation) (plan : Plan) (taken : Taken V H) (t new : WindowManager V H) (slots now : List SlotView) (N : IsDisposeCall s at activation plan taken t new slots now) where
+  module _ (s at : ℕ) (activation : Activation) (plan : Plan) (taken : TakenBox V H) (t new : WindowManager V H) (slots now : List SlotView) (N : IsDisposeCall s at activation plan taken t new slots now) where
     abbrev w : Window V H
     w = N.off.window
 
@@ -108,7 +108,7 @@ module _ {V : Type 0} {H : V → Type 0} (loan : Taken V H → Loan) where
     touch = record { window = s; by = None; whole = true }
 
     shut : IsShut (loan w.taken) slots now
-    shut = subst (λ (x : Taken V H). IsShut (loan x) slots now) N.off.its N.shut
+    shut = subst (λ (x : TakenBox V H). IsShut (loan x) slots now) N.off.its N.shut
 
     windows_are : map (record_of loan) new.windows.records.items ≡ after.windows
     windows_are = ap (map (record_of loan)) N.off.windows ∙ relit_records loan activation t.windows.active (remove t.windows.records.items at)

@@ -6,12 +6,12 @@ use Rattle.std.proofs.lemmas.List.Elements.{All-tail}
 use Rattle.std.proofs.lemmas.List.Sorted.{length_permutation}
 use Rattle.tb_geom.specs.declared.point.Point.{Point}
 use Rattle.def_iface.specs.Stocked.{SlotView}
-use Rattle.def_iface.specs.Desk as layers
-use Rattle.def_iface.specs.Owner.{Owner, owner, owner_among, own_bit, content_bit, is_content}
-use Rattle.def_iface.specs.Owner.Owner.{Desktop, Bar, Frame, Content}
-use Rattle.def_iface.specs.Change as plain
-use Rattle.def_iface.proofs.Changing.{stays_right}
-use Rattle.def_iface.proofs.Owning.{is_other, owner_is_other}
+use Rattle.desk_layers.specs.Desk as layers
+use Rattle.desk_layers.specs.Owner.{Owner, owner, owner_among, own_bit, content_bit, is_content}
+use Rattle.desk_layers.specs.Owner.Owner.{Desktop, Bar, Frame, Content}
+use Rattle.desk_layers.specs.Change as plain
+use Rattle.desk_layers.proofs.Changing.{stays_right}
+use Rattle.desk_layers.proofs.Owning.{is_other, owner_is_other}
 use Rattle.vis_update.specs.Records.{WindowRecord, layered_window}
 use Rattle.window_mgr.specs.declared.arrange.Activates.TheVariants.{FrontInItsPlace}
 use Rattle.window_mgr.specs.declared.arrange.Activation.{Activation}

@@ -11,8 +11,8 @@ use Rattle.bit_blit.specs.Draws.{Draws}
 use Rattle.draw_port.specs.declared.shapes.Op.{Op}
 use Rattle.draw_port.specs.Ops.{op_value}
 use Rattle.lent_ops.specs.OpRefs.{IsMeant}
-use Rattle.def_iface.specs.declared.taken.Taken.{Taken}
-use Rattle.def_iface.specs.Meaning.{Loan}
+use Rattle.def_iface.specs.Slots.{TakenBox}
+use Rattle.def_iface.specs.WindowMeaning.{WindowLoan}
 use Rattle.desk_call.specs.declared.window.Drawing.{Drawing}
 use Rattle.window_mgr.specs.declared.manager.WindowManager.{WindowManager}
 use Rattle.vis_update.specs.declared.area.Area.{Area}
@@ -34,7 +34,7 @@ when_ok (Err x) e h = absurd (cc)
 
 -- ---- the window that is drawn in, and its area
 
-module _ {V : Type 0} {H : V → Type 0} (loan : Taken V H → Loan) (t : WindowManager V H) (kept : IsKept loan t) (at : ℕ) (w : Window V H) (there : slice_get t.windows.records.items at ≡ Some w) where
+module _ {V : Type 0} {H : V → Type 0} (loan : TakenBox V H → WindowLoan) (t : WindowManager V H) (kept : IsKept loan t) (at : ℕ) (w : Window V H) (there : slice_get t.windows.records.items at ≡ Some w) where
   pub window_low : at < length t.windows.records.items
   window_low = slice_get_within t.windows.records.items at w there
 

@@ -7,8 +7,8 @@ use Rattle.std.proofs.lemmas.Option.{slice_get-map, slice_get-get_or, slice_get_
 use Rattle.tb_geom.specs.declared.refusal.Refusal.{Refusal}
 use Rattle.tb_geom.specs.declared.refusal.Refusal.TheVariants.{BadSyntax, BadRegion, NoSuchWindow, OutOfRange, TooLong, TooMany}
 use Rattle.lent_ops.specs.OpRefs.{IsGood, IsRefused}
-use Rattle.def_iface.specs.declared.taken.Taken.{Taken}
-use Rattle.def_iface.specs.Meaning.{Loan}
+use Rattle.def_iface.specs.Slots.{TakenBox}
+use Rattle.def_iface.specs.WindowMeaning.{WindowLoan}
 use Rattle.desk_call.specs.declared.window.Drawing.{Drawing}
 use Rattle.desk_call.specs.declared.window.WindowCall.TheVariants.{Draw}
 use Rattle.window_mgr.specs.declared.manager.WindowManager.{WindowManager}
@@ -25,7 +25,7 @@ use Rattle.window_mgr.proofs.FindLemmas.{record_at}
 
 -- ---- the window of a number in a window manager
 
-module _ {V : Type 0} {H : V → Type 0} (loan : Taken V H → Loan) (t : WindowManager V H) (kept : IsKept loan t) where
+module _ {V : Type 0} {H : V → Type 0} (loan : TakenBox V H → WindowLoan) (t : WindowManager V H) (kept : IsKept loan t) where
   pub record_there : (at n : ℕ) (x : code.Window V H) → slice_get t.windows.records.items at ≡ Some x → x.serial ≡ n → record_with n (desk_of loan t []).windows ≡ Some (record_of loan x)
   record_there at n x there number =
       ap (λ k. record_with k (desk_of loan t []).windows) (sym number)
@@ -41,7 +41,7 @@ module _ {V : Type 0} {H : V → Type 0} (loan : Taken V H → Loan) (t : Window
 
 -- ---- the refusals, one after another
 
-module _ {V : Type 0} {H : V → Type 0} (loan : Taken V H → Loan) (t : WindowManager V H) (kept : IsKept loan t) (d : Drawing) where
+module _ {V : Type 0} {H : V → Type 0} (loan : TakenBox V H → WindowLoan) (t : WindowManager V H) (kept : IsKept loan t) (d : Drawing) where
   abbrev desk : FullDesk
   desk = desk_of loan t []
 

@@ -8,14 +8,14 @@ use Rattle.tb_geom.specs.Pixels.{holds}
 use Rattle.bit_map.specs.Bits.{on_map, bit}
 use Rattle.bit_blit.specs.Draws.{Draws}
 use Rattle.draw_port.specs.Ops.{op_value}
-use Rattle.def_iface.specs.declared.taken.Taken.{Taken}
-use Rattle.def_iface.specs.Meaning.{Loan}
+use Rattle.def_iface.specs.Slots.{TakenBox}
+use Rattle.def_iface.specs.WindowMeaning.{WindowLoan}
 use Rattle.def_iface.specs.Stocked.{SlotView}
-use Rattle.def_iface.specs.Desk as layers
-use Rattle.def_iface.specs.declared.part.Part.TheVariants.{Picture}
-use Rattle.def_iface.specs.Owner.{owner, same_owner}
-use Rattle.def_iface.specs.Owner.Owner.{Content}
-use Rattle.def_iface.specs.Change as plain
+use Rattle.desk_layers.specs.Desk as layers
+use Rattle.desk_layers.specs.declared.part.Part.TheVariants.{Picture}
+use Rattle.desk_layers.specs.Owner.{owner, same_owner}
+use Rattle.desk_layers.specs.Owner.Owner.{Content}
+use Rattle.desk_layers.specs.Change as plain
 use Rattle.desk_call.specs.declared.window.Drawing.{Drawing}
 use Rattle.desk_call.specs.declared.window.WindowCall.TheVariants.{Draw}
 use Rattle.desk_call.specs.declared.window.WindowReply.TheVariants.{Done}
@@ -43,7 +43,7 @@ use Rattle.std.proofs.lemmas.Option.{slice_get_within, get_or_from_slice_get}
 
 -- ---- the desk before and after
 
-module _ {V : Type 0} {H : V → Type 0} (loan : Taken V H → Loan) (t new : WindowManager V H) (slots : List SlotView) (d : Drawing) (at : ℕ) (whole : IsWholeManager loan t slots) (may : MayDraw d t at) (D : IsDrawnAt at d t new) where
+module _ {V : Type 0} {H : V → Type 0} (loan : TakenBox V H → WindowLoan) (t new : WindowManager V H) (slots : List SlotView) (d : Drawing) (at : ℕ) (whole : IsWholeManager loan t slots) (may : MayDraw d t at) (D : IsDrawnAt at d t new) where
   abbrev before : FullDesk
   before = desk_of loan t slots
 
@@ -130,7 +130,7 @@ module _ {V : Type 0} {H : V → Type 0} (loan : Taken V H → Loan) (t new : Wi
 
 -- ---- the call, where nothing but want of memory can refuse it
 
-module _ {V : Type 0} {H : V → Type 0} (loan : Taken V H → Loan) (t u : WindowManager V H) (d : Drawing) (at : ℕ) (may : MayDraw d t at) where
+module _ {V : Type 0} {H : V → Type 0} (loan : TakenBox V H → WindowLoan) (t u : WindowManager V H) (d : Drawing) (at : ℕ) (may : MayDraw d t at) where
   pub draws : IsDrawnAt at d t u → IsStepOverAnySlots loan (Draw d) (Ok Done) t u
   draws drawn slots whole = (
     is_whole loan t u slots d at whole may drawn,

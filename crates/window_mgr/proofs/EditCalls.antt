@@ -6,11 +6,11 @@ use Rattle.std.proofs.lemmas.Bool.{and_parts, eqb-true}
 use Rattle.std.proofs.lemmas.List.Elements.{All-head, All-tail}
 use Rattle.tb_geom.specs.declared.point.Point.{Point}
 use Rattle.tb_geom.specs.Rects.{rect_holds}
-use Rattle.def_iface.specs.declared.taken.Taken.{Taken}
-use Rattle.def_iface.specs.Meaning.{Loan, IsWithin, GoesBy}
+use Rattle.def_iface.specs.Slots.{TakenBox}
+use Rattle.def_iface.specs.WindowMeaning.{WindowLoan, IsWithin, WindowGoesBy}
 use Rattle.def_iface.specs.Stocked.{SlotView}
-use Rattle.def_iface.specs.Owner.{frame_bit, own_bit}
-use Rattle.def_iface.specs.Owner.Owner.{Frame}
+use Rattle.desk_layers.specs.Owner.{frame_bit, own_bit}
+use Rattle.desk_layers.specs.Owner.Owner.{Frame}
 use Rattle.window_list.specs.declared.window.Window.{Window}
 use Rattle.window_list.specs.Ranks.{moved_item}
 use Rattle.window_list.specs.Lists.{relit, lit as lit_window, dimmed}
@@ -20,7 +20,7 @@ use Rattle.vis_update.specs.Records.{WindowRecord, news_of, record_of}
 use Rattle.vis_update.specs.Places.{is_placed}
 use Rattle.vis_update.specs.Seats.{stand_of}
 use Rattle.vis_update.specs.Touches.{moving, draws_whole}
-use Rattle.def_iface.specs.Change.{IsChanged}
+use Rattle.desk_layers.specs.Change.{IsChanged}
 use Rattle.vis_update.proofs.PlaceLemmas.{placed_parts}
 use Rattle.desk_call.specs.declared.window.WindowReply.TheVariants.{Done}
 use Rattle.window_mgr.specs.declared.arrange.Activates.{Activates}
@@ -46,7 +46,7 @@ use Rattle.window_mgr.proofs.Committing.{turned}
 use Rattle.window_mgr.proofs.Arranged.{IsArrangedCall, is_left as arranged_is_left, is_whole as arranged_is_whole, spares as arranged_spares}
 use Rattle.window_mgr.specs.Sparing.{Spares}
 
-module _ {V : Type 0} {H : V → Type 0} (loan : Taken V H → Loan) where
+module _ {V : Type 0} {H : V → Type 0} (loan : TakenBox V H → WindowLoan) where
   -- ---- the records of the code, after an activation
 
   lit_record : (s : Option ℕ) (w : Window V H) → record_of loan (lit_window s w) ≡ with_highlighting true s (record_of loan w)
@@ -109,7 +109,7 @@ module _ {V : Type 0} {H : V → Type 0} (loan : Taken V H → Loan) where
           inside = its.moved;
           layers = fit.1;
           within = subst (λ s. IsWithin ((loan w.taken).definition.content s) (rect_holds ((loan w.taken).definition.bounds s))) (sym size_is) was.within;
-          goes_by = subst (λ s. GoesBy (record (news_of (record_of loan w)) { size = s }) (loan w.taken).definition) (sym size_is) was.goes_by;
+          goes_by = subst (λ s. WindowGoesBy (record (news_of (record_of loan w)) { size = s }) (loan w.taken).definition) (sym size_is) was.goes_by;
         }
 
     pub settled_after : IsPlaceable loan e t.windows.records.items → e.size ≡ w.size → All IsSettled (desk_of loan t slots).windows

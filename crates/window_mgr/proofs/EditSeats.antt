@@ -8,9 +8,9 @@ use Rattle.std.proofs.lemmas.List.Elements.{All-head, All-tail, All-get_or}
 use Rattle.tb_geom.specs.declared.point.Point.{Point}
 use Rattle.tb_geom.specs.Points.{minus}
 use Rattle.tb_geom.specs.Pixels.{Pixels, holds}
-use Rattle.def_iface.specs.declared.taken.Taken.{Taken}
-use Rattle.def_iface.specs.Meaning.{Loan}
-use Rattle.def_iface.specs.Change.{State}
+use Rattle.def_iface.specs.Slots.{TakenBox}
+use Rattle.def_iface.specs.WindowMeaning.{WindowLoan}
+use Rattle.desk_layers.specs.Change.{State}
 use Rattle.window_list.specs.declared.window.Window.{Window}
 use Rattle.window_list.specs.Ranks.{insert_option, moved_item}
 use Rattle.window_list.specs.Lists.{edit}
@@ -110,7 +110,7 @@ read_map f (y ∷ ys) zero x e = ap f e
 read_map f (y ∷ ys) (suc i) x e = read_map f ys i x e
 
 -- seats that stand as windows do, of the same classes, have the same first visible ordinary one
-pub first_stand : {V : Type 0} {H : V → Type 0} (loan : Taken V H → Loan) (ss : List (Seat V H)) (ws : List WindowRecord) → map (seat_stand loan) ss ≡ map stand_of ws → map (seat_floats) ss ≡ map is_floating ws → first_seated ss ≡ front_of ws
+pub first_stand : {V : Type 0} {H : V → Type 0} (loan : TakenBox V H → WindowLoan) (ss : List (Seat V H)) (ws : List WindowRecord) → map (seat_stand loan) ss ≡ map stand_of ws → map (seat_floats) ss ≡ map is_floating ws → first_seated ss ≡ front_of ws
 first_stand loan [] [] e c = refl
 first_stand loan [] (v ∷ vs) e c = absurd (cc)
 first_stand loan (s ∷ ss) [] e c = absurd (cc)
@@ -121,7 +121,7 @@ first_stand loan (s ∷ ss) (v ∷ vs) e c =
     let classes : map (seat_floats) ss ≡ map is_floating vs = cc in
     λ i. if (here i).shown && not (its_class i) then Some (here i).serial else first_stand loan ss vs behind classes i
 
-module _ {V : Type 0} {H : V → Type 0} (loan : Taken V H → Loan) (t : WindowManager V H) (kept : IsKept loan t) (e : Edit) (seats : List (Seat V H)) (S : AreSeatsAfter e t.windows.records.items t.areas.items seats) (low : e.at < length t.windows.records.items) where
+module _ {V : Type 0} {H : V → Type 0} (loan : TakenBox V H → WindowLoan) (t : WindowManager V H) (kept : IsKept loan t) (e : Edit) (seats : List (Seat V H)) (S : AreSeatsAfter e t.windows.records.items t.areas.items seats) (low : e.at < length t.windows.records.items) where
   within : e.at < length S.all
   within = let n = lengths_of t.windows.records.items t.areas.items S.all S.are in omega arith
 
@@ -242,14 +242,14 @@ module _ {V : Type 0} {H : V → Type 0} (loan : Taken V H → Loan) (t : Window
     front_put = first_stand loan seats (records_put loan e w t) seats_put classes_put
 
 -- a window that stays where it is, with its size, may be there
-pub may_stay : {V : Type 0} {H : V → Type 0} (loan : Taken V H → Loan) (e : Edit) (ws : List (Window V H)) (x : Window V H) → e.at < length ws → IsWindowAt ws e.at x → e.place ≡ x.place → e.size ≡ x.size → All IsSettled (map (record_of loan) ws) → IsPlaceable loan e ws
+pub may_stay : {V : Type 0} {H : V → Type 0} (loan : TakenBox V H → WindowLoan) (e : Edit) (ws : List (Window V H)) (x : Window V H) → e.at < length ws → IsWindowAt ws e.at x → e.place ≡ x.place → e.size ≡ x.size → All IsSettled (map (record_of loan) ws) → IsPlaceable loan e ws
 may_stay loan e ws x low x_is place_is size_is settled w w_is =
     let same : x ≡ w = same_at ws e.at x w low x_is w_is in
     let its = settled_in loan ws e.at w low w_is settled in
     (λ i. may_stand ((place_is ∙ ap (λ (z : Window _ _). z.place) same) i) ((size_is ∙ ap (λ (z : Window _ _). z.size) same) i) (record_of loan w))
     ∙ (λ i. placed_from (loan w.taken).definition w.place w.size its.placed its.fits its.inside i && its.layers i)
 
-pub may_stay_as : {V : Type 0} {H : V → Type 0} (loan : Taken V H → Loan) (e f : Edit) (ws : List (Window V H)) (x : Window V H) → e ≡ f → f.at < length ws → IsWindowAt ws f.at x → f.place ≡ x.place → f.size ≡ x.size → All IsSettled (map (record_of loan) ws) → IsPlaceable loan e ws
+pub may_stay_as : {V : Type 0} {H : V → Type 0} (loan : TakenBox V H → WindowLoan) (e f : Edit) (ws : List (Window V H)) (x : Window V H) → e ≡ f → f.at < length ws → IsWindowAt ws f.at x → f.place ≡ x.place → f.size ≡ x.size → All IsSettled (map (record_of loan) ws) → IsPlaceable loan e ws
 may_stay_as loan e f ws x same low x_is place_is size_is settled = subst (λ (y : Edit). IsPlaceable loan y ws) (sym same) (may_stay loan f ws x low x_is place_is size_is settled)
 
 -- and has its size

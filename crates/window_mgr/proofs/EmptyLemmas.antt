@@ -11,14 +11,14 @@ use Rattle.tb_geom.specs.Rects.{between}
 use Rattle.tb_geom.specs.Pixels.{holds}
 use Rattle.bit_map.specs.Bits.{on_map, bit}
 use Rattle.bit_map.specs.Patterns.{pattern_bit}
-use Rattle.def_iface.specs.declared.taken.Taken.{Taken}
-use Rattle.def_iface.specs.Meaning.{Loan}
+use Rattle.def_iface.specs.Slots.{TakenBox}
+use Rattle.def_iface.specs.WindowMeaning.{WindowLoan}
 use Rattle.def_iface.specs.Stocked.{SlotView, IsFull}
-use Rattle.def_iface.specs.Desk as layers
-use Rattle.def_iface.specs.Owner.{owner, own_bit, same_owner, is_content}
-use Rattle.def_iface.specs.Owner.Owner.{Bar, Desktop}
-use Rattle.def_iface.specs.Scratch.{scratch}
-use Rattle.def_iface.proofs.Painting.{scratch_is_owners}
+use Rattle.desk_layers.specs.Desk as layers
+use Rattle.desk_layers.specs.Owner.{owner, own_bit, same_owner, is_content}
+use Rattle.desk_layers.specs.Owner.Owner.{Bar, Desktop}
+use Rattle.desk_layers.specs.Scratch.{scratch}
+use Rattle.desk_layers.proofs.Painting.{scratch_is_owners}
 use Rattle.window_mgr.specs.declared.manager.WindowManager.{WindowManager}
 use Rattle.vis_update.specs.declared.area.Area.{Area}
 use Rattle.window_mgr.specs.FullDesk.{FullDesk, layered_desk}
@@ -61,7 +61,7 @@ pub record IsBegun {V : Type 0} {H : V → Type 0} (width height bar : ℤ) (fon
   pub active : t.windows.active ≡ None
   pub next : t.windows.next ≡ Some 1
 
-module _ {V : Type 0} {H : V → Type 0} (loan : Taken V H → Loan) (width height bar : ℤ) (font : List ℕ) (t : WindowManager V H) (B : IsBegun width height bar font t) (slots : List SlotView) (full : All IsFull slots) where
+module _ {V : Type 0} {H : V → Type 0} (loan : TakenBox V H → WindowLoan) (width height bar : ℤ) (font : List ℕ) (t : WindowManager V H) (B : IsBegun width height bar font t) (slots : List SlotView) (full : All IsFull slots) where
   abbrev empty : FullDesk
   empty = empty_desk width height bar font slots
 

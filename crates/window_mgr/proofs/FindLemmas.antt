@@ -13,14 +13,14 @@ use Rattle.std.proofs.lemmas.List.Quantifiers.{position-Some}
 use Rattle.tb_geom.specs.declared.point.Point.{Point}
 use Rattle.tb_geom.specs.Points.{PixelSet, minus}
 use Rattle.tb_geom.specs.Pixels.{holds}
-use Rattle.def_iface.specs.News.{no_news}
-use Rattle.def_iface.specs.declared.taken.Taken.{Taken}
-use Rattle.def_iface.specs.Meaning.{Loan}
-use Rattle.def_iface.specs.Desk as layers
-use Rattle.def_iface.specs.Desk.{LayeredDesk}
-use Rattle.def_iface.specs.Owner.{Owner, owner, owner_among, same_owner}
-use Rattle.def_iface.specs.Owner.Owner.{Desktop, Bar, Frame, Content}
-use Rattle.def_iface.proofs.Owning.{same_number, same_owner-true, not_first}
+use Rattle.def_iface.specs.WindowNews.{no_news}
+use Rattle.def_iface.specs.Slots.{TakenBox}
+use Rattle.def_iface.specs.WindowMeaning.{WindowLoan}
+use Rattle.desk_layers.specs.Desk as layers
+use Rattle.desk_layers.specs.Desk.{LayeredDesk}
+use Rattle.desk_layers.specs.Owner.{Owner, owner, owner_among, same_owner}
+use Rattle.desk_layers.specs.Owner.Owner.{Desktop, Bar, Frame, Content}
+use Rattle.desk_layers.proofs.Owning.{same_number, same_owner-true, not_first}
 use Rattle.vis_update.specs.declared.area.Area.{Area}
 use Rattle.window_list.specs.Holders.{part_at as layer_at}
 use Rattle.vis_update.proofs.LayerOwners.{first_owner, owner_first}
@@ -132,7 +132,7 @@ none_has desk stale (w ∷ ws) [] p on h none = absurd h
 
 -- ---- what is found on a window manager
 
-module _ {V : Type 0} {H : V → Type 0} (loan : Taken V H → Loan) (t : WindowManager V H) (A : IsKept loan t) (p : Point) where
+module _ {V : Type 0} {H : V → Type 0} (loan : TakenBox V H → WindowLoan) (t : WindowManager V H) (A : IsKept loan t) (p : Point) where
   abbrev desk : LayeredDesk
   desk = layered_desk (desk_of loan t [])
 
@@ -187,12 +187,12 @@ module _ {V : Type 0} {H : V → Type 0} (loan : Taken V H → Loan) (t : Window
       rw on (ap (λ o. found_by windows o p) its)
 
 -- the first visible ordinary window, of the list and of its records
-pub front-records : {V : Type 0} {H : V → Type 0} (loan : Taken V H → Loan) (ws : List (Window V H)) → front_of (map (record_of loan) ws) ≡ first_leading ws
+pub front-records : {V : Type 0} {H : V → Type 0} (loan : TakenBox V H → WindowLoan) (ws : List (Window V H)) → front_of (map (record_of loan) ws) ≡ first_leading ws
 front-records loan [] = refl
 front-records loan (w ∷ ws) = ap (λ o. if leads w then Some w.serial else o) (front-records loan ws)
 
 -- what the search for a number among the windows tells
-module _ {V : Type 0} {H : V → Type 0} (loan : Taken V H → Loan) (s : ℕ) where
+module _ {V : Type 0} {H : V → Type 0} (loan : TakenBox V H → WindowLoan) (s : ℕ) where
   missing : (ws : List (Window V H)) → ((i : ℕ) (d : Window V H) → i < length ws → has_serial s (get_or ws i d) ≡ false) → record_with s (map (record_of loan) ws) ≡ None
   missing [] none = refl
   missing (w ∷ ws) none =

@@ -3,14 +3,14 @@ use Rattle.std.proofs.Common.{◌≡◌, ℕ, ◌==◌, Bool, true, false, if◌
 use Rattle.tb_geom.specs.declared.point.Point.{Point}
 use Rattle.tb_geom.specs.Points.{minus}
 use Rattle.draw_port.specs.Ops.{picture_bit}
-use Rattle.def_iface.specs.News.{News}
-use Rattle.def_iface.specs.Meaning.{Hears}
+use Rattle.def_iface.specs.WindowNews.{WindowNews}
+use Rattle.def_iface.specs.WindowMeaning.{WindowHears}
 use Rattle.def_iface.specs.declared.window_def.WindowChange.{WindowChange}
-use Rattle.def_iface.specs.declared.part.Part.{Part}
-use Rattle.def_iface.specs.Desk as layers
-use Rattle.def_iface.specs.Owner.{layer_bit, content_bit}
-use Rattle.def_iface.specs.Change as plain
-use Rattle.def_iface.proofs.Changing.{stays_right}
+use Rattle.desk_layers.specs.declared.part.Part.{Part}
+use Rattle.desk_layers.specs.Desk as layers
+use Rattle.desk_layers.specs.Owner.{layer_bit, content_bit}
+use Rattle.desk_layers.specs.Change as plain
+use Rattle.desk_layers.proofs.Changing.{stays_right}
 use Rattle.vis_update.specs.Records.{WindowRecord, layered_window}
 use Rattle.window_mgr.specs.declared.arrange.Activation.TheVariants.{Stays}
 use Rattle.window_mgr.specs.Arrange.{changed}
@@ -45,7 +45,7 @@ told_keeps_layers change = record {
 
 -- ---- a right state stays right
 
-module _ (s : ℕ) (news : WindowRecord → News → News) (kept : WindowRecord → WindowRecord) (before after : FullState) (keeps : KeepsLayers kept) (right : IsRightState before) (done : IsFrameNotified s news kept before after) where
+module _ (s : ℕ) (news : WindowRecord → WindowNews → WindowNews) (kept : WindowRecord → WindowRecord) (before after : FullState) (keeps : KeepsLayers kept) (right : IsRightState before) (done : IsFrameNotified s news kept before after) where
   abbrev w : WindowRecord
   w = done.window
 
@@ -84,7 +84,7 @@ module _ (s : ℕ) (news : WindowRecord → News → News) (kept : WindowRecord 
     serials = subst (λ (x : FullDesk). AreSerials x.next x.windows) (sym desk_is) (numbered_now before.desk w.serial out.place out.place w v out.rest edit Stays right.serials);
   }
 
-pub frame_told_stays_right : (s : ℕ) (news : WindowRecord → News → News) (kept : WindowRecord → WindowRecord) (before after : FullState) → KeepsLayers kept → IsRightState before → IsFrameNotified s news kept before after → IsRightState after
+pub frame_told_stays_right : (s : ℕ) (news : WindowRecord → WindowNews → WindowNews) (kept : WindowRecord → WindowRecord) (before after : FullState) → KeepsLayers kept → IsRightState before → IsFrameNotified s news kept before after → IsRightState after
 frame_told_stays_right s news kept before after keeps right done = told_right s news kept before after keeps right done
 
 -- ---- what the record keeps
@@ -102,7 +102,7 @@ changed_alike s f g w (y ∷ ys) found same = by_test (λ e. changed_alike s f g
     by_test behind false e = ap (λ xs. y ∷ xs) (behind e)
 
 -- so what its record keeps is told by that record alone
-pub told_alike : (s : ℕ) {news : WindowRecord → News → News} (f g : WindowRecord → WindowRecord) (w : WindowRecord) (before after : FullState) → record_with s before.desk.windows ≡ Some w → f w ≡ g w → IsFrameNotified s news f before after → IsFrameNotified s news g before after
+pub told_alike : (s : ℕ) {news : WindowRecord → WindowNews → WindowNews} (f g : WindowRecord → WindowRecord) (w : WindowRecord) (before after : FullState) → record_with s before.desk.windows ≡ Some w → f w ≡ g w → IsFrameNotified s news f before after → IsFrameNotified s news g before after
 told_alike s f g w before after found same done = record {
   window = done.window;
   definition = done.definition;
@@ -115,7 +115,7 @@ told_alike s f g w before after found same done = record {
 }
 
 -- what its definition is told is told by the record alone
-pub told_likewise : (s : ℕ) (f : News → News) (g : WindowRecord → News → News) (kept : WindowRecord → WindowRecord) (w : WindowRecord) (before after : FullState) → record_with s before.desk.windows ≡ Some w → f ≡ g w → IsFrameNotified s (λ _. f) kept before after → IsFrameNotified s g kept before after
+pub told_likewise : (s : ℕ) (f : WindowNews → WindowNews) (g : WindowRecord → WindowNews → WindowNews) (kept : WindowRecord → WindowRecord) (w : WindowRecord) (before after : FullState) → record_with s before.desk.windows ≡ Some w → f ≡ g w → IsFrameNotified s (λ _. f) kept before after → IsFrameNotified s g kept before after
 told_likewise s f g kept w before after found same done =
     let its : w ≡ done.window = cc in
     record {
@@ -126,7 +126,7 @@ told_likewise s f g kept w before after found same done =
         live = done.told.live;
         told = done.told.told;
         regions = done.told.regions;
-        heard = subst (λ (h : News → News). Hears h done.window.definition done.definition) (same ∙ ap g its) done.told.heard;
+        heard = subst (λ (h : WindowNews → WindowNews). WindowHears h done.window.definition done.definition) (same ∙ ap g its) done.told.heard;
       };
       desk = done.desk;
       pixels = done.pixels;

@@ -3,16 +3,16 @@ use Rattle.std.proofs.Common.{◌≡◌, ℕ, zero, suc, ◌==◌, true, false, 
 use Rattle.tb_geom.specs.declared.point.Point.{Point}
 use Rattle.tb_geom.specs.Points.{minus}
 use Rattle.draw_port.specs.Ops.{picture_bit}
-use Rattle.def_iface.specs.News.{no_news, told_change}
+use Rattle.def_iface.specs.WindowNews.{no_news, told_change}
 use Rattle.def_iface.specs.declared.window_def.WindowChange.{WindowChange}
 use Rattle.def_iface.specs.declared.window_def.WindowChange.TheVariants.{Resized, Titled, Highlighted, Closable, Zoomed, Tracked}
-use Rattle.def_iface.specs.Meaning.{Definition, SameRegions, Hears, GoesBy}
-use Rattle.def_iface.specs.Desk as layers
-use Rattle.def_iface.specs.declared.part.Part.TheVariants.{Picture}
-use Rattle.def_iface.specs.Owner.{owner, owner_among, owner_within, own_bit, frame_bit}
-use Rattle.def_iface.specs.Owner.Owner.{Bar, Frame}
+use Rattle.def_iface.specs.WindowMeaning.{WindowDefinition, SameRegions, WindowHears, WindowGoesBy}
+use Rattle.desk_layers.specs.Desk as layers
+use Rattle.desk_layers.specs.declared.part.Part.TheVariants.{Picture}
+use Rattle.desk_layers.specs.Owner.{owner, owner_among, owner_within, own_bit, frame_bit}
+use Rattle.desk_layers.specs.Owner.Owner.{Bar, Frame}
 use Rattle.def_iface.proofs.Hearing.{goes_by_news}
-use Rattle.def_iface.proofs.Owning.{same_number}
+use Rattle.desk_layers.proofs.Owning.{same_number}
 use Rattle.window_list.specs.Changes.{keeps_size}
 use Rattle.vis_update.specs.Records.{WindowRecord, Look, content_layer, layered_window, news_of}
 use Rattle.window_mgr.specs.declared.arrange.Activation.TheVariants.{Stays}
@@ -25,7 +25,7 @@ use Rattle.window_mgr.proofs.Rearranged.{IsEdit, free, free_now, others_found}
 -- ---- the record of the window
 
 -- the record with the title, the highlighting, the go-away box and the news of that one, and with this definition
-abbrev pub noted : WindowRecord → Definition → WindowRecord → WindowRecord
+abbrev pub noted : WindowRecord → WindowDefinition → WindowRecord → WindowRecord
 noted said d w = record w {
   title = said.title;
   highlighted = said.highlighted;
@@ -47,8 +47,8 @@ told_keeps (Zoomed b) w = refl
 told_keeps (Tracked b) w = refl
 
 -- its definition, told of the change, goes by the record as that is now
-pub told_goes_by : (change : WindowChange) (w : WindowRecord) (d : Definition) → keeps_size change ≡ true
-    → GoesBy (news_of w) w.definition → Hears (told_change change) w.definition d → GoesBy (news_of (noted (notified_record change w) d w)) d
+pub told_goes_by : (change : WindowChange) (w : WindowRecord) (d : WindowDefinition) → keeps_size change ≡ true
+    → WindowGoesBy (news_of w) w.definition → WindowHears (told_change change) w.definition d → WindowGoesBy (news_of (noted (notified_record change w) d w)) d
 told_goes_by (Resized s) w d keeps goes heard = absurd (cc)
 told_goes_by (Titled t) w d keeps goes heard = goes_by_news (told_change (Titled t)) (news_of w) (news_of (noted (notified_record (Titled t) w) d w)) w.definition d (λ n. refl) (λ n. refl) goes heard
 told_goes_by (Highlighted b) w d keeps goes heard = goes_by_news (told_change (Highlighted b)) (news_of w) (news_of (noted (notified_record (Highlighted b) w) d w)) w.definition d (λ n. refl) (λ n. refl) goes heard
@@ -58,7 +58,7 @@ told_goes_by (Tracked b) w d keeps goes heard = goes_by_news (told_change (Track
 
 -- ---- whose the pixels are
 
-module _ (look : Look) (w : WindowRecord) (said : WindowRecord) (d : Definition) (regions : SameRegions w.definition d) where
+module _ (look : Look) (w : WindowRecord) (said : WindowRecord) (d : WindowDefinition) (regions : SameRegions w.definition d) where
   -- as layers the window has another frame alone
   same_layers : layered_window look (noted said d w) ≡ record (layered_window look w) { frame = d.picture no_news look.font }
   same_layers = λ k. record {
@@ -77,7 +77,7 @@ module _ (look : Look) (w : WindowRecord) (said : WindowRecord) (d : Definition)
 
 -- ---- the desk
 
-module _ (before : FullDesk) (distinct : layers.IsDesk (layered_desk before)) (i : ℕ) (w : WindowRecord) (rest : List WindowRecord) (windows : before.windows ≡ put_in i w rest) (said : WindowRecord) (d : Definition) (regions : SameRegions w.definition d) where
+module _ (before : FullDesk) (distinct : layers.IsDesk (layered_desk before)) (i : ℕ) (w : WindowRecord) (rest : List WindowRecord) (windows : before.windows ≡ put_in i w rest) (said : WindowRecord) (d : WindowDefinition) (regions : SameRegions w.definition d) where
   abbrev v : WindowRecord
   v = noted said d w
 

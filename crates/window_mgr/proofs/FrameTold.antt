@@ -12,22 +12,22 @@ use Rattle.tb_geom.specs.Rects.{in_plane, is_in_range, moved_rect, rect_holds}
 use Rattle.bit_map.specs.Bits.{Bits, on_map, bit}
 use Rattle.bit_blit.specs.Draws.{Draws, IsWritten}
 use Rattle.window_mgr.specs.Sparing.{IsRepainted, Repaints}
-use Rattle.def_iface.specs.News.{no_news, told_change}
+use Rattle.def_iface.specs.WindowNews.{no_news, told_change}
 use Rattle.def_iface.specs.declared.size.Size.{Size}
-use Rattle.def_iface.specs.declared.taken.Taken.{Taken}
+use Rattle.def_iface.specs.Slots.{TakenBox}
 use Rattle.def_iface.specs.declared.window_def.WindowChange.{WindowChange}
 use Rattle.def_iface.specs.declared.window_def.WindowChange.TheVariants.{Resized, Titled, Highlighted, Closable, Zoomed, Tracked}
-use Rattle.def_iface.specs.Meaning.{Definition, Loan, IsWithin}
+use Rattle.def_iface.specs.WindowMeaning.{WindowDefinition, WindowLoan, IsWithin}
 use Rattle.def_iface.specs.Sizes.{is_size}
 use Rattle.def_iface.specs.Stocked.{SlotView}
-use Rattle.def_iface.specs.Desk as layers
-use Rattle.def_iface.specs.Desk.{LayeredDesk}
-use Rattle.def_iface.specs.Owner.{Owner, owner, owner_among, owner_within, own_bit, same_owner, is_content}
-use Rattle.def_iface.specs.Owner.Owner.{Desktop, Bar, Frame, Content}
-use Rattle.def_iface.specs.Scratch.{scratch}
-use Rattle.def_iface.specs.Change as plain
-use Rattle.def_iface.proofs.Owning.{same_number, same_owner-self, is_other, owner_is_other}
-use Rattle.def_iface.proofs.Painting.{scratch_is_owners}
+use Rattle.desk_layers.specs.Desk as layers
+use Rattle.desk_layers.specs.Desk.{LayeredDesk}
+use Rattle.desk_layers.specs.Owner.{Owner, owner, owner_among, owner_within, own_bit, same_owner, is_content}
+use Rattle.desk_layers.specs.Owner.Owner.{Desktop, Bar, Frame, Content}
+use Rattle.desk_layers.specs.Scratch.{scratch}
+use Rattle.desk_layers.specs.Change as plain
+use Rattle.desk_layers.proofs.Owning.{same_number, same_owner-self, is_other, owner_is_other}
+use Rattle.desk_layers.proofs.Painting.{scratch_is_owners}
 use Rattle.vis_update.specs.declared.area.Area.{Area}
 use Rattle.vis_update.specs.Areas.{IsArea, AreAreas, IsGray, IsDesktop, is_content_of, stale_in}
 use Rattle.vis_update.specs.Records.{WindowRecord, Look, layered_window, record_of}
@@ -96,9 +96,9 @@ frame_in look (y ∷ ys) (suc i) w p distinct e its =
 
 -- ---- the window's record, in the list
 
-module _ {V : Type 0} {H : V → Type 0} (loan : Taken V H → Loan) where
+module _ {V : Type 0} {H : V → Type 0} (loan : TakenBox V H → WindowLoan) where
   -- its layers lie where they did
-  told_lies : (change : WindowChange) (x : Window V H) (taken : Taken V H) → LieThere x → LieThere (record (with_change change x) { taken = taken })
+  told_lies : (change : WindowChange) (x : Window V H) (taken : TakenBox V H) → LieThere x → LieThere (record (with_change change x) { taken = taken })
   told_lies (Resized s) x taken its = its
   told_lies (Titled t) x taken its = its
   told_lies (Highlighted b) x taken its = its
@@ -107,7 +107,7 @@ module _ {V : Type 0} {H : V → Type 0} (loan : Taken V H → Loan) where
   told_lies (Tracked b) x taken its = its
 
   -- the record is what it is to be
-  record_told : (change : WindowChange) (x : Window V H) (taken : Taken V H) → (loan taken).slot ≡ (loan x.taken).slot
+  record_told : (change : WindowChange) (x : Window V H) (taken : TakenBox V H) → (loan taken).slot ≡ (loan x.taken).slot
       → record_of loan (record (with_change change x) { taken = taken }) ≡ record (notified_record change (record_of loan x)) { definition = (loan taken).definition }
   record_told (Resized s) x taken slot = λ k. record (record_of loan x) { definition = (loan taken).definition; slot = slot k }
   record_told (Titled t) x taken slot = λ k. record (record_of loan x) { title = t.now; definition = (loan taken).definition; slot = slot k }
@@ -132,7 +132,7 @@ module _ {V : Type 0} {H : V → Type 0} (loan : Taken V H → Loan) where
     abbrev w : WindowRecord
     w = record_of loan x
 
-    abbrev d : Definition
+    abbrev d : WindowDefinition
     d = (loan T.taken).definition
 
     abbrev v : WindowRecord

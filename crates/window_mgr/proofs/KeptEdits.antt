@@ -4,10 +4,10 @@ use Rattle.std.specs.Prelude.{Contains}
 use Rattle.std.specs.List.{remove}
 use Rattle.std.proofs.lemmas.Bool.{eqb-true}
 use Rattle.tb_geom.specs.declared.point.Point.{Point}
-use Rattle.def_iface.specs.declared.taken.Taken.{Taken}
-use Rattle.def_iface.specs.Meaning.{Definition, Loan}
-use Rattle.def_iface.specs.Desk as layers
-use Rattle.def_iface.proofs.Owning.{same_number}
+use Rattle.def_iface.specs.Slots.{TakenBox}
+use Rattle.def_iface.specs.WindowMeaning.{WindowDefinition, WindowLoan}
+use Rattle.desk_layers.specs.Desk as layers
+use Rattle.desk_layers.proofs.Owning.{same_number}
 use Rattle.desk_call.specs.declared.window.NewWindow.{NewWindow}
 use Rattle.window_list.specs.declared.window.Window.{Window}
 use Rattle.vis_update.specs.declared.plan.Touch.{Touch}
@@ -27,7 +27,7 @@ use Rattle.window_mgr.proofs.DimLemmas.{windows_behind}
 use Rattle.window_mgr.proofs.KeptWindows.{Was, all_were, kept_as_it_was, kept_anew, among_all, none_free, none_moves, one_or_rest, same_behind}
 use Rattle.window_mgr.proofs.PutIn.{put_in, put_is_insert, taken_out, map-put, IsFree}
 
-module _ {V : Type 0} {H : V → Type 0} (loan : Taken V H → Loan) (t : WindowManager V H) (distinct : layers.IsDesk (layered_desk (desk_of loan t []))) where
+module _ {V : Type 0} {H : V → Type 0} (loan : TakenBox V H → WindowLoan) (t : WindowManager V H) (distinct : layers.IsDesk (layered_desk (desk_of loan t []))) where
   abbrev before : FullDesk
   before = desk_of loan t []
 
@@ -73,7 +73,7 @@ module _ {V : Type 0} {H : V → Type 0} (loan : Taken V H → Loan) (t : Window
         (all_were after.windows (put_in e.to anew rest) (D.stands ∙ ap (map stand_of) (sym (put_is_insert e.to anew rest))) (D.layers ∙ ap (map (λ (x : WindowRecord). x.layers)) (sym (put_is_insert e.to anew rest))) v now)))
 
   -- a call that puts a new window among the others, whose serial owned nothing
-  pub new_keeps : (floating : Bool) (w : NewWindow) (n slot : ℕ) (begun : Definition) (touch : Touch) → touch.window ≡ n → IsFree (look_on t) n before.windows
+  pub new_keeps : (floating : Bool) (w : NewWindow) (n slot : ℕ) (begun : WindowDefinition) (touch : Touch) → touch.window ≡ n → IsFree (look_on t) n before.windows
       → KeepsLayers touch (layered_desk before) (layered_desk (desk_with_new floating w n slot begun before))
   new_keeps floating w n slot begun touch about free = keeps_layers touch (look_on t) (look_on t) before.windows after.windows (layered_desk before) (layered_desk after) refl refl
       (λ u v there now. elim (one_or_others v now) [

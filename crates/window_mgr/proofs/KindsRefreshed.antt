@@ -7,9 +7,9 @@ use Rattle.tb_geom.specs.Pixels.{Pixels, holds}
 use Rattle.bit_map.specs.Bits.{Bits}
 use Rattle.bit_blit.specs.Draws.{Draws}
 use Rattle.bit_blit.proofs.DrawsLemmas.{Draws-where}
-use Rattle.def_iface.specs.declared.part.Part.{Part}
-use Rattle.def_iface.specs.declared.taken.Taken.{Taken}
-use Rattle.def_iface.specs.Meaning.{Loan}
+use Rattle.desk_layers.specs.declared.part.Part.{Part}
+use Rattle.def_iface.specs.Slots.{TakenBox}
+use Rattle.def_iface.specs.WindowMeaning.{WindowLoan}
 use Rattle.def_iface.specs.Stocked.{SlotView}
 use Rattle.desk_call.specs.declared.update.LayerKind.{LayerKind}
 use Rattle.vis_update.specs.declared.area.Area.{Area}
@@ -27,7 +27,7 @@ use Rattle.window_mgr.proofs.EditSeats.{same_at}
 use Rattle.window_mgr.proofs.Refreshed.{refreshed}
 use Rattle.window_mgr.proofs.Remarked as remarked
 
-module _ {V : Type 0} {H : V → Type 0} (loan : Taken V H → Loan) (t : WindowManager V H) (slots : List SlotView) (whole : IsWholeManager loan t slots) (at : ℕ) (low : at < length t.windows.records.items) (w : Window V H) (there : IsWindowAt t.windows.records.items at w) (a : Area) (read : a ≡ get_or t.areas.items at a) (shows : List ℕ → Part → PixelSet) where
+module _ {V : Type 0} {H : V → Type 0} (loan : TakenBox V H → WindowLoan) (t : WindowManager V H) (slots : List SlotView) (whole : IsWholeManager loan t slots) (at : ℕ) (low : at < length t.windows.records.items) (w : Window V H) (there : IsWindowAt t.windows.records.items at w) (a : Area) (read : a ≡ get_or t.areas.items at a) (shows : List ℕ → Part → PixelSet) where
   -- the layers of a kind were drawn, where the area and the window go by other names
   pub kind_refreshed : (kind : LayerKind) (update : Pixels) → ((p : Point) → holds update p ≡ (holds a.update p && not (is_kind_there kind w p))) → (screen : Bits)
       → (b : Area) → b ≡ get_or t.areas.items at b → (v : Window V H) → IsWindowAt t.windows.records.items at v

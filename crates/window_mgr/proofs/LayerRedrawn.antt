@@ -9,19 +9,19 @@ use Rattle.tb_geom.specs.Pixels.{holds}
 use Rattle.tb_geom.specs.Rects.{rect_holds}
 use Rattle.bit_map.specs.Bits.{Bits, bit}
 use Rattle.bit_blit.specs.Draws.{Draws}
-use Rattle.def_iface.specs.declared.part.Part.{Part}
-use Rattle.def_iface.specs.declared.part.Part.TheVariants as part
-use Rattle.def_iface.specs.declared.taken.Taken.{Taken}
-use Rattle.def_iface.specs.Meaning.{Loan}
+use Rattle.desk_layers.specs.declared.part.Part.{Part}
+use Rattle.desk_layers.specs.declared.part.Part.TheVariants as part
+use Rattle.def_iface.specs.Slots.{TakenBox}
+use Rattle.def_iface.specs.WindowMeaning.{WindowLoan}
 use Rattle.def_iface.specs.Stocked.{SlotView}
-use Rattle.def_iface.specs.Desk as layers
-use Rattle.def_iface.specs.Desk.{LayeredDesk, same_part}
-use Rattle.def_iface.specs.Owner.{Owner, owner, same_owner, is_content}
-use Rattle.def_iface.specs.Owner.Owner.{Content}
-use Rattle.def_iface.specs.Scratch.{scratch}
-use Rattle.def_iface.specs.Change as plain
-use Rattle.def_iface.specs.Change.{Change}
-use Rattle.def_iface.proofs.Owning.{same_number, same_owner-true, same_part-self, same_part-true}
+use Rattle.desk_layers.specs.Desk as layers
+use Rattle.desk_layers.specs.Desk.{LayeredDesk, same_part}
+use Rattle.desk_layers.specs.Owner.{Owner, owner, same_owner, is_content}
+use Rattle.desk_layers.specs.Owner.Owner.{Content}
+use Rattle.desk_layers.specs.Scratch.{scratch}
+use Rattle.desk_layers.specs.Change as plain
+use Rattle.desk_layers.specs.Change.{Change}
+use Rattle.desk_layers.proofs.Owning.{same_number, same_owner-true, same_part-self, same_part-true}
 use Rattle.window_list.specs.declared.layer.Layer.{Layer}
 use Rattle.window_list.specs.Holders.{ArePartsApart, part_at, belongs_to, layer_has}
 use Rattle.window_list.proofs.Parts.{IsFrontApart, belongs_to-none, front_apart}
@@ -43,7 +43,7 @@ use Rattle.window_mgr.proofs.Remarked.{unless}
 use Rattle.window_mgr.proofs.LayerThere as here
 use Rattle.window_mgr.proofs.LayerThere.{no_part}
 
-module _ {V : Type 0} {H : V → Type 0} (loan : Taken V H → Loan) (t : WindowManager V H) (slots : List SlotView) (whole : IsWholeManager loan t slots) (at : ℕ) (low : at < length t.windows.records.items) (w : Window V H) (there : IsWindowAt t.windows.records.items at w) (a : Area) (read : a ≡ get_or t.areas.items at a)
+module _ {V : Type 0} {H : V → Type 0} (loan : TakenBox V H → WindowLoan) (t : WindowManager V H) (slots : List SlotView) (whole : IsWholeManager loan t slots) (at : ℕ) (low : at < length t.windows.records.items) (w : Window V H) (there : IsWindowAt t.windows.records.items at w) (a : Area) (read : a ≡ get_or t.areas.items at a)
     (was now : List ℕ → Part → PixelSet) (q : Part) (layered : same_part q part.Picture ≡ false) (within : Rect) (screen : Bits)
     (drawn : Draws (λ p. ((holds a.visible p && belongs_to q w.layers.layers (minus p w.layers.place)) && not (holds a.update p)) && rect_holds within (minus p w.place)) (λ p _. now t.font q (minus p w.place)) t.screen screen) where
   abbrev full : FullDesk
@@ -177,7 +177,7 @@ holder (k ∷ ks) (suc index) l p apart low read e = by_test (layer_has k p) ref
         absurd (false≢true (sym (subst (λ (x : Layer). same_part k.part x.part ≡ false) (sym read) (front.others index l (omega arith))) ∙ ap (λ q. same_part k.part q) (sym e) ∙ same_part-self k.part))
 
 -- the layer at this index of the window was drawn so, where the window goes by another name too
-pub index_redrawn : {V : Type 0} {H : V → Type 0} (loan : Taken V H → Loan) (t : WindowManager V H) (slots : List SlotView) (whole : IsWholeManager loan t slots) (at : ℕ) → at < length t.windows.records.items
+pub index_redrawn : {V : Type 0} {H : V → Type 0} (loan : TakenBox V H → WindowLoan) (t : WindowManager V H) (slots : List SlotView) (whole : IsWholeManager loan t slots) (at : ℕ) → at < length t.windows.records.items
     → (w : Window V H) → IsWindowAt t.windows.records.items at w → (a : Area) → a ≡ get_or t.areas.items at a → (was now : List ℕ → Part → PixelSet)
     → (index : ℕ) → index < length w.layers.layers → (l : Layer) → l ≡ get_or w.layers.layers index l → (v : Window V H) → IsWindowAt t.windows.records.items at v → (within : Rect) (screen : Bits)
     → ((k : Layer) → k ≡ get_or v.layers.layers index k → Draws (λ p. ((holds a.visible p && belongs_to k.part v.layers.layers (minus p v.layers.place)) && not (holds a.update p)) && rect_holds within (minus p v.place)) (λ p _. now t.font k.part (minus p v.place)) t.screen screen)

@@ -7,11 +7,11 @@ use Rattle.std.proofs.lemmas.Result.{IfOk-weaker}
 use Rattle.tb_geom.specs.declared.point.Point.{Point}
 use Rattle.tb_geom.specs.Points.{minus}
 use Rattle.tb_geom.specs.Pixels.{Pixels, holds}
-use Rattle.def_iface.specs.declared.part.Part.{Part}
-use Rattle.def_iface.specs.declared.taken.Taken.{Taken}
-use Rattle.def_iface.specs.Meaning.{Loan}
-use Rattle.def_iface.specs.Desk.{LayeredDesk}
-use Rattle.def_iface.specs.Change.{State}
+use Rattle.desk_layers.specs.declared.part.Part.{Part}
+use Rattle.def_iface.specs.Slots.{TakenBox}
+use Rattle.def_iface.specs.WindowMeaning.{WindowLoan}
+use Rattle.desk_layers.specs.Desk.{LayeredDesk}
+use Rattle.desk_layers.specs.Change.{State}
 use Rattle.window_list.specs.declared.layer.Layer.{Layer}
 use Rattle.window_list.specs.declared.layers.Relaid.{Relaid}
 use Rattle.window_list.specs.Holders.{PlacedLayers, belongs_to}
@@ -50,7 +50,7 @@ none_drawn ls afresh drawn is drawn_is part part_is p =
 
 -- ---- the plan
 
-module _ {V : Type 0} {H : V → Type 0} (loan : Taken V H → Loan) (t : WindowManager V H) (at : ℕ) (a : Area) (read : a ≡ get_or t.areas.items at a) (update : Pixels) where
+module _ {V : Type 0} {H : V → Type 0} (loan : TakenBox V H → WindowLoan) (t : WindowManager V H) (at : ℕ) (a : Area) (read : a ≡ get_or t.areas.items at a) (update : Pixels) where
   -- the plan of other layers of the window at this place is one where as much of its content is visible, and this is to be
   -- redrawn
   pub planned : (relaid : Relaid) (afresh : Option ℕ) (drawn : Option (Bor Pixels)) (result : Result Relaying AllocError) → AreDrawn relaid.layers afresh drawn

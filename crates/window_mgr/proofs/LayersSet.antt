@@ -13,16 +13,16 @@ use Rattle.bit_map.specs.Modes.{mode_bit}
 use Rattle.bit_map.specs.Patterns.{pattern_bit}
 use Rattle.bit_blit.specs.Draws.{Draws}
 use Rattle.bit_blit.proofs.DrawsLemmas.{Draws-value}
-use Rattle.def_iface.specs.declared.part.Part.{Part}
-use Rattle.def_iface.specs.declared.part.Part.TheVariants.{Picture}
-use Rattle.def_iface.specs.declared.taken.Taken.{Taken}
-use Rattle.def_iface.specs.Meaning.{Loan}
+use Rattle.desk_layers.specs.declared.part.Part.{Part}
+use Rattle.desk_layers.specs.declared.part.Part.TheVariants.{Picture}
+use Rattle.def_iface.specs.Slots.{TakenBox}
+use Rattle.def_iface.specs.WindowMeaning.{WindowLoan}
 use Rattle.def_iface.specs.Stocked.{SlotView}
-use Rattle.def_iface.specs.Desk as layers
-use Rattle.def_iface.specs.Desk.{LayeredDesk}
-use Rattle.def_iface.specs.Owner.{owner, own_bit, same_owner, is_content}
-use Rattle.def_iface.specs.Owner.Owner.{Desktop}
-use Rattle.def_iface.specs.Change as plain
+use Rattle.desk_layers.specs.Desk as layers
+use Rattle.desk_layers.specs.Desk.{LayeredDesk}
+use Rattle.desk_layers.specs.Owner.{owner, own_bit, same_owner, is_content}
+use Rattle.desk_layers.specs.Owner.Owner.{Desktop}
+use Rattle.desk_layers.specs.Change as plain
 use Rattle.window_list.specs.declared.layer.Layer.{Layer}
 use Rattle.window_list.specs.Holders.{PlacedLayers, ArePartsApart, belongs_to}
 use Rattle.vis_update.specs.declared.area.Area.{Area}
@@ -80,7 +80,7 @@ module _ {V : Type 0} {H : V → Type 0} (placed : PlacedLayers) (w : Window V H
 
 -- ---- the window in between, which has the layers already
 
-module _ {V : Type 0} {H : V → Type 0} (loan : Taken V H → Loan) (t : WindowManager V H) (held : IsKept loan t) (at : ℕ) (low : at < length t.windows.records.items) (placed : PlacedLayers) (windows : WindowList V H) (changed : windows ≡ record t.windows { records = edit_at (with_layers placed) at t.windows.records }) where
+module _ {V : Type 0} {H : V → Type 0} (loan : TakenBox V H → WindowLoan) (t : WindowManager V H) (held : IsKept loan t) (at : ℕ) (low : at < length t.windows.records.items) (placed : PlacedLayers) (windows : WindowList V H) (changed : windows ≡ record t.windows { records = edit_at (with_layers placed) at t.windows.records }) where
   at_place : (w : Window V H) → IsWindowAt t.windows.records.items at w → slice_get t.windows.records.items at ≡ Some w
   at_place w there = slice_get-get_or t.windows.records.items at w low ∙ ap Some (sym there)
 
@@ -101,7 +101,7 @@ module _ {V : Type 0} {H : V → Type 0} (loan : Taken V H → Loan) (t : Window
 
 -- ---- the window manager
 
-module _ {V : Type 0} {H : V → Type 0} (loan : Taken V H → Loan) (t : WindowManager V H) (slots : List SlotView) (whole : IsWholeManager loan t slots) (at : ℕ) (low : at < length t.windows.records.items) (w : Window V H) (there : IsWindowAt t.windows.records.items at w) (a : Area) (read : a ≡ get_or t.areas.items at a)
+module _ {V : Type 0} {H : V → Type 0} (loan : TakenBox V H → WindowLoan) (t : WindowManager V H) (slots : List SlotView) (whole : IsWholeManager loan t slots) (at : ℕ) (low : at < length t.windows.records.items) (w : Window V H) (there : IsWindowAt t.windows.records.items at w) (a : Area) (read : a ≡ get_or t.areas.items at a)
     (placed : PlacedLayers) (may : MayHaveLayers at t placed) (part : Option Part) (r : Relaying) (plan : IsPlanOfLayers loan at placed.layers part t r)
     (shows : List ℕ → Part → PixelSet) (mid end : Bits) (white : Draws (holds r.erase) (λ p _. false) t.screen mid) (drawn : IsDrawnAfresh part placed w.place r (shows t.font) mid end) where
   abbrev before : FullDesk
@@ -191,7 +191,7 @@ module _ {V : Type 0} {H : V → Type 0} (loan : Taken V H → Loan) (t : Window
     layers_set = (is_whole, are_set)
 
 -- the layers were set, all was drawn, and the update region was put
-pub committed : {V : Type 0} {H : V → Type 0} (loan : Taken V H → Loan) (t : WindowManager V H) (slots : List SlotView) (whole : IsWholeManager loan t slots) (at : ℕ) (low : at < length t.windows.records.items) (w : Window V H) (there : IsWindowAt t.windows.records.items at w)
+pub committed : {V : Type 0} {H : V → Type 0} (loan : TakenBox V H → WindowLoan) (t : WindowManager V H) (slots : List SlotView) (whole : IsWholeManager loan t slots) (at : ℕ) (low : at < length t.windows.records.items) (w : Window V H) (there : IsWindowAt t.windows.records.items at w)
     (placed : PlacedLayers) (may : MayHaveLayers at t placed) (part : Option Part) (r : Relaying) (plan : IsPlanOfLayers loan at placed.layers part t r)
     (shows was : List ℕ → Part → PixelSet) (mid end : Bits) (white : Draws (holds r.erase) (λ p _. false) t.screen mid) (drawn : IsDrawnAfresh part placed w.place r (shows t.font) mid end)
     (windows : WindowList V H) (u v : WindowManager V H) → windows ≡ record t.windows { records = edit_at (with_layers placed) at t.windows.records } → u ≡ record t { windows = windows; screen = end } → IsUpdatePut at r.update u v

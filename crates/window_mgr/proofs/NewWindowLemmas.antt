@@ -12,17 +12,17 @@ use Rattle.tb_geom.specs.declared.rect.Rect.{Rect}
 use Rattle.tb_geom.specs.Points.{PixelSet}
 use Rattle.tb_geom.specs.Rects.{in_plane, is_in_range, moved_rect, rect_holds}
 use Rattle.bit_map.specs.Bits.{Bits}
-use Rattle.def_iface.specs.declared.taken.Taken.{Taken}
+use Rattle.def_iface.specs.Slots.{TakenBox}
 use Rattle.def_iface.specs.declared.size.Size.{Size}
 use Rattle.def_iface.specs.Sizes.{is_size}
-use Rattle.def_iface.specs.News.{AllNews, new_window_news}
-use Rattle.def_iface.specs.Meaning.{Definition, Loan, IsBegun, IsWithin, is_fitting}
+use Rattle.def_iface.specs.WindowNews.{AllWindowNews, new_window_news}
+use Rattle.def_iface.specs.WindowMeaning.{WindowDefinition, WindowLoan, IsBegun, IsWithin, is_fitting}
 use Rattle.def_iface.specs.Stocked.{SlotView, IsTaken, IsNotTaken, IsPutBack}
-use Rattle.def_iface.specs.Desk as layers
-use Rattle.def_iface.specs.Owner.{own_bit}
-use Rattle.def_iface.specs.Owner.Owner.{Frame}
+use Rattle.desk_layers.specs.Desk as layers
+use Rattle.desk_layers.specs.Owner.{own_bit}
+use Rattle.desk_layers.specs.Owner.Owner.{Frame}
 use Rattle.def_iface.proofs.Hearing.{goes_by_all}
-use Rattle.def_iface.specs.Change as plain
+use Rattle.desk_layers.specs.Change as plain
 use Rattle.desk_call.specs.declared.window.NewWindow.{NewWindow}
 use Rattle.desk_call.specs.declared.window.WindowCall.TheVariants.{New, NewFloating}
 use Rattle.desk_call.specs.declared.window.WindowReply.TheVariants.{Made}
@@ -78,19 +78,19 @@ unrefused w placed count next e = by_tests placed (nat_lt longest_text (length w
     by_tests false b c ea eb ec e = absurd (cc)
 
 -- a window that nothing refuses has a size that fits it
-pub unrefused_fits : (w : NewWindow) (d : Definition) (count : ℕ) (next : Option ℕ) → first_refusal (judged_refusals w (is_placed (Some d) w.place w.size) count next) ≡ None → is_fitting d w.size ≡ true
+pub unrefused_fits : (w : NewWindow) (d : WindowDefinition) (count : ℕ) (next : Option ℕ) → first_refusal (judged_refusals w (is_placed (Some d) w.place w.size) count next) ≡ None → is_fitting d w.size ≡ true
 unrefused_fits w d count next e = (placed_parts d w.place w.size (unrefused w _ count next e).placed_is).fits
 
 -- and it may stand where it is to be
-pub unrefused_placed : (w : NewWindow) (d : Definition) (count : ℕ) (next : Option ℕ) → first_refusal (judged_refusals w (is_placed (Some d) w.place w.size) count next) ≡ None → is_placed (Some d) w.place w.size ≡ true
+pub unrefused_placed : (w : NewWindow) (d : WindowDefinition) (count : ℕ) (next : Option ℕ) → first_refusal (judged_refusals w (is_placed (Some d) w.place w.size) count next) ≡ None → is_placed (Some d) w.place w.size ≡ true
 unrefused_placed w d count next e = (unrefused w _ count next e).placed_is
 
 -- and its place is a point
-pub unrefused_place : (w : NewWindow) (d : Definition) (count : ℕ) (next : Option ℕ) → first_refusal (judged_refusals w (is_placed (Some d) w.place w.size) count next) ≡ None → in_plane w.place ≡ true
+pub unrefused_place : (w : NewWindow) (d : WindowDefinition) (count : ℕ) (next : Option ℕ) → first_refusal (judged_refusals w (is_placed (Some d) w.place w.size) count next) ≡ None → in_plane w.place ≡ true
 unrefused_place w d count next e = (placed_parts d w.place w.size (unrefused w _ count next e).placed_is).place_in
 
 -- and its structure there lies in the range of coordinates
-pub unrefused_inside : (w : NewWindow) (d : Definition) (count : ℕ) (next : Option ℕ) → first_refusal (judged_refusals w (is_placed (Some d) w.place w.size) count next) ≡ None → is_in_range (moved_rect (d.bounds w.size) w.place.h w.place.v) ≡ true
+pub unrefused_inside : (w : NewWindow) (d : WindowDefinition) (count : ℕ) (next : Option ℕ) → first_refusal (judged_refusals w (is_placed (Some d) w.place w.size) count next) ≡ None → is_in_range (moved_rect (d.bounds w.size) w.place.h w.place.v) ≡ true
 unrefused_inside w d count next e = (placed_parts d w.place w.size (unrefused w _ count next e).placed_is).moved
 
 -- a desk that may get one more window has less than there may be
@@ -106,17 +106,17 @@ length_behind active true ws = length-map ws (with_highlighting false active)
 length_behind active false ws = refl
 
 -- the content still lies in the box once the definition has begun
-begun_within : (size : Size) {all : AllNews} (d begun : Definition) → IsBegun all d begun → IsWithin (d.content size) (rect_holds (d.bounds size)) → IsWithin (begun.content size) (rect_holds (begun.bounds size))
+begun_within : (size : Size) {all : AllWindowNews} (d begun : WindowDefinition) → IsBegun all d begun → IsWithin (d.content size) (rect_holds (d.bounds size)) → IsWithin (begun.content size) (rect_holds (begun.bounds size))
 begun_within size {all} d begun live within =
     subst (λ (x : (Size → PixelSet) × (Size → Rect)). IsWithin (x.0 size) (rect_holds (x.1 size))) (λ i. (sym live.regions.content i, sym live.regions.bounds i)) within
 
 -- a definition that was told an equal title
-pub begun_as : {size : Size} {t u : List ℕ} {go_away highlighted : Bool} {d begun : Definition} → t ≡ u
+pub begun_as : {size : Size} {t u : List ℕ} {go_away highlighted : Bool} {d begun : WindowDefinition} → t ≡ u
     → IsBegun (new_window_news size t go_away highlighted) d begun → IsBegun (new_window_news size u go_away highlighted) d begun
 begun_as {size} {t} {u} {go_away} {highlighted} {d} {begun} e live = subst (λ x. IsBegun (new_window_news size x go_away highlighted) d begun) e live
 
 -- the record of a new window is settled
-pub settled_new : (floating : Bool) (w : NewWindow) (n slot : ℕ) (d begun : Definition) → IsBegun (first_news floating w) d begun → is_placed (Some d) w.place w.size ≡ true → IsWithin (d.content w.size) (rect_holds (d.bounds w.size)) → IsSettled (new_record floating w n slot begun)
+pub settled_new : (floating : Bool) (w : NewWindow) (n slot : ℕ) (d begun : WindowDefinition) → IsBegun (first_news floating w) d begun → is_placed (Some d) w.place w.size ≡ true → IsWithin (d.content w.size) (rect_holds (d.bounds w.size)) → IsSettled (new_record floating w n slot begun)
 settled_new floating w n slot d begun live placed within =
     let its = placed_parts d w.place w.size placed in
     record {
@@ -154,7 +154,7 @@ module _ {V : Type 0} {H : V → Type 0} (added : Window V H) (active : Option �
       omega arith
 
 -- all windows are settled, with a new one among them
-pub settled_added : {V : Type 0} {H : V → Type 0} (loan : Taken V H → Loan) (floating : Bool) (w : NewWindow) (n slot : ℕ) (d begun : Definition) (added : Window V H) (active : Option ℕ) (ws items : List (Window V H)) → record_of loan added ≡ new_record floating w n slot begun → items ≡ with_new active added ws → IsBegun (first_news floating w) d begun → is_placed (Some d) w.place w.size ≡ true → IsWithin (d.content w.size) (rect_holds (d.bounds w.size)) → All IsSettled (map (record_of loan) ws) → All IsSettled (map (record_of loan) items)
+pub settled_added : {V : Type 0} {H : V → Type 0} (loan : TakenBox V H → WindowLoan) (floating : Bool) (w : NewWindow) (n slot : ℕ) (d begun : WindowDefinition) (added : Window V H) (active : Option ℕ) (ws items : List (Window V H)) → record_of loan added ≡ new_record floating w n slot begun → items ≡ with_new active added ws → IsBegun (first_news floating w) d begun → is_placed (Some d) w.place w.size ≡ true → IsWithin (d.content w.size) (rect_holds (d.bounds w.size)) → All IsSettled (map (record_of loan) ws) → All IsSettled (map (record_of loan) items)
 settled_added loan floating w n slot d begun added active ws items seen items_are live placed within settled =
     let k = place_in added active ws items items_are in
     let others = others_in added active ws items items_are in
@@ -162,9 +162,9 @@ settled_added loan floating w n slot d begun added active ws items seen items_ar
     (sym (ap (map (record_of loan)) (put_among added active ws items items_are) ∙ map-put (record_of loan) k added others ∙ (λ i. put_in k (seen i) (records_behind loan active (leads added) ws i))))
     (All-put IsSettled k (new_record floating w n slot begun) (windows_behind active (leads added) (map (record_of loan) ws)) (settled_new floating w n slot d begun live placed within) (settled_behind active (leads added) (map (record_of loan) ws) settled))
 
-module _ {V : Type 0} {H : V → Type 0} (loan : Taken V H → Loan) where
+module _ {V : Type 0} {H : V → Type 0} (loan : TakenBox V H → WindowLoan) where
   -- all that is known where a window was added
-  pub record IsNew (floating : Bool) (w : NewWindow) (n : ℕ) (taken : Loan) (touch : Touch) (plan : Plan) (t planned new : WindowManager V H) (slots left : List SlotView) : Type 0 where
+  pub record IsNew (floating : Bool) (w : NewWindow) (n : ℕ) (taken : WindowLoan) (touch : Touch) (plan : Plan) (t planned new : WindowManager V H) (slots left : List SlotView) : Type 0 where
     pub whole : IsWholeManager loan t slots
     pub same : SameDesk t planned
     pub unrefused_is : first_refusal (judged_refusals w (is_placed (Some taken.definition) w.place w.size) (length t.windows.records.items) t.windows.next) ≡ None
@@ -175,7 +175,7 @@ module _ {V : Type 0} {H : V → Type 0} (loan : Taken V H → Loan) where
     pub took : IsTaken w.kind taken slots left
     pub within : IsWithin (taken.definition.content w.size) (rect_holds (taken.definition.bounds w.size))
 
-  module _ (floating : Bool) (w : NewWindow) (n : ℕ) (taken : Loan) (touch : Touch) (plan : Plan) (t planned new : WindowManager V H) (slots left : List SlotView) (N : IsNew floating w n taken touch plan t planned new slots left) where
+  module _ (floating : Bool) (w : NewWindow) (n : ℕ) (taken : WindowLoan) (touch : Touch) (plan : Plan) (t planned new : WindowManager V H) (slots left : List SlotView) (N : IsNew floating w n taken touch plan t planned new slots left) where
     abbrev before : FullDesk
     before = desk_of loan t slots
 
@@ -324,7 +324,7 @@ module _ {V : Type 0} {H : V → Type 0} (loan : Taken V H → Loan) where
         by_class false made = (refusal_is loan w taken t slots left N.took ∙ N.unrefused_is, (n, refl, made))
 
   -- the call was refused: the definition is back in its slot
-  pub is_not_made : (floating : Bool) (w : NewWindow) (e : Refusal) (taken : Loan) (t planned : WindowManager V H) (slots left back : List SlotView) → IsWholeManager loan t slots → IsTaken w.kind taken slots left → IsUnplanned w (is_placed (Some taken.definition) w.place w.size) (length t.windows.records.items) t.windows.next e → SameDesk t planned → IsPutBack taken left back
+  pub is_not_made : (floating : Bool) (w : NewWindow) (e : Refusal) (taken : WindowLoan) (t planned : WindowManager V H) (slots left back : List SlotView) → IsWholeManager loan t slots → IsTaken w.kind taken slots left → IsUnplanned w (is_placed (Some taken.definition) w.place w.size) (length t.windows.records.items) t.windows.next e → SameDesk t planned → IsPutBack taken left back
       → IsWindowStep (if floating then NewFloating w else New w) (Err e) (state_of loan t slots) (state_of loan planned back)
   is_not_made floating w e taken t planned slots left back whole took unplanned same back_is = by_class floating
     where

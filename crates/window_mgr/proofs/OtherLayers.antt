@@ -8,13 +8,13 @@ use Rattle.std.proofs.lemmas.Option.{slice_get-map}
 use Rattle.std.proofs.lemmas.List.Elements.{All-cons, All-head, All-tail}
 use Rattle.tb_geom.specs.declared.point.Point.{Point}
 use Rattle.tb_geom.specs.Points.{PixelSet, minus}
-use Rattle.def_iface.specs.declared.part.Part.{Part}
-use Rattle.def_iface.specs.declared.part.Part.TheVariants.{Picture}
-use Rattle.def_iface.specs.declared.taken.Taken.{Taken}
-use Rattle.def_iface.specs.Meaning.{Loan}
-use Rattle.def_iface.specs.Desk as layers
-use Rattle.def_iface.specs.Owner.{frame_bit}
-use Rattle.def_iface.proofs.Owning.{same_number, not_first}
+use Rattle.desk_layers.specs.declared.part.Part.{Part}
+use Rattle.desk_layers.specs.declared.part.Part.TheVariants.{Picture}
+use Rattle.def_iface.specs.Slots.{TakenBox}
+use Rattle.def_iface.specs.WindowMeaning.{WindowLoan}
+use Rattle.desk_layers.specs.Desk as layers
+use Rattle.desk_layers.specs.Owner.{frame_bit}
+use Rattle.desk_layers.proofs.Owning.{same_number, not_first}
 use Rattle.window_list.specs.declared.layer.Layer.{Layer}
 use Rattle.window_list.specs.Holders.{PlacedLayers, ArePartsApart, fits_at}
 use Rattle.window_list.proofs.Parts.{front_apart, same_part-turned}
@@ -138,7 +138,7 @@ module _ (n : ℕ) (ls : List Layer) where
 
 -- ---- a window of the list that is given other layers
 
-module _ {V : Type 0} {H : V → Type 0} (loan : Taken V H → Loan) (look : Look) (placed : PlacedLayers) where
+module _ {V : Type 0} {H : V → Type 0} (loan : TakenBox V H → WindowLoan) (look : Look) (placed : PlacedLayers) where
   pub put_is_map : (ws : List (Window V H)) (i : ℕ) (x : Window V H) → layers.AreWindows (map (layered_window look) (map (record_of loan) ws)) → slice_get ws i ≡ Some x
       → map (record_of loan) (edit (with_layers placed) i ws) ≡ map (relaid x.serial placed.layers) (map (record_of loan) ws)
   put_is_map [] i x distinct there = absurd (cc)

@@ -13,8 +13,8 @@ use Rattle.bit_map.specs.Modes.{mode_bit}
 use Rattle.bit_map.specs.Patterns.{pattern_bit}
 use Rattle.bit_blit.specs.Draws.{DrawsOnce}
 use Rattle.bit_blit.proofs.OnceLemmas.{Once-on_map}
-use Rattle.def_iface.specs.declared.taken.Taken.{Taken}
-use Rattle.def_iface.specs.Meaning.{Loan}
+use Rattle.def_iface.specs.Slots.{TakenBox}
+use Rattle.def_iface.specs.WindowMeaning.{WindowLoan}
 use Rattle.vis_update.specs.declared.plan.Repaint.{Repaint}
 use Rattle.vis_update.specs.declared.plan.Plan.{Plan}
 use Rattle.window_list.specs.declared.window.Window.{Window}
@@ -35,7 +35,7 @@ settled_placed w its = record { placed = its.placed; live = its.live; told = its
 
 -- ---- the parts of windows
 
-module _ {V : Type 0} {H : V → Type 0} (loan : Taken V H → Loan) where
+module _ {V : Type 0} {H : V → Type 0} (loan : TakenBox V H → WindowLoan) where
   -- a window of settled ones is settled
   pub settled_in : (ws : List (Window V H)) (i : ℕ) (x : Window V H) → i < length ws → x ≡ get_or ws i x → All IsSettled (map (record_of loan) ws) → IsSettled (record_of loan x)
   settled_in ws i x low read settled =

@@ -8,14 +8,14 @@ use Rattle.tb_geom.specs.declared.refusal.Refusal.TheVariants.{OutOfRange, NoMem
 use Rattle.tb_geom.specs.Pixels.{Pixels, holds}
 use Rattle.tb_geom.specs.Rects.{in_plane}
 use Rattle.bit_map.specs.Bits.{Bits, bit}
-use Rattle.def_iface.specs.declared.taken.Taken.{Taken}
-use Rattle.def_iface.specs.Meaning.{Loan}
+use Rattle.def_iface.specs.Slots.{TakenBox}
+use Rattle.def_iface.specs.WindowMeaning.{WindowLoan}
 use Rattle.def_iface.specs.Stocked.{SlotView}
-use Rattle.def_iface.specs.Desk as layers
-use Rattle.def_iface.specs.declared.part.Part.TheVariants.{Picture}
-use Rattle.def_iface.specs.Owner.{owner, same_owner}
-use Rattle.def_iface.specs.Owner.Owner.{Content}
-use Rattle.def_iface.specs.Change as plain
+use Rattle.desk_layers.specs.Desk as layers
+use Rattle.desk_layers.specs.declared.part.Part.TheVariants.{Picture}
+use Rattle.desk_layers.specs.Owner.{owner, same_owner}
+use Rattle.desk_layers.specs.Owner.Owner.{Content}
+use Rattle.desk_layers.specs.Change as plain
 use Rattle.desk_call.specs.declared.window.NewPicture.{NewPicture}
 use Rattle.desk_call.specs.declared.window.WindowCall.TheVariants.{SetPicture}
 use Rattle.desk_call.specs.declared.window.WindowReply.TheVariants.{Done}
@@ -50,7 +50,7 @@ use Rattle.tb_geom.specs.Points.{PixelSet}
 
 -- ---- what the code did
 
-module _ {V : Type 0} {H : V → Type 0} (loan : Taken V H → Loan) (t : WindowManager V H) (held : IsKept loan t) (at s : ℕ) (stands : StandsAt t.windows.records.items s at) where
+module _ {V : Type 0} {H : V → Type 0} (loan : TakenBox V H → WindowLoan) (t : WindowManager V H) (held : IsKept loan t) (at s : ℕ) (stands : StandsAt t.windows.records.items s at) where
   -- the window's area is there
   pub area_low : at < length t.areas.items
   area_low =
@@ -86,7 +86,7 @@ module _ {V : Type 0} {H : V → Type 0} (loan : Taken V H → Loan) (t : Window
 
 -- ---- the desk before and after
 
-module _ {V : Type 0} {H : V → Type 0} (loan : Taken V H → Loan) (t new : WindowManager V H) (slots : List SlotView) (n : NewPicture) (at : ℕ) (whole : IsWholeManager loan t slots) (placed : in_plane n.origin ≡ true) (stands : StandsAt t.windows.records.items n.window at) (D : IsPictureAt at n t new) where
+module _ {V : Type 0} {H : V → Type 0} (loan : TakenBox V H → WindowLoan) (t new : WindowManager V H) (slots : List SlotView) (n : NewPicture) (at : ℕ) (whole : IsWholeManager loan t slots) (placed : in_plane n.origin ≡ true) (stands : StandsAt t.windows.records.items n.window at) (D : IsPictureAt at n t new) where
   abbrev before : FullDesk
   before = desk_of loan t slots
 
@@ -179,7 +179,7 @@ module _ {V : Type 0} {H : V → Type 0} (loan : Taken V H → Loan) (t new : Wi
 
 -- ---- the call
 
-module _ {V : Type 0} {H : V → Type 0} (loan : Taken V H → Loan) (t : WindowManager V H) (n : NewPicture) (at : ℕ) (stands : StandsAt t.windows.records.items n.window at) where
+module _ {V : Type 0} {H : V → Type 0} (loan : TakenBox V H → WindowLoan) (t : WindowManager V H) (n : NewPicture) (at : ℕ) (stands : StandsAt t.windows.records.items n.window at) where
   -- of a window that is there the origin alone says whether the call is refused
   refusal_is : (slots : List SlotView) → IsWholeManager loan t slots → (b : Bool) → b ≡ in_plane n.origin → first_refusal (picture_refusals n (desk_of loan t slots)) ≡ (if b then None else Some OutOfRange)
   refusal_is slots whole b is =

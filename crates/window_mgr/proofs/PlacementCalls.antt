@@ -14,14 +14,14 @@ use Rattle.tb_geom.specs.declared.rect.Rect.{Rect}
 use Rattle.tb_geom.specs.Points.{PixelSet, minus}
 use Rattle.tb_geom.specs.Rects.{in_plane, is_in_range, moved_rect, rect_holds}
 use Rattle.def_iface.specs.declared.size.Size.{Size}
-use Rattle.def_iface.specs.declared.taken.Taken.{Taken}
+use Rattle.def_iface.specs.Slots.{TakenBox}
 use Rattle.def_iface.specs.Sizes.{is_size}
-use Rattle.def_iface.specs.Meaning.{Loan, IsWithin}
-use Rattle.def_iface.specs.News.{told_placed}
+use Rattle.def_iface.specs.WindowMeaning.{WindowLoan, IsWithin}
+use Rattle.def_iface.specs.WindowNews.{told_placed}
 use Rattle.def_iface.proofs.Hearing.{goes_by_news}
 use Rattle.def_iface.specs.Stocked.{SlotView}
-use Rattle.def_iface.specs.Owner.{frame_bit}
-use Rattle.def_iface.specs.Change.{IsChanged}
+use Rattle.desk_layers.specs.Owner.{frame_bit}
+use Rattle.desk_layers.specs.Change.{IsChanged}
 use Rattle.window_list.specs.declared.window.Placement.{Placement}
 use Rattle.window_list.specs.declared.window.UserState.{UserState}
 use Rattle.window_list.specs.declared.window.Window.{Window}
@@ -84,7 +84,7 @@ set_is_put [] i x low = absurd (omega arith)
 set_is_put (y ∷ ys) zero x low = refl
 set_is_put (y ∷ ys) (suc i) x low = ap (λ zs. y ∷ zs) (set_is_put ys i x (omega arith))
 
-module _ {V : Type 0} {H : V → Type 0} (loan : Taken V H → Loan) where
+module _ {V : Type 0} {H : V → Type 0} (loan : TakenBox V H → WindowLoan) where
   -- ---- a window of a list, and the list after it was put elsewhere
 
   module _ {i : ℕ} {to : Placement} {w : Window V H} {old new : List (Window V H)} (low : i < length old) (w_is : IsWindowAt old i w) (R : IsPlacedAt loan i to w old new) where

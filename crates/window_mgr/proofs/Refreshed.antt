@@ -7,17 +7,17 @@ use Rattle.tb_geom.specs.Points.{PixelSet}
 use Rattle.tb_geom.specs.Pixels.{Pixels, holds}
 use Rattle.bit_map.specs.Bits.{Bits, on_map, bit}
 use Rattle.bit_blit.specs.Draws.{Draws}
-use Rattle.def_iface.specs.declared.part.Part.{Part}
-use Rattle.def_iface.specs.declared.taken.Taken.{Taken}
-use Rattle.def_iface.specs.Meaning.{Loan}
+use Rattle.desk_layers.specs.declared.part.Part.{Part}
+use Rattle.def_iface.specs.Slots.{TakenBox}
+use Rattle.def_iface.specs.WindowMeaning.{WindowLoan}
 use Rattle.def_iface.specs.Stocked.{SlotView}
-use Rattle.def_iface.specs.Desk as layers
-use Rattle.def_iface.specs.Desk.{LayeredDesk}
-use Rattle.def_iface.specs.Owner.{Owner, owner, is_content}
-use Rattle.def_iface.specs.Scratch.{scratch}
-use Rattle.def_iface.specs.Change as plain
-use Rattle.def_iface.proofs.Owning.{same_owner-self}
-use Rattle.def_iface.proofs.Painting.{scratch_is_owners}
+use Rattle.desk_layers.specs.Desk as layers
+use Rattle.desk_layers.specs.Desk.{LayeredDesk}
+use Rattle.desk_layers.specs.Owner.{Owner, owner, is_content}
+use Rattle.desk_layers.specs.Scratch.{scratch}
+use Rattle.desk_layers.specs.Change as plain
+use Rattle.desk_layers.proofs.Owning.{same_owner-self}
+use Rattle.desk_layers.proofs.Painting.{scratch_is_owners}
 use Rattle.vis_update.specs.declared.area.Area.{Area}
 use Rattle.vis_update.specs.Areas.{IsArea, is_content_of, stale_in}
 use Rattle.window_list.specs.declared.window.Window.{Window}
@@ -33,7 +33,7 @@ use Rattle.window_mgr.proofs.Remarked as remarked
 use Rattle.window_mgr.proofs.Remarked.{unless}
 use Rattle.window_mgr.proofs.Showing.{owner_showing, distinct_showing, frames_showing}
 
-module _ {V : Type 0} {H : V → Type 0} (loan : Taken V H → Loan) (t : WindowManager V H) (slots : List SlotView) (whole : IsWholeManager loan t slots) (at : ℕ) (low : at < length t.windows.records.items) (w : Window V H) (there : IsWindowAt t.windows.records.items at w) (a : Area) (read : a ≡ get_or t.areas.items at a) (shows : List ℕ → Part → PixelSet) where
+module _ {V : Type 0} {H : V → Type 0} (loan : TakenBox V H → WindowLoan) (t : WindowManager V H) (slots : List SlotView) (whole : IsWholeManager loan t slots) (at : ℕ) (low : at < length t.windows.records.items) (w : Window V H) (there : IsWindowAt t.windows.records.items at w) (a : Area) (read : a ≡ get_or t.areas.items at a) (shows : List ℕ → Part → PixelSet) where
   abbrev before : FullState
   before = state_showing shows (state_of loan t slots)
 

@@ -6,8 +6,8 @@ use Rattle.std.proofs.lemmas.List.{length-map}
 use Rattle.std.proofs.lemmas.Slice.Eq.{bytes_eq-Decides}
 use Rattle.tb_geom.specs.declared.refusal.Refusal.{Refusal}
 use Rattle.tb_geom.specs.declared.refusal.Refusal.TheVariants.{OutOfRange, TooLong, TooMany, NoDefinition}
-use Rattle.def_iface.specs.declared.taken.Taken.{Taken}
-use Rattle.def_iface.specs.Meaning.{Definition, Loan}
+use Rattle.def_iface.specs.Slots.{TakenBox}
+use Rattle.def_iface.specs.WindowMeaning.{WindowDefinition, WindowLoan}
 use Rattle.def_iface.specs.Stocked.{SlotView, IsTaken, IsNotTaken, is_kind, has_kind, offered}
 use Rattle.desk_call.specs.declared.window.WindowCall.TheVariants.{New}
 use Rattle.desk_call.specs.declared.window.NewWindow.{NewWindow}
@@ -21,7 +21,7 @@ use Rattle.vis_update.specs.Places.{is_placed}
 use Rattle.window_mgr.specs.Step.{IsCallRefused}
 use Rattle.window_mgr.specs.Planned.{IsUnplanned}
 
-module _ (kind : List ℕ) (loan : Loan) (old left : List SlotView) (took : IsTaken kind loan old left) where
+module _ (kind : List ℕ) (loan : WindowLoan) (old left : List SlotView) (took : IsTaken kind loan old left) where
   -- the stock would give the definition that it gave
   pub taken_was_offered : offered kind old ≡ Some loan.definition
   taken_was_offered =
@@ -44,7 +44,7 @@ module _ (kind : List ℕ) (loan : Loan) (old left : List SlotView) (took : IsTa
   taken_was_there = any_at old loan.slot _ took.held ((bytes_eq-Decides kind kind).1 refl)
 
 -- with a definition at hand only place, title and the count of windows refuse
-pub refusal_with : (w : NewWindow) (desk : FullDesk) (d : Definition) → has_kind w.kind desk.stock ≡ true → offered w.kind desk.stock ≡ Some d → first_refusal (new_window_refusals w desk) ≡ first_refusal (judged_refusals w (is_placed (Some d) w.place w.size) (length desk.windows) desk.next)
+pub refusal_with : (w : NewWindow) (desk : FullDesk) (d : WindowDefinition) → has_kind w.kind desk.stock ≡ true → offered w.kind desk.stock ≡ Some d → first_refusal (new_window_refusals w desk) ≡ first_refusal (judged_refusals w (is_placed (Some d) w.place w.size) (length desk.windows) desk.next)
 refusal_with w desk d there at_hand = rw (there, at_hand) (by_tests (is_placed (Some d) w.place w.size) _ _)
   where
     by_tests : (a b c : Bool) → (if not a then Some OutOfRange else (if b then Some TooLong else (if c then Some TooMany else (if false then Some NoDefinition else None)))) ≡ (if not a then Some OutOfRange else (if b then Some TooLong else (if c then Some TooMany else None)))
@@ -62,7 +62,7 @@ refusal_without w desk kind e named none judged =
     let at_hand : offered w.kind desk.stock ≡ None = ap (λ o. option_and_then (λ at. option_and_then (λ (s : SlotView). s.held) (slice_get desk.stock at)) o) there.1 in
     rw (there.0, at_hand) judged
 
-module _ {V : Type 0} {H : V → Type 0} (loan : Taken V H → Loan) (w : NewWindow) (taken : Loan) (t : WindowManager V H) (slots left : List SlotView) (took : IsTaken w.kind taken slots left) where
+module _ {V : Type 0} {H : V → Type 0} (loan : TakenBox V H → WindowLoan) (w : NewWindow) (taken : WindowLoan) (t : WindowManager V H) (slots left : List SlotView) (took : IsTaken w.kind taken slots left) where
   -- why a new window is refused, by the judgement of a window manager
   pub refusal_is : first_refusal (new_window_refusals w (desk_of loan t slots)) ≡ first_refusal (judged_refusals w (is_placed (Some taken.definition) w.place w.size) (length t.windows.records.items) t.windows.next)
   refusal_is =

@@ -9,14 +9,14 @@ use Rattle.tb_geom.specs.declared.point.Point.{Point}
 use Rattle.tb_geom.specs.Points.{PixelSet}
 use Rattle.tb_geom.specs.Pixels.{Pixels, holds}
 use Rattle.bit_map.specs.Bits.{Bits, bit}
-use Rattle.def_iface.specs.declared.taken.Taken.{Taken}
-use Rattle.def_iface.specs.Meaning.{Loan}
+use Rattle.def_iface.specs.Slots.{TakenBox}
+use Rattle.def_iface.specs.WindowMeaning.{WindowLoan}
 use Rattle.def_iface.specs.Stocked.{SlotView}
-use Rattle.def_iface.specs.Desk as layers
-use Rattle.def_iface.specs.Desk.{LayeredDesk}
-use Rattle.def_iface.specs.Owner.{owner, own_bit, is_content}
-use Rattle.def_iface.specs.Change as plain
-use Rattle.def_iface.proofs.Owning.{same_number, same_owner-self, not_first}
+use Rattle.desk_layers.specs.Desk as layers
+use Rattle.desk_layers.specs.Desk.{LayeredDesk}
+use Rattle.desk_layers.specs.Owner.{owner, own_bit, is_content}
+use Rattle.desk_layers.specs.Change as plain
+use Rattle.desk_layers.proofs.Owning.{same_number, same_owner-self, not_first}
 use Rattle.vis_update.specs.declared.area.Area.{Area}
 use Rattle.vis_update.specs.Areas.{IsGray, IsDesktop, IsArea, AreAreas, is_content_of, stale_in}
 use Rattle.vis_update.specs.Plans.{stale_after, AreAreasAfter}
@@ -38,21 +38,21 @@ use Rattle.window_mgr.proofs.Seating.{as_many}
 -- ---- the window at a place
 
 -- each window has its area
-pub area_there : {V : Type 0} {H : V → Type 0} (loan : Taken V H → Loan) (t : WindowManager V H) → IsKept loan t → (at : ℕ) → at < length t.windows.records.items → at < length t.areas.items
+pub area_there : {V : Type 0} {H : V → Type 0} (loan : TakenBox V H → WindowLoan) (t : WindowManager V H) → IsKept loan t → (at : ℕ) → at < length t.windows.records.items → at < length t.areas.items
 area_there loan t whole at low = let long = as_many loan t whole in omega arith
 
 -- and that area is among those that are kept
-pub area_kept : {V : Type 0} {H : V → Type 0} (loan : Taken V H → Loan) (t : WindowManager V H) → IsKept loan t → (at : ℕ) → at < length t.windows.records.items → at < vec_len t.areas
+pub area_kept : {V : Type 0} {H : V → Type 0} (loan : TakenBox V H → WindowLoan) (t : WindowManager V H) → IsKept loan t → (at : ℕ) → at < length t.windows.records.items → at < vec_len t.areas
 area_kept loan t whole at low =
     let there = area_there loan t whole at low in
     let long = t.areas.ok.0 in
     omega arith
 
-pub area_low : {V : Type 0} {H : V → Type 0} (loan : Taken V H → Loan) (t : WindowManager V H) (slots : List SlotView) → IsWholeManager loan t slots → (at : ℕ) → at < length t.windows.records.items → at < length t.areas.items
+pub area_low : {V : Type 0} {H : V → Type 0} (loan : TakenBox V H → WindowLoan) (t : WindowManager V H) (slots : List SlotView) → IsWholeManager loan t slots → (at : ℕ) → at < length t.windows.records.items → at < length t.areas.items
 area_low loan t slots whole at low = area_there loan t (kept loan t slots whole) at low
 
 -- the window at the place has a settled definition
-pub settled_there : {V : Type 0} {H : V → Type 0} (loan : Taken V H → Loan) (t : WindowManager V H) → IsKept loan t → (at : ℕ) (w : Window V H) → at < length t.windows.records.items → IsWindowAt t.windows.records.items at w → IsSettled (record_of loan w)
+pub settled_there : {V : Type 0} {H : V → Type 0} (loan : TakenBox V H → WindowLoan) (t : WindowManager V H) → IsKept loan t → (at : ℕ) (w : Window V H) → at < length t.windows.records.items → IsWindowAt t.windows.records.items at w → IsSettled (record_of loan w)
 settled_there loan t whole at w low there = settled_at loan t whole (record { h = pos 0; v = pos 0 }) at w low there
 
 -- as layers, it is the one of its number
@@ -150,7 +150,7 @@ module _ (desk : LayeredDesk) (image stale : PixelSet) (s : ℕ) (update : Pixel
 
 -- ---- the window manager
 
-module _ {V : Type 0} {H : V → Type 0} (loan : Taken V H → Loan) (t : WindowManager V H) (slots : List SlotView) (whole : IsWholeManager loan t slots) (at : ℕ) (low : at < length t.windows.records.items) (w : Window V H) (there : IsWindowAt t.windows.records.items at w) (a : Area) (read : a ≡ get_or t.areas.items at a) where
+module _ {V : Type 0} {H : V → Type 0} (loan : TakenBox V H → WindowLoan) (t : WindowManager V H) (slots : List SlotView) (whole : IsWholeManager loan t slots) (at : ℕ) (low : at < length t.windows.records.items) (w : Window V H) (there : IsWindowAt t.windows.records.items at w) (a : Area) (read : a ≡ get_or t.areas.items at a) where
   abbrev before : FullDesk
   before = desk_of loan t slots
 

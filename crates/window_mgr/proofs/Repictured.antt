@@ -5,14 +5,14 @@ use Rattle.tb_geom.specs.declared.point.Point.{Point}
 use Rattle.tb_geom.specs.Points.{minus}
 use Rattle.draw_port.specs.declared.shapes.Op.{Op}
 use Rattle.draw_port.specs.Ops.{picture_bit}
-use Rattle.def_iface.specs.declared.part.Part.{Part}
-use Rattle.def_iface.specs.declared.part.Part.TheVariants as part
-use Rattle.def_iface.specs.Desk as layers
-use Rattle.def_iface.specs.Desk.{same_part}
-use Rattle.def_iface.specs.declared.part.Part.TheVariants.{Picture}
-use Rattle.def_iface.specs.Owner.{Owner, owner, owner_among, owner_within, own_bit, frame_bit, content_bit, same_owner}
-use Rattle.def_iface.specs.Owner.Owner.{Desktop, Bar, Frame, Content}
-use Rattle.def_iface.proofs.Owning.{same_number, not_first}
+use Rattle.desk_layers.specs.declared.part.Part.{Part}
+use Rattle.desk_layers.specs.declared.part.Part.TheVariants as part
+use Rattle.desk_layers.specs.Desk as layers
+use Rattle.desk_layers.specs.Desk.{same_part}
+use Rattle.desk_layers.specs.declared.part.Part.TheVariants.{Picture}
+use Rattle.desk_layers.specs.Owner.{Owner, owner, owner_among, owner_within, own_bit, frame_bit, content_bit, same_owner}
+use Rattle.desk_layers.specs.Owner.Owner.{Desktop, Bar, Frame, Content}
+use Rattle.desk_layers.proofs.Owning.{same_number, not_first}
 use Rattle.vis_update.specs.Records.{WindowRecord, Look, layered_window}
 use Rattle.window_mgr.specs.FullDesk.{FullDesk, layered_desk, look_of}
 use Rattle.window_mgr.specs.Finding.{record_with}

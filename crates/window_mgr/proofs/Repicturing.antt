@@ -12,19 +12,19 @@ use Rattle.tb_geom.specs.Pixels.{Pixels}
 use Rattle.tb_geom.specs.Rects.{in_plane}
 use Rattle.bit_map.specs.Bits.{bit}
 use Rattle.draw_port.specs.declared.shapes.Op.{Op}
-use Rattle.def_iface.specs.declared.taken.Taken.{Taken}
-use Rattle.def_iface.specs.Meaning.{Loan}
+use Rattle.def_iface.specs.Slots.{TakenBox}
+use Rattle.def_iface.specs.WindowMeaning.{WindowLoan}
 use Rattle.def_iface.specs.Stocked.{SlotView}
-use Rattle.def_iface.specs.declared.part.Part.{Part}
-use Rattle.def_iface.specs.Desk as layers
-use Rattle.def_iface.specs.Desk.{LayeredDesk}
-use Rattle.def_iface.specs.declared.part.Part.TheVariants.{Picture}
-use Rattle.def_iface.specs.Owner.{Owner, owner, own_bit, same_owner, is_content}
-use Rattle.def_iface.specs.Owner.Owner.{Desktop, Bar, Frame, Content}
-use Rattle.def_iface.specs.Scratch.{scratch}
-use Rattle.def_iface.specs.Change as plain
-use Rattle.def_iface.proofs.Owning.{same_number, not_first, same_owner-self}
-use Rattle.def_iface.proofs.Painting.{scratch_is_owners}
+use Rattle.desk_layers.specs.declared.part.Part.{Part}
+use Rattle.desk_layers.specs.Desk as layers
+use Rattle.desk_layers.specs.Desk.{LayeredDesk}
+use Rattle.desk_layers.specs.declared.part.Part.TheVariants.{Picture}
+use Rattle.desk_layers.specs.Owner.{Owner, owner, own_bit, same_owner, is_content}
+use Rattle.desk_layers.specs.Owner.Owner.{Desktop, Bar, Frame, Content}
+use Rattle.desk_layers.specs.Scratch.{scratch}
+use Rattle.desk_layers.specs.Change as plain
+use Rattle.desk_layers.proofs.Owning.{same_number, not_first, same_owner-self}
+use Rattle.desk_layers.proofs.Painting.{scratch_is_owners}
 use Rattle.vis_update.specs.declared.area.Area.{Area}
 use Rattle.vis_update.specs.Records.{WindowRecord, Look, layered_window, record_of}
 use Rattle.vis_update.specs.Areas.{stale_in, IsGray, IsDesktop, IsArea, AreAreas, is_content_of}
@@ -89,7 +89,7 @@ module _ (look : Look) (s : ℕ) (picture : WindowRecord → List Op) (origin : 
       let first = not_first (w.serial == s) (layered_window look w) (layers.window_of s (map (layered_window look) ws)) none in
       λ i. one (first.0 i) w ∷ untouched ws first.1 i
 
-  module _ {V : Type 0} {H : V → Type 0} (loan : Taken V H → Loan) where
+  module _ {V : Type 0} {H : V → Type 0} (loan : TakenBox V H → WindowLoan) where
     abbrev pub put_anew : Window V H → Window V H
     put_anew x = record x { picture = picture (record_of loan x); origin = origin (record_of loan x) }
 
@@ -123,7 +123,7 @@ module _ (look : Look) (s : ℕ) (picture : WindowRecord → List Op) (origin : 
 
 -- ---- the area of a window
 
-module _ {V : Type 0} {H : V → Type 0} (loan : Taken V H → Loan) (t : WindowManager V H) (slots : List SlotView) (whole : IsWholeManager loan t slots) (at s : ℕ) (x : Window V H) (there : slice_get t.windows.records.items at ≡ Some x) (number : x.serial ≡ s) where
+module _ {V : Type 0} {H : V → Type 0} (loan : TakenBox V H → WindowLoan) (t : WindowManager V H) (slots : List SlotView) (whole : IsWholeManager loan t slots) (at s : ℕ) (x : Window V H) (there : slice_get t.windows.records.items at ≡ Some x) (number : x.serial ≡ s) where
   abbrev desk : LayeredDesk
   desk = layered_desk (desk_of loan t slots)
 
@@ -139,7 +139,7 @@ module _ {V : Type 0} {H : V → Type 0} (loan : Taken V H → Loan) (t : Window
 
 -- ---- all that is known where one window got another picture, or has it elsewhere
 
-module _ {V : Type 0} {H : V → Type 0} (loan : Taken V H → Loan) (s : ℕ) (picture : WindowRecord → List Op) (origin : WindowRecord → Point) where
+module _ {V : Type 0} {H : V → Type 0} (loan : TakenBox V H → WindowLoan) (s : ℕ) (picture : WindowRecord → List Op) (origin : WindowRecord → Point) where
   pub record IsRepictured (at : ℕ) (t new : WindowManager V H) : Type 0 where
     pub window : Window V H
     pub there : slice_get t.windows.records.items at ≡ Some window

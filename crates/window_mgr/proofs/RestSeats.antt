@@ -4,10 +4,10 @@ use Rattle.std.specs.Prelude.{All}
 use Rattle.std.specs.List.{remove}
 use Rattle.std.proofs.lemmas.List.{length-map}
 use Rattle.std.proofs.lemmas.List.Elements.{All-tail}
-use Rattle.def_iface.specs.declared.taken.Taken.{Taken}
-use Rattle.def_iface.specs.Meaning.{Loan}
+use Rattle.def_iface.specs.Slots.{TakenBox}
+use Rattle.def_iface.specs.WindowMeaning.{WindowLoan}
 use Rattle.tb_geom.specs.Pixels.{Pixels, holds}
-use Rattle.def_iface.specs.Change.{State}
+use Rattle.desk_layers.specs.Change.{State}
 use Rattle.window_list.specs.declared.window.Window.{Window}
 use Rattle.window_list.specs.Lists.{relit, lit, dimmed}
 use Rattle.vis_update.specs.declared.area.Area.{Area}
@@ -86,7 +86,7 @@ module _ {V : Type 0} {H : V → Type 0} where
 
 -- ---- the seats
 
-module _ {V : Type 0} {H : V → Type 0} (loan : Taken V H → Loan) (t : WindowManager V H) (kept : IsKept loan t) (at : ℕ) (seats : List (Seat V H)) (S : AreSeatsWithout at t.windows.records.items t.areas.items seats) (low : at < length t.windows.records.items) where
+module _ {V : Type 0} {H : V → Type 0} (loan : TakenBox V H → WindowLoan) (t : WindowManager V H) (kept : IsKept loan t) (at : ℕ) (seats : List (Seat V H)) (S : AreSeatsWithout at t.windows.records.items t.areas.items seats) (low : at < length t.windows.records.items) where
   within : at < length S.all
   within = let n = lengths_of t.windows.records.items t.areas.items S.all S.are in omega arith
 

@@ -5,14 +5,14 @@ use Rattle.std.proofs.lemmas.Bool.Decides.{nat_tests}
 use Rattle.tb_geom.specs.declared.point.Point.{Point}
 use Rattle.tb_geom.specs.declared.refusal.Refusal.{Refusal}
 use Rattle.tb_geom.specs.Points.{PixelSet, plus}
-use Rattle.def_iface.specs.Meaning.{Definition}
-use Rattle.def_iface.specs.Desk as layers
-use Rattle.def_iface.specs.Owner.{Owner, owner, owner_among, is_content}
-use Rattle.def_iface.specs.Owner.Owner.{Bar}
-use Rattle.def_iface.specs.Scratch.{scratch}
-use Rattle.def_iface.specs.Change as plain
-use Rattle.def_iface.proofs.Owning.{is_other, owner_is_other, same_owner-true}
-use Rattle.def_iface.proofs.Changing.{stays_right}
+use Rattle.def_iface.specs.WindowMeaning.{WindowDefinition}
+use Rattle.desk_layers.specs.Desk as layers
+use Rattle.desk_layers.specs.Owner.{Owner, owner, owner_among, is_content}
+use Rattle.desk_layers.specs.Owner.Owner.{Bar}
+use Rattle.desk_layers.specs.Scratch.{scratch}
+use Rattle.desk_layers.specs.Change as plain
+use Rattle.desk_layers.proofs.Owning.{is_other, owner_is_other, same_owner-true}
+use Rattle.desk_layers.proofs.Changing.{stays_right}
 use Rattle.desk_call.specs.declared.window.WindowCall.{WindowCall}
 use Rattle.desk_call.specs.declared.window.Drawing.{Drawing}
 use Rattle.desk_call.specs.declared.window.NewPicture.{NewPicture}
@@ -41,7 +41,7 @@ use Rattle.window_mgr.proofs.PutIn.{put_in, map-put, distinct_put, serials_put, 
 -- ---- a window among others
 
 -- as layers, a desk with a new window has just one window more
-pub layered_desk-with : (floating : Bool) (w : NewWindow) (serial slot : ℕ) (d : Definition) (desk : FullDesk) (stock : _) → layered_desk (record (desk_with_new floating w serial slot d desk) { stock = stock })
+pub layered_desk-with : (floating : Bool) (w : NewWindow) (serial slot : ℕ) (d : WindowDefinition) (desk : FullDesk) (stock : _) → layered_desk (record (desk_with_new floating w serial slot d desk) { stock = stock })
     ≡ record (layered_desk desk) { windows = map (layered_window (look_of desk)) (put_in (place_on floating desk) (new_record floating w serial slot d) desk.windows) }
 layered_desk-with floating w serial slot d desk stock =
     ap (λ ws. record (layered_desk desk) { windows = ws })
@@ -94,7 +94,7 @@ new_is_sound desk stale image i w distinct free parts = record {
 }
 
 -- the windows of a desk with a new window are serials, it by the last number
-pub numbered_with : (floating : Bool) (w : NewWindow) (serial slot : ℕ) (d : Definition) (desk : FullDesk) → AreSerials (Some serial) desk.windows → AreSerials (desk_with_new floating w serial slot d desk).next (desk_with_new floating w serial slot d desk).windows
+pub numbered_with : (floating : Bool) (w : NewWindow) (serial slot : ℕ) (d : WindowDefinition) (desk : FullDesk) → AreSerials (Some serial) desk.windows → AreSerials (desk_with_new floating w serial slot d desk).next (desk_with_new floating w serial slot d desk).windows
 numbered_with floating w serial slot d desk serials =
     let first = serials.0 in
     after_number (desk_with_new floating w serial slot d desk).windows (nat_lt (serial + 1) (2 ^ 64))

@@ -5,8 +5,8 @@ use Rattle.std.specs.List.{insert}
 use Rattle.tb_geom.specs.declared.refusal.Refusal.{Refusal}
 use Rattle.tb_geom.specs.Pixels.{Pixels}
 use Rattle.bit_map.specs.Bits.{Bits, bit}
-use Rattle.def_iface.specs.declared.taken.Taken.{Taken}
-use Rattle.def_iface.specs.Meaning.{Definition, Loan}
+use Rattle.def_iface.specs.Slots.{TakenBox}
+use Rattle.def_iface.specs.WindowMeaning.{WindowDefinition, WindowLoan}
 use Rattle.def_iface.specs.Stocked.{SlotView}
 use Rattle.desk_call.specs.declared.window.NewWindow.{NewWindow}
 use Rattle.desk_call.specs.declared.window.WindowCall.{WindowCall}
@@ -30,10 +30,10 @@ use Rattle.window_mgr.specs.Planned.{SameDesk, IsPlanWith}
 use Rattle.vis_update.specs.Plans.{IsPlan}
 
 -- the windows are settled as they were
-pub settled_stay : {V : Type 0} {H : V → Type 0} (loan : Taken V H → Loan) (t u : WindowManager V H) → SameDesk t u → All IsSettled (map (record_of loan) t.windows.records.items) → All IsSettled (map (record_of loan) u.windows.records.items)
+pub settled_stay : {V : Type 0} {H : V → Type 0} (loan : TakenBox V H → WindowLoan) (t u : WindowManager V H) → SameDesk t u → All IsSettled (map (record_of loan) t.windows.records.items) → All IsSettled (map (record_of loan) u.windows.records.items)
 settled_stay loan t u same settled = subst (λ ws. All IsSettled (map (record_of loan) ws)) (sym same.windows) settled
 
-module _ {V : Type 0} {H : V → Type 0} (loan : Taken V H → Loan) (t u : WindowManager V H) (slots back : List SlotView) (same : SameDesk t u) (kept : back ≡ slots) where
+module _ {V : Type 0} {H : V → Type 0} (loan : TakenBox V H → WindowLoan) (t u : WindowManager V H) (slots back : List SlotView) (same : SameDesk t u) (kept : back ≡ slots) where
   desk_stays : desk_of loan u back ≡ desk_of loan t slots
   desk_stays = λ i. record {
     width = pos (ap (λ (s : Bits). s.width) same.screen i);
@@ -70,22 +70,22 @@ module _ {V : Type 0} {H : V → Type 0} (loan : Taken V H → Loan) (t u : Wind
   }
 
   -- what was planned is still right
-  pub plan_stays : (floating : Bool) (w : NewWindow) (n : ℕ) (d : Definition) (touch : Touch) (plan : Plan) → IsPlanWith loan floating w n d touch t plan → IsPlanWith loan floating w n d touch u plan
+  pub plan_stays : (floating : Bool) (w : NewWindow) (n : ℕ) (d : WindowDefinition) (touch : Touch) (plan : Plan) → IsPlanWith loan floating w n d touch t plan → IsPlanWith loan floating w n d touch u plan
   plan_stays floating w n d touch plan h slot begun regions old nowhere =
       subst (λ (x : FullState × Pixels × List Area). IsPlan touch (layered_state x.0) (layered_desk (desk_with_new floating w n slot begun x.0.desk)) x.1 x.2 (desk_with_new floating w n slot begun x.0.desk).windows plan)
       (λ i. (record (sym state_stays i) { desk = record (sym state_stays i).desk { stock = [] } }, sym same.desktop i, insert (sym same.areas i) (front_place floats floating (sym same.windows i)) old)) (h slot begun regions old nowhere)
 
   -- the same, where the window's number goes by another name
-  pub plan_stays_by : (floating : Bool) (w : NewWindow) (k n : ℕ) (d : Definition) (touch : Touch) (plan : Plan) → k ≡ n → IsPlanWith loan floating w k d touch t plan → IsPlanWith loan floating w n d touch u plan
+  pub plan_stays_by : (floating : Bool) (w : NewWindow) (k n : ℕ) (d : WindowDefinition) (touch : Touch) (plan : Plan) → k ≡ n → IsPlanWith loan floating w k d touch t plan → IsPlanWith loan floating w n d touch u plan
   plan_stays_by floating w k n d touch plan e h = plan_stays floating w n d touch plan (subst (λ j. IsPlanWith loan floating w j d touch t plan) e h)
 
 -- a call that is refused and leaves the same desk makes its step
-pub stays_refused : {V : Type 0} {H : V → Type 0} (loan : Taken V H → Loan) (t u : WindowManager V H) → SameDesk t u → (call : WindowCall) (e : Refusal)
+pub stays_refused : {V : Type 0} {H : V → Type 0} (loan : TakenBox V H → WindowLoan) (t u : WindowManager V H) → SameDesk t u → (call : WindowCall) (e : Refusal)
     → ((slots : List SlotView) → IsWholeManager loan t slots → IsCallRefused call e (state_of loan t slots)) → IsStepOverAnySlots loan call (Err e) t u
 stays_refused loan t u same call e refused slots whole =
     (stays_whole loan t u slots slots same refl whole, (refused slots whole, stays_unchanged loan t u slots slots same refl))
 
 -- so does one that is refused and leaves all as it was
-pub is_refused : {V : Type 0} {H : V → Type 0} (loan : Taken V H → Loan) (t : WindowManager V H) (call : WindowCall) (e : Refusal)
+pub is_refused : {V : Type 0} {H : V → Type 0} (loan : TakenBox V H → WindowLoan) (t : WindowManager V H) (call : WindowCall) (e : Refusal)
     → ((slots : List SlotView) → IsWholeManager loan t slots → IsCallRefused call e (state_of loan t slots)) → IsStepOverAnySlots loan call (Err e) t t
 is_refused loan t call e refused slots whole = (whole, (refused slots whole, record { desk = refl; stale = λ p on. refl; image = λ p on. refl }))

@@ -12,17 +12,17 @@ use Rattle.tb_geom.specs.Pixels.{Pixels, holds}
 use Rattle.tb_geom.specs.Rects.{in_plane}
 use Rattle.tb_geom.specs.Refusals.{first_refusal}
 use Rattle.bit_map.specs.Bits.{Bits, on_map, bit}
-use Rattle.def_iface.specs.declared.taken.Taken.{Taken}
-use Rattle.def_iface.specs.declared.part.Part.TheVariants.{Picture}
-use Rattle.def_iface.specs.Meaning.{Loan}
+use Rattle.def_iface.specs.Slots.{TakenBox}
+use Rattle.desk_layers.specs.declared.part.Part.TheVariants.{Picture}
+use Rattle.def_iface.specs.WindowMeaning.{WindowLoan}
 use Rattle.def_iface.specs.Stocked.{SlotView}
-use Rattle.def_iface.specs.Desk as layers
-use Rattle.def_iface.specs.Desk.{LayeredDesk}
-use Rattle.def_iface.specs.Owner.{Owner, owner, same_owner, is_content}
-use Rattle.def_iface.specs.Owner.Owner.{Content}
-use Rattle.def_iface.specs.Scratch.{scratch}
-use Rattle.def_iface.specs.Change as plain
-use Rattle.def_iface.proofs.Owning.{same_owner-self}
+use Rattle.desk_layers.specs.Desk as layers
+use Rattle.desk_layers.specs.Desk.{LayeredDesk}
+use Rattle.desk_layers.specs.Owner.{Owner, owner, same_owner, is_content}
+use Rattle.desk_layers.specs.Owner.Owner.{Content}
+use Rattle.desk_layers.specs.Scratch.{scratch}
+use Rattle.desk_layers.specs.Change as plain
+use Rattle.desk_layers.proofs.Owning.{same_owner-self}
 use Rattle.desk_call.specs.declared.window.ScrollPicture.{ScrollPicture}
 use Rattle.desk_call.specs.declared.window.WindowCall.TheVariants.{Scroll}
 use Rattle.desk_call.specs.declared.window.WindowReply.TheVariants.{Done}
@@ -58,7 +58,7 @@ use Rattle.window_mgr.proofs.Steps as steps
 use Rattle.window_mgr.proofs.Covered.{covered_so}
 use Rattle.window_paint.specs.Hidden.{is_hidden}
 
-module _ {V : Type 0} {H : V → Type 0} (loan : Taken V H → Loan) (t : WindowManager V H) (slots : List SlotView) (whole : IsWholeManager loan t slots) (m : ScrollPicture) (at : ℕ) (low : at < length t.windows.records.items) (x : Window V H) (x_is : IsWindowAt t.windows.records.items at x)
+module _ {V : Type 0} {H : V → Type 0} (loan : TakenBox V H → WindowLoan) (t : WindowManager V H) (slots : List SlotView) (whole : IsWholeManager loan t slots) (m : ScrollPicture) (at : ℕ) (low : at < length t.windows.records.items) (x : Window V H) (x_is : IsWindowAt t.windows.records.items at x)
     (a : Area) (read : a ≡ get_or t.areas.items at a) (s : Scrolled) (plan : IsScrollPlan x.serial m.by (layered_state (state_of loan t slots)) s) (screen : Bits) (painted : IsScrollPainted s.copied s.erase m.by t.screen screen) where
   abbrev before : plain.State
   before = layered_state (state_of loan t slots)
@@ -200,7 +200,7 @@ module _ {V : Type 0} {H : V → Type 0} (loan : Taken V H → Loan) (t : Window
 
 -- ---- the call
 
-module _ {V : Type 0} {H : V → Type 0} (loan : Taken V H → Loan) (t : WindowManager V H) (m : ScrollPicture) (at : ℕ) (stands : StandsAt t.windows.records.items m.window at) (x : Window V H) (x_is : IsWindowAt t.windows.records.items at x) where
+module _ {V : Type 0} {H : V → Type 0} (loan : TakenBox V H → WindowLoan) (t : WindowManager V H) (m : ScrollPicture) (at : ℕ) (stands : StandsAt t.windows.records.items m.window at) (x : Window V H) (x_is : IsWindowAt t.windows.records.items at x) where
   -- of a window that is there the new origin alone says whether the call is refused
   refusal_is : (slots : List SlotView) → IsWholeManager loan t slots → (b : Bool) → b ≡ in_plane (plus x.origin m.by) → first_refusal (scroll_refusals m (desk_of loan t slots)) ≡ (if b then None else Some OutOfRange)
   refusal_is slots whole b is = steps.may_stand loan t t slots whole at m.window x stands.0 x_is (stands.1 x x_is) (may_scroll m.by) b is
@@ -226,7 +226,7 @@ module _ {V : Type 0} {H : V → Type 0} (loan : Taken V H → Loan) (t : Window
 
 -- ---- the plan
 
-module _ {V : Type 0} {H : V → Type 0} (loan : Taken V H → Loan) (t : WindowManager V H) (held : IsKept loan t) (at : ℕ) (low : at < length t.windows.records.items) (a : Area) (read : a ≡ get_or t.areas.items at a) where
+module _ {V : Type 0} {H : V → Type 0} (loan : TakenBox V H → WindowLoan) (t : WindowManager V H) (held : IsKept loan t) (at : ℕ) (low : at < length t.windows.records.items) (a : Area) (read : a ≡ get_or t.areas.items at a) where
   area_is : (w : Window V H) → IsWindowAt t.windows.records.items at w → IsArea (layered_desk (desk_of loan t [])) (stale_in t.areas.items) w.serial a
   area_is w w_is = remarked.area_is loan t held.slots held.whole at low w w_is a read
 

@@ -9,11 +9,11 @@ use Rattle.std.proofs.lemmas.Bool.{and_parts, false≢true}
 use Rattle.std.proofs.lemmas.Int.{ints}
 use Rattle.tb_geom.specs.Points.{PixelSet}
 use Rattle.tb_geom.specs.Pixels.{Pixels}
-use Rattle.def_iface.specs.declared.taken.Taken.{Taken}
-use Rattle.def_iface.specs.Meaning.{Definition, Loan, SameRegions}
-use Rattle.def_iface.specs.Desk as layers
-use Rattle.def_iface.specs.Desk.{LayeredDesk}
-use Rattle.def_iface.specs.Change.{State}
+use Rattle.def_iface.specs.Slots.{TakenBox}
+use Rattle.def_iface.specs.WindowMeaning.{WindowDefinition, WindowLoan, SameRegions}
+use Rattle.desk_layers.specs.Desk as layers
+use Rattle.desk_layers.specs.Desk.{LayeredDesk}
+use Rattle.desk_layers.specs.Change.{State}
 use Rattle.desk_call.specs.declared.window.NewWindow.{NewWindow}
 use Rattle.window_mgr.specs.declared.manager.WindowManager.{WindowManager}
 use Rattle.vis_update.specs.declared.area.Area.{Area}
@@ -164,7 +164,7 @@ plan_for_any t before after desktop k a b olds ws plan none nowhere its = record
 low_side : (n : ℤ) → is_screen_side n ≡ true → n ≤ℤ pos 1024
 low_side n e = grind (arith, ints)
 
-module _ {V : Type 0} {H : V → Type 0} (loan : Taken V H → Loan) (t : WindowManager V H) (kept : IsKept loan t) where
+module _ {V : Type 0} {H : V → Type 0} (loan : TakenBox V H → WindowLoan) (t : WindowManager V H) (kept : IsKept loan t) where
   pub sides : (pos t.screen.width ≤ℤ pos 1024) × (pos t.screen.height ≤ℤ pos 1024)
   sides =
       let one = and_parts (is_screen_side (pos t.screen.width)) _ kept.whole.sound.screen in
@@ -181,7 +181,7 @@ module _ {V : Type 0} {H : V → Type 0} (loan : Taken V H → Loan) (t : Window
   pub as_many : length t.areas.items ≡ length t.windows.records.items
   as_many = seat.as_many (layered_desk (desk_of loan t [])) (stale_in t.areas.items) (desk_of loan t []).windows t.areas.items kept.whole.areas ∙ length-map t.windows.records.items (record_of loan)
 
-module _ {V : Type 0} {H : V → Type 0} (loan : Taken V H → Loan) where
+module _ {V : Type 0} {H : V → Type 0} (loan : TakenBox V H → WindowLoan) where
   -- ---- windows that stay as they are
 
   pub seats_stand : (ws : List (Window V H)) (areas : List Area) (seats : List (Seat V H)) → AreSeatsOf ws areas seats → map (seat_stand loan) seats ≡ map stand_of (map (record_of loan) ws)
@@ -231,7 +231,7 @@ module _ {V : Type 0} {H : V → Type 0} (loan : Taken V H → Loan) where
   -- ---- and a new one among them
 
   -- the seat of a new window of this number and definition, which had no pixel
-  pub record IsNewSeat (w : NewWindow) (n : ℕ) (d : Definition) (s : Seat V H) : Type 0 where
+  pub record IsNewSeat (w : NewWindow) (n : ℕ) (d : WindowDefinition) (s : Seat V H) : Type 0 where
     pub serial : s.serial ≡ n
     pub place : s.place ≡ w.place
     pub size : s.size ≡ w.size
@@ -239,7 +239,7 @@ module _ {V : Type 0} {H : V → Type 0} (loan : Taken V H → Loan) where
     pub definition : (loan s.taken.now).definition ≡ d
     pub nowhere : IsNowhere s.area.now
 
-  module _ (floating : Bool) (w : NewWindow) (n slot : ℕ) (d begun : Definition) (t : WindowManager V H) (kept : IsKept loan t) (next : t.windows.next ≡ Some n) (regions : SameRegions d begun) (front : Seat V H) (new : IsNewSeat w n d front) where
+  module _ (floating : Bool) (w : NewWindow) (n slot : ℕ) (d begun : WindowDefinition) (t : WindowManager V H) (kept : IsKept loan t) (next : t.windows.next ≡ Some n) (regions : SameRegions d begun) (front : Seat V H) (new : IsNewSeat w n d front) where
     abbrev before : State
     before = layered_state (state_of loan t [])
 

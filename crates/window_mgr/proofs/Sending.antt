@@ -8,10 +8,10 @@ use Rattle.std.proofs.lemmas.Bool.{false≢true, eqb-true}
 use Rattle.std.proofs.lemmas.Bool.Decides.{nat_tests}
 use Rattle.std.proofs.lemmas.Option.{slice_get-map, slice_get-get_or}
 use Rattle.tb_geom.specs.declared.refusal.Refusal.TheVariants.{NoSuchWindow, OutOfRange}
-use Rattle.def_iface.specs.declared.taken.Taken.{Taken}
-use Rattle.def_iface.specs.Meaning.{Loan}
-use Rattle.def_iface.specs.Desk as layers
-use Rattle.def_iface.proofs.Owning.{same_number}
+use Rattle.def_iface.specs.Slots.{TakenBox}
+use Rattle.def_iface.specs.WindowMeaning.{WindowLoan}
+use Rattle.desk_layers.specs.Desk as layers
+use Rattle.desk_layers.proofs.Owning.{same_number}
 use Rattle.window_list.specs.Classes.{back_place}
 use Rattle.window_list.specs.Lists.{floats}
 use Rattle.window_list.specs.declared.window.Window.{Window}
@@ -93,7 +93,7 @@ behind_one_after i at after = by_test (nat_lt i at) refl
 
 -- ---- the call
 
-module _ {V : Type 0} {H : V → Type 0} (loan : Taken V H → Loan) (t : WindowManager V H) (kept : IsKept loan t) (b : SendBehind) (at : ℕ) (stands : StandsAt t.windows.records.items b.window at) where
+module _ {V : Type 0} {H : V → Type 0} (loan : TakenBox V H → WindowLoan) (t : WindowManager V H) (kept : IsKept loan t) (b : SendBehind) (at : ℕ) (stands : StandsAt t.windows.records.items b.window at) where
   abbrev desk : FullDesk
   desk = desk_of loan t []
 

@@ -5,7 +5,7 @@ use Rattle.std.specs.Option.{option_map_or}
 use Rattle.std.proofs.lemmas.Bool.{cases_eq, false≢true}
 use Rattle.std.proofs.lemmas.List.Elements.{All-cons, All-weaker, Contains-append_right}
 use Rattle.std.proofs.lemmas.List.Kept.{AllPairs-cons}
-use Rattle.def_iface.specs.Meaning.{Loan}
+use Rattle.def_iface.specs.WindowMeaning.{WindowLoan}
 use Rattle.def_iface.specs.Stocked.{SlotView, IsTaken, IsPutBack, is_left, holding}
 use Rattle.vis_update.specs.Records.{WindowRecord}
 use Rattle.window_mgr.specs.Whole.{IsStocked, IsSlot}
@@ -37,7 +37,7 @@ module _ {X : Type 0} where
   map-set f (z ∷ xs) zero x y e same = let here : z ≡ x = cc in ap (λ w. w ∷ map f xs) (same ∙ ap f (sym here))
   map-set f (z ∷ xs) (suc i) x y e same = ap (λ ws. f z ∷ ws) (map-set f xs i x y e same)
 
-module _ (kind : List ℕ) (loan : Loan) (old left : List SlotView) (took : IsTaken kind loan old left) where
+module _ (kind : List ℕ) (loan : WindowLoan) (old left : List SlotView) (took : IsTaken kind loan old left) where
   abbrev emptied : SlotView
   emptied = record { kind = kind; held = None }
 
@@ -90,5 +90,5 @@ module _ (kind : List ℕ) (loan : Loan) (old left : List SlotView) (took : IsTa
           (cases_eq k loan.slot)
 
 -- the kind goes by the bytes of this text
-pub taken_named : (bytes kind : List ℕ) (loan : Loan) (old new : List SlotView) → bytes ≡ kind → IsTaken bytes loan old new → IsTaken kind loan old new
+pub taken_named : (bytes kind : List ℕ) (loan : WindowLoan) (old new : List SlotView) → bytes ≡ kind → IsTaken bytes loan old new → IsTaken kind loan old new
 taken_named bytes kind loan old new same taken = subst (λ k. IsTaken k loan old new) same taken

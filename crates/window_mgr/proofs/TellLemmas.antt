@@ -24,13 +24,13 @@ use Rattle.region_bytes.specs.Points.{points_of, inverted}
 use Rattle.region_bytes.specs.Words.{bytes_of, words_of, box_of}
 use Rattle.region_bytes.specs.Bytes.{IsRegionBytes, IsUnwritten}
 use Rattle.region_bytes.proofs.Short.{none_canonical}
-use Rattle.def_iface.specs.declared.taken.Taken.{Taken}
-use Rattle.def_iface.specs.Meaning.{Loan}
+use Rattle.def_iface.specs.Slots.{TakenBox}
+use Rattle.def_iface.specs.WindowMeaning.{WindowLoan}
 use Rattle.def_iface.specs.Sizes.{is_size}
-use Rattle.def_iface.specs.Desk as layers
-use Rattle.def_iface.specs.Owner.{Owner, owner, owner_among}
-use Rattle.def_iface.specs.Owner.Owner.{Desktop, Bar, Frame, Content}
-use Rattle.def_iface.proofs.Owning.{is_other, owner_is_other}
+use Rattle.desk_layers.specs.Desk as layers
+use Rattle.desk_layers.specs.Owner.{Owner, owner, owner_among}
+use Rattle.desk_layers.specs.Owner.Owner.{Desktop, Bar, Frame, Content}
+use Rattle.desk_layers.proofs.Owning.{is_other, owner_is_other}
 use Rattle.window_list.specs.declared.window.Window.{Window}
 use Rattle.vis_update.specs.declared.area.Area.{Area}
 use Rattle.vis_update.specs.Records.{WindowRecord, Look, layered_window, record_of}
@@ -193,7 +193,7 @@ not_bar s false o e = e
 pub put_back : (areas : List Area) (at : ℕ) (a b : Area) → a ≡ get_or areas at a → b ≡ a → set areas at b ≡ areas
 put_back areas at a b read same = ap (set areas at) (same ∙ read) ∙ set-get_or areas at a
 
-module _ {V : Type 0} {H : V → Type 0} (loan : Taken V H → Loan) (t : WindowManager V H) (kept : IsKept loan t) (s : ℕ) where
+module _ {V : Type 0} {H : V → Type 0} (loan : TakenBox V H → WindowLoan) (t : WindowManager V H) (kept : IsKept loan t) (s : ℕ) where
   abbrev pub desk : FullDesk
   desk = desk_of loan t []
 

@@ -4,18 +4,18 @@ use Rattle.std.proofs.lemmas.Bool.{false≢true}
 use Rattle.tb_geom.specs.declared.point.Point.{Point}
 use Rattle.tb_geom.specs.Points.{PixelSet}
 use Rattle.tb_geom.specs.Pixels.{Pixels, holds}
-use Rattle.def_iface.specs.declared.part.Part.{Part}
-use Rattle.def_iface.specs.declared.taken.Taken.{Taken}
-use Rattle.def_iface.specs.Meaning.{Loan}
+use Rattle.desk_layers.specs.declared.part.Part.{Part}
+use Rattle.def_iface.specs.Slots.{TakenBox}
+use Rattle.def_iface.specs.WindowMeaning.{WindowLoan}
 use Rattle.def_iface.specs.Stocked.{SlotView}
-use Rattle.def_iface.specs.Desk as layers
-use Rattle.def_iface.specs.Desk.{LayeredDesk}
-use Rattle.def_iface.specs.Owner.{Owner, owner, is_content}
-use Rattle.def_iface.specs.Scratch.{scratch}
-use Rattle.def_iface.specs.Change as plain
-use Rattle.def_iface.proofs.Changing.{stays_right}
-use Rattle.def_iface.proofs.Owning.{same_owner-self}
-use Rattle.def_iface.proofs.Painting.{scratch_is_owners}
+use Rattle.desk_layers.specs.Desk as layers
+use Rattle.desk_layers.specs.Desk.{LayeredDesk}
+use Rattle.desk_layers.specs.Owner.{Owner, owner, is_content}
+use Rattle.desk_layers.specs.Scratch.{scratch}
+use Rattle.desk_layers.specs.Change as plain
+use Rattle.desk_layers.proofs.Changing.{stays_right}
+use Rattle.desk_layers.proofs.Owning.{same_owner-self}
+use Rattle.desk_layers.proofs.Painting.{scratch_is_owners}
 use Rattle.vis_update.specs.Areas.{is_content_of, stale_in}
 use Rattle.window_mgr.specs.declared.manager.WindowManager.{WindowManager}
 use Rattle.window_mgr.specs.FullDesk.{FullDesk, FullState, IsRightState, AreSerials, layered_desk, layered_state}
@@ -87,7 +87,7 @@ record IsOrdered (before : FullState) : Type 0 where
   frames : AreFramesShown before
   fresh : (p : Point) → layers.on_screen (layered_desk before.desk) p ≡ true → is_content (owner (layered_desk before.desk) p) ≡ false → before.stale p ≡ false
 
-ordered : {V : Type 0} {H : V → Type 0} (loan : Taken V H → Loan) (t : WindowManager V H) (slots : List SlotView) → IsWholeManager loan t slots → (shows : List ℕ → Part → PixelSet) → IsOrdered (state_showing shows (state_of loan t slots))
+ordered : {V : Type 0} {H : V → Type 0} (loan : TakenBox V H → WindowLoan) (t : WindowManager V H) (slots : List SlotView) → IsWholeManager loan t slots → (shows : List ℕ → Part → PixelSet) → IsOrdered (state_showing shows (state_of loan t slots))
 ordered loan t slots whole shows = record {
   distinct = distinct_showing shows (desk_of loan t slots) whole.sound.distinct;
   frames = frames_showing shows (state_of loan t slots) whole.frames;
@@ -117,7 +117,7 @@ nothing_refreshed before is these none = record { desk = refl; pixels = record {
     image_is p on true c = sym (λ i. if not (c i) then scratch (layered_desk before.desk) p else (if not_drawn p on (these (its p)) refl i then scratch (layered_desk before.desk) p else (if not (had_is p on i) then false else before.image p)))
 
 -- so a window manager none of whose layers of these is stale
-pub stays_refreshed : {V : Type 0} {H : V → Type 0} (loan : Taken V H → Loan) (t : WindowManager V H) (slots : List SlotView) → IsWholeManager loan t slots → (shows : List ℕ → Part → PixelSet) (these : Owner → Bool)
+pub stays_refreshed : {V : Type 0} {H : V → Type 0} (loan : TakenBox V H → WindowLoan) (t : WindowManager V H) (slots : List SlotView) → IsWholeManager loan t slots → (shows : List ℕ → Part → PixelSet) (these : Owner → Bool)
     → ((p : Point) → layers.on_screen (layered_desk (desk_of loan t slots)) p ≡ true → these (owner (layered_desk (desk_of loan t slots)) p) ≡ true → stale_in t.areas.items p ≡ false)
     → IsRefreshed these (state_showing shows (state_of loan t slots)) (state_showing shows (state_of loan t slots))
 stays_refreshed loan t slots whole shows these none = nothing_refreshed (state_showing shows (state_of loan t slots)) (ordered loan t slots whole shows) these (λ p on e. none p on (ap these (sym (owner_showing shows (desk_of loan t slots) p)) ∙ e))
@@ -211,7 +211,7 @@ module _ (s : ℕ) (update : Pixels) (before after : FullState) (is : IsOrdered 
         by_window true e = (λ i. if e i then holds update p else before.stale p) ∙ region p on e ∙ without (before.stale p) (these its p)
         by_window false e = (λ i. if e i then holds update p else before.stale p) ∙ sym (ap (λ b. if b then false else before.stale p) (away these of e))
 
-module _ {V : Type 0} {H : V → Type 0} (loan : Taken V H → Loan) (t : WindowManager V H) (slots : List SlotView) (whole : IsWholeManager loan t slots) (shows : List ℕ → Part → PixelSet) (s : ℕ) (update : Pixels) (after : FullState) (done : IsRemarked s update (state_showing shows (state_of loan t slots)) after) (these : Owner → Point → Bool) (of : (o : Owner) (p : Point) → these o p ≡ true → is_content_of s o ≡ true) where
+module _ {V : Type 0} {H : V → Type 0} (loan : TakenBox V H → WindowLoan) (t : WindowManager V H) (slots : List SlotView) (whole : IsWholeManager loan t slots) (shows : List ℕ → Part → PixelSet) (s : ℕ) (update : Pixels) (after : FullState) (done : IsRemarked s update (state_showing shows (state_of loan t slots)) after) (these : Owner → Point → Bool) (of : (o : Owner) (p : Point) → these o p ≡ true → is_content_of s o ≡ true) where
   abbrev was_so : FullState
   was_so = state_showing shows (state_of loan t slots)
 

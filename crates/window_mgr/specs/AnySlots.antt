@@ -2,8 +2,8 @@
 use Rattle.std.specs.Prelude.{List, Option, Result}
 use Rattle.tb_geom.specs.declared.point.Point.{Point}
 use Rattle.tb_geom.specs.declared.refusal.Refusal.{Refusal}
-use Rattle.def_iface.specs.declared.taken.Taken.{Taken}
-use Rattle.def_iface.specs.Meaning.{Loan}
+use Rattle.def_iface.specs.Slots.{TakenBox}
+use Rattle.def_iface.specs.WindowMeaning.{WindowLoan}
 use Rattle.def_iface.specs.Stocked.{SlotView}
 use Rattle.desk_call.specs.declared.window.WindowCall.{WindowCall}
 use Rattle.desk_call.specs.declared.window.WindowReply.{WindowReply}
@@ -16,7 +16,7 @@ use Rattle.window_mgr.specs.Updating.{LeavesState}
 use Rattle.window_mgr.specs.Whole.{IsWholeManager}
 
 -- `loan` says what a definition that was taken means
-module _ {V : Type 0} {H : V → Type 0} (loan : Taken V H → Loan) where
+module _ {V : Type 0} {H : V → Type 0} (loan : TakenBox V H → WindowLoan) where
   -- over any slots over which the window manager is whole, it is whole after the call, which is one step
   abbrev pub IsStepOverAnySlots : WindowCall → Result WindowReply Refusal → WindowManager V H → WindowManager V H → Type 0
   IsStepOverAnySlots call result = LeavesState loan (IsWindowStep call result)

@@ -14,7 +14,7 @@ use Rattle.window_mgr.specs.declared.arrange.Activation.TheVariants.{Stays, Beco
 use Rattle.desk_call.specs.declared.window.MoveWindow.{MoveWindow}
 use Rattle.desk_call.specs.declared.window.SendBehind.{SendBehind}
 use Rattle.desk_call.specs.declared.window.ShowHide.{ShowHide}
-use Rattle.def_iface.specs.Meaning.{Definition}
+use Rattle.def_iface.specs.WindowMeaning.{WindowDefinition}
 use Rattle.window_mgr.specs.FullDesk.{FullDesk}
 use Rattle.window_mgr.specs.Finding.{record_with, is_leading, front_of}
 use Rattle.window_mgr.specs.Placings.{Placing}
@@ -111,7 +111,7 @@ abbrev pub with_shown : Bool → WindowRecord → WindowRecord
 with_shown shown w = record w { shown = shown }
 
 -- the window, which lies so, and its definition, which was told its size and whether it is zoomed
-abbrev pub with_placement : Placement → Definition → WindowRecord → WindowRecord
+abbrev pub with_placement : Placement → WindowDefinition → WindowRecord → WindowRecord
 with_placement to d w = record w {
   place = to.place;
   size = to.size;
@@ -198,7 +198,7 @@ abbrev pub made_so : ShowHide → List WindowRecord → Arrangement
 made_so c ws = record { window = c.window; by = None; windows = changed c.window (with_shown c.shown) ws; activates = Nothing }
 
 -- the window lies so, with its definition, which was told its size; no highlighting changes
-abbrev pub placed : Placing → Definition → List WindowRecord → Arrangement
+abbrev pub placed : Placing → WindowDefinition → List WindowRecord → Arrangement
 placed p d ws = record {
   window = p.window;
   by = p.by;

@@ -1,6 +1,6 @@
 -- Other titles in the menu bar.
 use Rattle.std.specs.Prelude.{◌≡◌, List}
-use Rattle.def_iface.specs.Change.{no_change, IsChanged}
+use Rattle.desk_layers.specs.Change.{no_change, IsChanged}
 use Rattle.desk_ground.specs.declared.titles.BarTitle.{BarTitle}
 use Rattle.window_mgr.specs.FullDesk.{FullState, layered_state}
 

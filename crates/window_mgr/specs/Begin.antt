@@ -1,8 +1,8 @@
 -- A desk without windows.
 use Rattle.std.specs.Prelude.{◌≡◌, ℕ, false, List, [], None, Some, ℤ}
 use Rattle.tb_geom.specs.declared.point.Point.{Point}
-use Rattle.def_iface.specs.declared.taken.Taken.{Taken}
-use Rattle.def_iface.specs.Meaning.{Loan}
+use Rattle.def_iface.specs.Slots.{TakenBox}
+use Rattle.def_iface.specs.WindowMeaning.{WindowLoan}
 use Rattle.def_iface.specs.Stocked.{SlotView}
 use Rattle.window_mgr.specs.declared.manager.WindowManager.{WindowManager}
 use Rattle.window_mgr.specs.FullDesk.{FullDesk, IsRightState}
@@ -26,7 +26,7 @@ empty_desk width height bar font slots = record {
 }
 
 -- `loan` says what a definition that was taken means
-module _ {V : Type 0} {H : V → Type 0} (loan : Taken V H → Loan) where
+module _ {V : Type 0} {H : V → Type 0} (loan : TakenBox V H → WindowLoan) where
   -- a new desk: right, and nothing of it is to be redrawn
   pub record IsEmptyDesk (width height bar : ℤ) (font : List ℕ) (t : WindowManager V H) (slots : List SlotView) : Type 0 where
     pub desk : desk_of loan t slots ≡ empty_desk width height bar font slots

@@ -6,7 +6,7 @@ use Rattle.tb_geom.specs.Pixels.{Pixels, holds}
 use Rattle.bit_map.specs.Bits.{Bits, on_map, bit}
 use Rattle.bit_map.specs.Patterns.{pattern_bit}
 use Rattle.bit_blit.specs.Draws.{Draws}
-use Rattle.def_iface.specs.Meaning.{Definition}
+use Rattle.def_iface.specs.WindowMeaning.{WindowDefinition}
 use Rattle.vis_update.specs.declared.plan.Repaint.{Repaint}
 use Rattle.vis_update.specs.declared.plan.Plan.{Plan}
 use Rattle.vis_update.specs.Records.{WindowRecord}
@@ -16,7 +16,7 @@ use Rattle.window_paint.specs.Moves.{everywhere, moved_bit}
 use Rattle.window_paint.specs.Writes.{IsWrittenBy, arrives, one}
 
 -- what the part of a window makes of a bit
-abbrev pub painted_part : List ℕ → Definition → Point → Repaint → Point → Bool → Bool
+abbrev pub painted_part : List ℕ → WindowDefinition → Point → Repaint → Point → Bool → Bool
 painted_part font d place part p value = painted_bit font d place part.erase part.redraw p value
 
 -- what the parts of windows make of it, one after another

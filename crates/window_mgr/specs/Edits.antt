@@ -5,10 +5,10 @@ use Rattle.tb_geom.specs.Points.{minus}
 use Rattle.tb_geom.specs.declared.point.Point.{Point}
 use Rattle.tb_geom.specs.declared.refusal.Refusal.{Refusal}
 use Rattle.tb_geom.specs.declared.refusal.Refusal.TheVariants.{NoMemory}
-use Rattle.def_iface.specs.declared.taken.Taken.{Taken}
-use Rattle.def_iface.specs.Meaning.{Loan}
+use Rattle.def_iface.specs.Slots.{TakenBox}
+use Rattle.def_iface.specs.WindowMeaning.{WindowLoan}
 use Rattle.def_iface.specs.Stocked.{SlotView}
-use Rattle.def_iface.specs.Desk.{IsDesk}
+use Rattle.desk_layers.specs.Desk.{IsDesk}
 use Rattle.window_list.specs.declared.window.Window.{Window}
 use Rattle.window_list.specs.Lists.{with_stand, relit}
 use Rattle.vis_update.specs.declared.area.Area.{Area}
@@ -89,7 +89,7 @@ module _ {V : Type 0} {H : V → Type 0} where
   relit_all (Becomes s) former ws = map (relit former s) ws
 
 -- `loan` says what a definition that was taken means
-module _ {V : Type 0} {H : V → Type 0} (loan : Taken V H → Loan) where
+module _ {V : Type 0} {H : V → Type 0} (loan : TakenBox V H → WindowLoan) where
   -- the window at the place of an edit may be where it is to be
   abbrev pub IsPlaceable : Edit → List (Window V H) → Type 0
   IsPlaceable e ws = (w : Window V H) → IsWindowAt ws e.at w → may_stand e.place e.size (record_of loan w) ≡ true

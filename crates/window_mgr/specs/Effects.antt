@@ -6,16 +6,16 @@ use Rattle.draw_port.specs.declared.shapes.Op.{Op}
 use Rattle.draw_port.specs.Ops.{op_value}
 use Rattle.lent_ops.specs.OpRefs.{IsMeant}
 use Rattle.std.specs.Option.{is_some}
-use Rattle.def_iface.specs.News.{News, AllNews, told_placed, new_window_news}
+use Rattle.def_iface.specs.WindowNews.{WindowNews, AllWindowNews, told_placed, new_window_news}
 use Rattle.def_iface.specs.declared.size.Size as sizes
 use Rattle.def_iface.specs.declared.window_def.Stage.TheVariants.{Live}
-use Rattle.def_iface.specs.Meaning.{Definition, Loan, SameRegions, Hears, IsBegun}
+use Rattle.def_iface.specs.WindowMeaning.{WindowDefinition, WindowLoan, SameRegions, WindowHears, IsBegun}
 use Rattle.def_iface.specs.Stocked.{IsTaken}
-use Rattle.def_iface.specs.Desk.{on_screen}
-use Rattle.def_iface.specs.declared.part.Part.TheVariants.{Picture}
-use Rattle.def_iface.specs.Owner.{same_owner}
-use Rattle.def_iface.specs.Owner.Owner.{Content}
-use Rattle.def_iface.specs.Change.{Change, no_change, IsChanged}
+use Rattle.desk_layers.specs.Desk.{on_screen}
+use Rattle.desk_layers.specs.declared.part.Part.TheVariants.{Picture}
+use Rattle.desk_layers.specs.Owner.{same_owner}
+use Rattle.desk_layers.specs.Owner.Owner.{Content}
+use Rattle.desk_layers.specs.Change.{Change, no_change, IsChanged}
 use Rattle.window_list.specs.Classes.{put_front}
 use Rattle.window_list.specs.Lists.{serial_after}
 use Rattle.vis_update.specs.Records.{WindowRecord, is_floating}
@@ -42,11 +42,11 @@ abbrev pub begins_highlighted : Bool → NewWindow → Bool
 begins_highlighted floating w = w.shown || floating
 
 -- all that the definition of a new window is told
-abbrev pub first_news : Bool → NewWindow → AllNews
+abbrev pub first_news : Bool → NewWindow → AllWindowNews
 first_news floating w = new_window_news w.size w.title w.go_away (begins_highlighted floating w)
 
 -- the record that a new window gets
-abbrev pub new_record : Bool → NewWindow → ℕ → ℕ → Definition → WindowRecord
+abbrev pub new_record : Bool → NewWindow → ℕ → ℕ → WindowDefinition → WindowRecord
 new_record floating w serial slot d = record {
   serial = serial;
   place = w.place;
@@ -70,7 +70,7 @@ abbrev pub begins_active : Bool → NewWindow → Bool
 begins_active floating w = w.shown && not floating
 
 -- a new window at the front of its class: a visible ordinary one becomes active, in place of the window that was
-abbrev pub desk_with_new : Bool → NewWindow → ℕ → ℕ → Definition → FullDesk → FullDesk
+abbrev pub desk_with_new : Bool → NewWindow → ℕ → ℕ → WindowDefinition → FullDesk → FullDesk
 desk_with_new floating w serial slot d desk = record desk {
   windows = put_front is_floating (new_record floating w serial slot d)
       (if begins_active floating w then map (with_highlighting false desk.active) desk.windows else desk.windows);
@@ -80,8 +80,8 @@ desk_with_new floating w serial slot d desk = record desk {
 
 -- a new window was made, of this serial, which floats or does not
 pub record IsNewWindow (floating : Bool) (w : NewWindow) (serial : ℕ) (before after : FullState) : Type 0 where
-  pub loan : Loan
-  pub begun : Definition
+  pub loan : WindowLoan
+  pub begun : WindowDefinition
   pub serials : before.desk.next ≡ Some serial
   pub taken : IsTaken w.kind loan before.desk.stock after.desk.stock
   pub live : IsBegun (first_news floating w) loan.definition begun
@@ -143,16 +143,16 @@ pub record IsArrangement (a : Arrangement) (before after : FullState) : Type 0 w
   pub pixels : IsChanged (moving a.window a.by) (layered_state before) (layered_state after)
 
 -- what a live definition is once it was told this, and has this size
-pub record IsToldSize (size : sizes.Size) (news : News → News) (old new : Definition) : Type 0 where
+pub record IsToldSize (size : sizes.Size) (news : WindowNews → WindowNews) (old new : WindowDefinition) : Type 0 where
   pub live : new.stage ≡ Live
   pub told : new.size ≡ size
   pub regions : SameRegions old new
-  pub heard : Hears news old new
+  pub heard : WindowHears news old new
 
 -- the window lies so now, and its definition was told its size
 pub record IsWindowPlaced (p : Placing) (before after : FullState) : Type 0 where
   pub window : WindowRecord
-  pub definition : Definition
+  pub definition : WindowDefinition
   pub found : record_with p.window before.desk.windows ≡ Some window
   pub told : IsToldSize p.to.size (told_placed p.to.size (is_some p.to.user_state)) window.definition definition
   pub arranged : IsArrangement (placed p definition before.desk.windows) before after

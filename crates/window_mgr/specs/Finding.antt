@@ -2,12 +2,12 @@
 use Rattle.std.specs.Prelude.{ℕ, Bool, not, ◌&&◌, if◌then◌else◌, ◌==◌, List, [], ◌∷◌, Option, None, Some}
 use Rattle.tb_geom.specs.declared.point.Point.{Point}
 use Rattle.tb_geom.specs.Points.{minus}
-use Rattle.def_iface.specs.News.{no_news}
+use Rattle.def_iface.specs.WindowNews.{no_news}
 use Rattle.def_iface.specs.declared.window_def.Hit.{Hit}
 use Rattle.def_iface.specs.declared.window_def.Hit.TheVariants as hit
-use Rattle.def_iface.specs.Desk.{on_screen}
-use Rattle.def_iface.specs.Owner.{Owner, owner}
-use Rattle.def_iface.specs.Owner.Owner.{Desktop, Bar, Frame, Content}
+use Rattle.desk_layers.specs.Desk.{on_screen}
+use Rattle.desk_layers.specs.Owner.{Owner, owner}
+use Rattle.desk_layers.specs.Owner.Owner.{Desktop, Bar, Frame, Content}
 use Rattle.desk_call.specs.declared.window.WindowPart.{WindowPart}
 use Rattle.desk_call.specs.declared.window.WindowPart.TheVariants as part
 use Rattle.desk_call.specs.declared.window.Found.{Found}

@@ -1,10 +1,10 @@
 -- A window's definition, told of a change that leaves its size, and the window's frame, drawn where it shows.
 use Rattle.std.specs.Prelude.{◌≡◌, ℕ, Some}
-use Rattle.def_iface.specs.News.{News}
+use Rattle.def_iface.specs.WindowNews.{WindowNews}
 use Rattle.def_iface.specs.declared.window_def.WindowChange.{WindowChange}
 use Rattle.def_iface.specs.declared.window_def.WindowChange.TheVariants.{Resized, Titled, Highlighted, Closable, Zoomed, Tracked}
-use Rattle.def_iface.specs.Meaning.{Definition}
-use Rattle.def_iface.specs.Change.{no_change, IsChanged}
+use Rattle.def_iface.specs.WindowMeaning.{WindowDefinition}
+use Rattle.desk_layers.specs.Change.{no_change, IsChanged}
 use Rattle.vis_update.specs.Records.{WindowRecord}
 use Rattle.window_mgr.specs.Arrange.{changed}
 use Rattle.window_mgr.specs.Effects.{IsToldSize}
@@ -23,9 +23,9 @@ notified_record (Resized s) w = w
 
 -- the definition of the window of this serial was told something: it is live, and its size and its regions are as before.
 -- The window's record keeps this of it. Where the window's frame shows, it is drawn as it is now; no other pixel changed.
-pub record IsFrameNotified (s : ℕ) (news : WindowRecord → News → News) (kept : WindowRecord → WindowRecord) (before after : FullState) : Type 0 where
+pub record IsFrameNotified (s : ℕ) (news : WindowRecord → WindowNews → WindowNews) (kept : WindowRecord → WindowRecord) (before after : FullState) : Type 0 where
   pub window : WindowRecord
-  pub definition : Definition
+  pub definition : WindowDefinition
   pub found : record_with s before.desk.windows ≡ Some window
   pub told : IsToldSize window.size (news window) window.definition definition
   pub desk : after.desk

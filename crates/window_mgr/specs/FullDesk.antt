@@ -6,9 +6,9 @@ use Rattle.desk_ground.specs.Screens.{desktop}
 use Rattle.desk_ground.specs.declared.titles.MenuBar.{MenuBar}
 use Rattle.desk_ground.specs.Bars.{bar_picture}
 use Rattle.def_iface.specs.Stocked.{SlotView}
-use Rattle.def_iface.specs.declared.part.Part.{Part}
-use Rattle.def_iface.specs.Desk.{LayeredDesk}
-use Rattle.def_iface.specs.Change as plain
+use Rattle.desk_layers.specs.declared.part.Part.{Part}
+use Rattle.desk_layers.specs.Desk.{LayeredDesk}
+use Rattle.desk_layers.specs.Change as plain
 use Rattle.vis_update.specs.Records.{WindowRecord, Look, layered_window}
 
 -- the desk: no region and no saved pixel

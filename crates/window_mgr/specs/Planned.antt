@@ -11,8 +11,8 @@ use Rattle.bit_blit.specs.Draws.{Draws}
 use Rattle.draw_port.specs.declared.shapes.Op.{Op}
 use Rattle.draw_port.specs.Ops.{op_value}
 use Rattle.lent_ops.specs.OpRefs.{IsGood, IsMeant}
-use Rattle.def_iface.specs.declared.taken.Taken.{Taken}
-use Rattle.def_iface.specs.Meaning.{Definition, Loan, SameRegions, IsWithin, IsBegun}
+use Rattle.def_iface.specs.Slots.{TakenBox}
+use Rattle.def_iface.specs.WindowMeaning.{WindowDefinition, WindowLoan, SameRegions, IsWithin, IsBegun}
 use Rattle.window_list.specs.declared.window.Window.{Window}
 use Rattle.window_list.specs.Classes.{front_place}
 use Rattle.window_list.specs.Lists.{floats, with_new, serial_after}
@@ -118,15 +118,15 @@ module _ {V : Type 0} {H : V → Type 0} where
     pub title : ticket.title.items ≡ w.title
 
 -- `loan` says what a definition that was taken means
-module _ {V : Type 0} {H : V → Type 0} (loan : Taken V H → Loan) where
+module _ {V : Type 0} {H : V → Type 0} (loan : TakenBox V H → WindowLoan) where
   -- all that changes on the screen once the window stands at the front of its class, whichever slot its definition has
-  abbrev pub IsPlanWith : Bool → NewWindow → ℕ → Definition → Touch → WindowManager V H → Plan → Type 0
-  IsPlanWith floating w serial d touch t plan = (slot : ℕ) (begun : Definition) → SameRegions d begun
+  abbrev pub IsPlanWith : Bool → NewWindow → ℕ → WindowDefinition → Touch → WindowManager V H → Plan → Type 0
+  IsPlanWith floating w serial d touch t plan = (slot : ℕ) (begun : WindowDefinition) → SameRegions d begun
       → let after = desk_with_new floating w serial slot begun (desk_of loan t []) in
       (old : Area) → IsNowhere old → IsPlan touch (layered_state (state_of loan t [])) (layered_desk after) t.desktop (insert t.areas.items (new_place floating t) old) after.windows plan
 
   -- nothing refuses the window with this definition any more, whose content then lies in the box of its structure
-  pub record IsPlanned (floating : Bool) (w : NewWindow) (d : Definition) (t : WindowManager V H) (addition : Addition) : Type 0 where
+  pub record IsPlanned (floating : Bool) (w : NewWindow) (d : WindowDefinition) (t : WindowManager V H) (addition : Addition) : Type 0 where
     pub ticket : IsTicket w t addition.ticket
     pub touch : addition.touch ≡ new_touch addition.ticket.serial
     pub plan : IsPlanWith floating w addition.ticket.serial d addition.touch t addition.plan
@@ -136,10 +136,10 @@ module _ {V : Type 0} {H : V → Type 0} (loan : Taken V H → Loan) where
     pub within : IsWithin (d.content w.size) (rect_holds (d.bounds w.size))
 
   -- the window was put at the front of its class, and the plan was drawn
-  pub record IsAdded (floating : Bool) (w : NewWindow) (serial : ℕ) (taken : Loan) (touch : Touch) (plan : Plan)
+  pub record IsAdded (floating : Bool) (w : NewWindow) (serial : ℕ) (taken : WindowLoan) (touch : Touch) (plan : Plan)
       (old new : WindowManager V H) : Type 0 where
     pub record_is : Window V H
-    pub begun : Definition
+    pub begun : WindowDefinition
     pub live : IsBegun (first_news floating w) taken.definition begun
     pub seen : record_of loan record_is ≡ new_record floating w serial taken.slot begun
     pub there : LieThere record_is

@@ -2,9 +2,9 @@
 use Rattle.std.specs.Prelude.{ℕ, List, map, pos}
 use Rattle.tb_geom.specs.Points.{PixelSet}
 use Rattle.bit_map.specs.Bits.{bit}
-use Rattle.def_iface.specs.declared.part.Part.{Part}
-use Rattle.def_iface.specs.declared.taken.Taken.{Taken}
-use Rattle.def_iface.specs.Meaning.{Loan}
+use Rattle.desk_layers.specs.declared.part.Part.{Part}
+use Rattle.def_iface.specs.Slots.{TakenBox}
+use Rattle.def_iface.specs.WindowMeaning.{WindowLoan}
 use Rattle.def_iface.specs.Stocked.{SlotView}
 use Rattle.vis_update.specs.Records.{Look, record_of}
 use Rattle.vis_update.specs.Areas.{stale_in}
@@ -26,7 +26,7 @@ abbrev pub look_on : {V : Type 0} {H : V → Type 0} → WindowManager V H → L
 look_on t = record { font = t.font; shows = all_white }
 
 -- `loan` says what a definition that was taken means
-module _ {V : Type 0} {H : V → Type 0} (loan : Taken V H → Loan) where
+module _ {V : Type 0} {H : V → Type 0} (loan : TakenBox V H → WindowLoan) where
   -- the desk of a window manager, over the slots of a stock
   abbrev pub desk_of : WindowManager V H → List SlotView → FullDesk
   desk_of t slots = record {

@@ -2,8 +2,8 @@
 use Rattle.std.specs.Prelude.{◌≡◌, ℕ, [], slice_index_or}
 use Rattle.std.specs.Vec.{with_item}
 use Rattle.tb_geom.specs.declared.point.Point.{Point}
-use Rattle.def_iface.specs.declared.taken.Taken.{Taken}
-use Rattle.def_iface.specs.Meaning.{Loan}
+use Rattle.def_iface.specs.Slots.{TakenBox}
+use Rattle.def_iface.specs.WindowMeaning.{WindowLoan}
 use Rattle.window_list.specs.declared.window.Window.{Window}
 use Rattle.vis_update.specs.declared.area.Area.{Area}
 use Rattle.vis_update.specs.declared.scrolling.Scrolled.{Scrolled}
@@ -23,7 +23,7 @@ module _ {V : Type 0} {H : V → Type 0} where
     pub state : new ≡ record old { screen = new.screen; areas = with_item old.areas at (record area { update = s.update }) }
 
 -- `loan` says what a definition that was taken means
-module _ {V : Type 0} {H : V → Type 0} (loan : Taken V H → Loan) where
+module _ {V : Type 0} {H : V → Type 0} (loan : TakenBox V H → WindowLoan) where
   -- the plan is right for the window at this place, whose picture moves so far
   abbrev pub IsPlanOfScroll : ℕ → Point → WindowManager V H → Scrolled → Type 0
   IsPlanOfScroll at by t s = (w : Window V H) → IsWindowAt t.windows.records.items at w

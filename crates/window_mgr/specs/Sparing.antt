@@ -2,11 +2,11 @@
 use Rattle.std.specs.Prelude.{◌≡◌, ◌≢◌, ℕ, ◌==◌, ◌+◌, ◌<◌, ◌≤◌, Bool, true, false, [], Option, None, Some}
 use Rattle.tb_geom.specs.declared.point.Point.{Point}
 use Rattle.bit_map.specs.Bits.{Bits, bit, count}
-use Rattle.def_iface.specs.Desk.{LayeredDesk, on_screen}
-use Rattle.def_iface.specs.Owner.{Owner, owner, same_owner}
-use Rattle.def_iface.specs.Owner.Owner.{Frame}
-use Rattle.def_iface.specs.declared.taken.Taken.{Taken}
-use Rattle.def_iface.specs.Meaning.{Loan}
+use Rattle.desk_layers.specs.Desk.{LayeredDesk, on_screen}
+use Rattle.desk_layers.specs.Owner.{Owner, owner, same_owner}
+use Rattle.desk_layers.specs.Owner.Owner.{Frame}
+use Rattle.def_iface.specs.Slots.{TakenBox}
+use Rattle.def_iface.specs.WindowMeaning.{WindowLoan}
 use Rattle.desk_call.specs.declared.window.WindowCall.{WindowCall}
 use Rattle.desk_call.specs.declared.window.WindowCall.TheVariants.{Dispose, Show, Hide, ShowHide, Select, SendBehind, Move, Size}
 use Rattle.vis_update.specs.Areas.{is_content_of}
@@ -49,7 +49,7 @@ abbrev pub moving_content : ℕ → Option Point → Owner → Bool
 moving_content s None o = false
 moving_content s (Some by) o = is_content_of s o
 
-module _ {V : Type 0} {H : V → Type 0} (loan : Taken V H → Loan) where
+module _ {V : Type 0} {H : V → Type 0} (loan : TakenBox V H → WindowLoan) where
   -- a call about the window of this serial wrote no more on the screen, where that one's content moved so far, if it did
   abbrev pub Spares : ℕ → Option Point → WindowManager V H → WindowManager V H → Type 0
   Spares s by old new = IsSparing (moving_content s by) (λ n. n == s) (layered_desk (desk_of loan old [])) (layered_desk (desk_of loan new [])) old.screen new.screen

@@ -6,8 +6,8 @@ use Rattle.tb_geom.specs.declared.refusal.Refusal.TheVariants.{NoMemory, TooLong
 use Rattle.tb_geom.specs.Points.{PixelSet, plus}
 use Rattle.tb_geom.specs.Pixels.{Pixels, holds}
 use Rattle.region_bytes.specs.Bytes.{IsRegionBytes, IsTooLong}
-use Rattle.def_iface.specs.Desk.{on_screen}
-use Rattle.def_iface.specs.Owner.{owner}
+use Rattle.desk_layers.specs.Desk.{on_screen}
+use Rattle.desk_layers.specs.Owner.{owner}
 use Rattle.desk_call.specs.declared.window.WindowCall.{WindowCall}
 use Rattle.desk_call.specs.declared.window.WindowCall.TheVariants.{VisibleRegion, UpdateRegion}
 use Rattle.desk_call.specs.declared.window.WindowReply.{WindowReply}

@@ -4,14 +4,14 @@ use Rattle.std.specs.Vec.{with_item}
 use Rattle.tb_geom.specs.declared.point.Point.{Point}
 use Rattle.tb_geom.specs.Points.{PixelSet}
 use Rattle.tb_geom.specs.Pixels.{Pixels, holds}
-use Rattle.def_iface.specs.declared.taken.Taken.{Taken}
-use Rattle.def_iface.specs.Meaning.{Loan}
+use Rattle.def_iface.specs.Slots.{TakenBox}
+use Rattle.def_iface.specs.WindowMeaning.{WindowLoan}
 use Rattle.def_iface.specs.Stocked.{SlotView}
-use Rattle.def_iface.specs.Desk.{on_screen}
-use Rattle.def_iface.specs.declared.part.Part.{Part}
-use Rattle.def_iface.specs.Owner.{Owner, owner}
-use Rattle.def_iface.specs.Owner.Owner.{Content}
-use Rattle.def_iface.specs.Change.{Change, no_change, IsChanged}
+use Rattle.desk_layers.specs.Desk.{on_screen}
+use Rattle.desk_layers.specs.declared.part.Part.{Part}
+use Rattle.desk_layers.specs.Owner.{Owner, owner}
+use Rattle.desk_layers.specs.Owner.Owner.{Content}
+use Rattle.desk_layers.specs.Change.{Change, no_change, IsChanged}
 use Rattle.desk_call.specs.declared.update.LayerKind.{LayerKind}
 use Rattle.vis_update.specs.declared.area.Area.{Area}
 use Rattle.vis_update.specs.Areas.{is_content_of}
@@ -43,7 +43,7 @@ pub record IsRefreshed (these : Owner → Bool) (before after : FullState) : Typ
   pub pixels : IsChanged (refresh_change these before) (layered_state before) (layered_state after)
 
 -- `loan` says what a definition that was taken means
-module _ {V : Type 0} {H : V → Type 0} (loan : Taken V H → Loan) where
+module _ {V : Type 0} {H : V → Type 0} (loan : TakenBox V H → WindowLoan) where
   -- over any slots over which the window manager is whole it is whole afterwards, and its state is such a one
   abbrev pub LeavesState : (FullState → FullState → Type 0) → WindowManager V H → WindowManager V H → Type 0
   LeavesState after old new = (slots : List SlotView) → IsWholeManager loan old slots

@@ -3,12 +3,12 @@ use Rattle.std.specs.List.{list_all}
 use Rattle.std.specs.Prelude.{◌≡◌, ◌⊎◌, ℕ, ◌≤◌, true, false, List, length, map, None, Some, All, AllPairs, Contains, slice_get}
 use Rattle.tb_geom.specs.declared.point.Point.{Point}
 use Rattle.tb_geom.specs.Rects.{in_plane, is_in_range, moved_rect, rect_holds}
-use Rattle.def_iface.specs.declared.taken.Taken.{Taken}
+use Rattle.def_iface.specs.Slots.{TakenBox}
 use Rattle.def_iface.specs.declared.window_def.Stage.TheVariants.{Live}
-use Rattle.def_iface.specs.Meaning.{Loan, IsWithin, GoesBy, is_fitting}
+use Rattle.def_iface.specs.WindowMeaning.{WindowLoan, IsWithin, WindowGoesBy, is_fitting}
 use Rattle.def_iface.specs.Stocked.{SlotView, IsFull, is_left}
-use Rattle.def_iface.specs.Desk.{IsDesk, on_screen}
-use Rattle.def_iface.specs.Owner.{owner, own_bit, is_content}
+use Rattle.desk_layers.specs.Desk.{IsDesk, on_screen}
+use Rattle.desk_layers.specs.Owner.{owner, own_bit, is_content}
 use Rattle.window_list.specs.Holders.{fits_at}
 use Rattle.window_list.specs.declared.window.Window.{Window}
 use Rattle.vis_update.specs.Records.{WindowRecord, news_of}
@@ -31,7 +31,7 @@ pub record IsSettled (w : WindowRecord) : Type 0 where
   pub inside : is_in_range (moved_rect (w.definition.bounds w.size) w.place.h w.place.v) ≡ true
   pub within : IsWithin (w.definition.content w.size) (rect_holds (w.definition.bounds w.size))
   pub layers : list_all (fits_at w.place) w.layers ≡ true
-  pub goes_by : GoesBy (news_of w) w.definition
+  pub goes_by : WindowGoesBy (news_of w) w.definition
 
 -- a slot has its definition back, or belongs to one of these windows and is empty
 abbrev pub IsSlot : List WindowRecord → List SlotView → ℕ → Type 0
@@ -64,7 +64,7 @@ abbrev pub LieThere : {V : Type 0} {H : V → Type 0} → Window V H → Type 0
 LieThere w = w.layers.place ≡ w.place
 
 -- `loan` says what a definition that was taken means
-module _ {V : Type 0} {H : V → Type 0} (loan : Taken V H → Loan) where
+module _ {V : Type 0} {H : V → Type 0} (loan : TakenBox V H → WindowLoan) where
   -- a window manager and the slots of its stock, between calls
   pub record IsWholeManager (t : WindowManager V H) (slots : List SlotView) : Type 0 where
     pub sound : IsSoundDesk (desk_of loan t slots)

@@ -1,9 +1,9 @@
 -- One window taken out of the others, as the code does it.
 use Rattle.std.specs.Prelude.{◌≡◌, ℕ, List, [], map, None, true}
 use Rattle.std.specs.List.{remove}
-use Rattle.def_iface.specs.declared.taken.Taken.{Taken}
-use Rattle.def_iface.specs.Meaning.{Loan}
-use Rattle.def_iface.specs.Desk.{IsDesk}
+use Rattle.def_iface.specs.Slots.{TakenBox}
+use Rattle.def_iface.specs.WindowMeaning.{WindowLoan}
+use Rattle.desk_layers.specs.Desk.{IsDesk}
 use Rattle.window_list.specs.declared.window.Window.{Window}
 use Rattle.vis_update.specs.declared.area.Area.{Area}
 use Rattle.vis_update.specs.declared.plan.Plan.{Plan}
@@ -31,7 +31,7 @@ module _ {V : Type 0} {H : V → Type 0} where
     pub is : seats ≡ remove all at
 
 -- `loan` says what a definition that was taken means
-module _ {V : Type 0} {H : V → Type 0} (loan : Taken V H → Loan) where
+module _ {V : Type 0} {H : V → Type 0} (loan : TakenBox V H → WindowLoan) where
   -- the records of the windows but the one at this place
   abbrev pub records_without : ℕ → WindowManager V H → List WindowRecord
   records_without at t = map (record_of loan) (remove t.windows.records.items at)
@@ -56,7 +56,7 @@ module _ {V : Type 0} {H : V → Type 0} (loan : Taken V H → Loan) where
 
   -- another window became active where that is so, the one at this place was taken out, with its definition, and the plan
   -- was drawn
-  pub record IsTakenOff (at : ℕ) (activation : Activation) (plan : Plan) (taken : Taken V H)
+  pub record IsTakenOff (at : ℕ) (activation : Activation) (plan : Plan) (taken : TakenBox V H)
       (old new : WindowManager V H) : Type 0 where
     pub window : Window V H
     pub there : IsWindowAt old.windows.records.items at window

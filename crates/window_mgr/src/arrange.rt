@@ -4,14 +4,16 @@ ghost use Rattle.vis_update.specs.Records.{record_of};
 ghost use Rattle.window_list.specs.Ranks.{moved_item};
 ghost use Rattle.window_mgr.specs.AnySlots.{IsRearrangedOverAnySlots};
 ghost use Rattle.window_mgr.specs.Arrange.{activation_of, active_after, if_active};
-ghost use Rattle.window_mgr.specs.Edits.{IsWindowAt, relit_all, IsPutAnew, StandsAt, IsPlaceable, SameSize, IsOnItsWay, AreSeatsAfter, AreSettledAfter, IsActivation, IsPlanOfEdit, IsCommitted, stays_put};
+ghost use Rattle.window_mgr.specs.Edits.{IsWindowAt, relit_all, IsPutAnew, StandsAt, IsPlaceable, SameSize, IsOnItsWay};
+ghost use Rattle.window_mgr.specs.Edits.{AreSeatsAfter, AreSettledAfter, IsActivation, IsPlanOfEdit, IsCommitted};
+ghost use Rattle.window_mgr.specs.Edits.{stays_put};
 ghost use Rattle.window_mgr.specs.Finding.{record_with};
 ghost use Rattle.window_mgr.specs.Kept.{IsKept};
 ghost use Rattle.window_mgr.specs.Seats.{AreSeatsOf, first_seated};
 ghost use Rattle.window_mgr.specs.Sparing.{Spares};
 
 use crate::{WindowManager, WindowReply};
-use def_iface::{Defined, Size, Taken};
+use def_iface::{Defined, Size, TakenWindow};
 use std::alloc::AllocError;
 use tb_geom::{Point, Refusal};
 use vis_update::{Plan, Seat, Touch, changed_with, lost_of, plan_of, seat_of};
@@ -113,7 +115,7 @@ impl WindowManager {
     /// The index of the window of this serial in the list.
     pub fn find(&self, window: u64) -> Option<usize>
         ensures { MatchOption result
-            (record_with window (map (record_of ⟦<Taken as Defined>⟧.loan) self.now.windows.records.items) ≡ None)
+            (record_with window (map (record_of ⟦<TakenWindow as Defined>⟧.loan) self.now.windows.records.items) ≡ None)
             (StandsAt self.now.windows.records.items window) }
     {
         self.windows.find(window)
@@ -128,15 +130,16 @@ impl WindowManager {
         activates: Activates,
         by: Option<Point>,
     ) -> Result<WindowReply, Refusal>
-        requires kept { IsKept ⟦<Taken as Defined>⟧.loan self.old }
+        requires kept { IsKept ⟦<TakenWindow as Defined>⟧.loan self.old }
         requires at { edit.at < length self.old.windows.records.items }
         requires to { edit.to < length self.old.windows.records.items }
-        requires placed { IsPlaceable ⟦<Taken as Defined>⟧.loan edit self.old.windows.records.items }
+        requires placed { IsPlaceable ⟦<TakenWindow as Defined>⟧.loan edit self.old.windows.records.items }
         requires size { SameSize edit self.old.windows.records.items }
         requires way { IsOnItsWay edit.at edit.place by self.old.windows.records.items }
-        ensures step { IsRearrangedOverAnySlots ⟦<Taken as Defined>⟧.loan edit activates by result self.old self.new }
+        ensures step { IsRearrangedOverAnySlots ⟦<TakenWindow as Defined>⟧.loan edit activates by result self.old
+            self.new }
         ensures sparing { (w : _) → IsWindowAt self.old.windows.records.items edit.at w
-            → Spares ⟦<Taken as Defined>⟧.loan w.serial by self.old self.new }
+            → Spares ⟦<TakenWindow as Defined>⟧.loan w.serial by self.old self.new }
     {
         let Ok(Rearrangement { plan, activation }) = self.plan_edit(
             edit,
@@ -158,13 +161,14 @@ impl WindowManager {
         by: Option<Point>,
         whole: bool,
     ) -> Result<Rearrangement, AllocError>
-        requires kept { IsKept ⟦<Taken as Defined>⟧.loan self.now }
+        requires kept { IsKept ⟦<TakenWindow as Defined>⟧.loan self.now }
         requires at { edit.at < length self.now.windows.records.items }
         requires to { edit.to < length self.now.windows.records.items }
-        requires placed { IsPlaceable ⟦<Taken as Defined>⟧.loan edit self.now.windows.records.items }
+        requires placed { IsPlaceable ⟦<TakenWindow as Defined>⟧.loan edit self.now.windows.records.items }
         requires way { IsOnItsWay edit.at edit.place by self.now.windows.records.items }
-        ensures plan { IfOk result (λ r. IsPlanOfEdit ⟦<Taken as Defined>⟧.loan edit by whole self.now r.plan) }
-        ensures activation { IfOk result (λ r. IsActivation ⟦<Taken as Defined>⟧.loan edit activates self.now r.activation) }
+        ensures plan { IfOk result (λ r. IsPlanOfEdit ⟦<TakenWindow as Defined>⟧.loan edit by whole self.now r.plan) }
+        ensures activation { IfOk result (λ r. IsActivation ⟦<TakenWindow as Defined>⟧.loan edit activates self.now
+            r.activation) }
         ensures length { IfOk result (λ r. vec_len r.plan.parts ≡ length self.now.windows.records.items) }
     {
         let seats = self.seats_after(edit)?;
@@ -184,7 +188,8 @@ impl WindowManager {
         requires areas { length self.now.areas.items ≡ length self.now.windows.records.items }
         requires at { edit.at < length self.now.windows.records.items }
         requires to { edit.to < length self.now.windows.records.items }
-        ensures { IfOk result (λ seats. AreSeatsAfter edit self.now.windows.records.items self.now.areas.items seats.items) }
+        ensures { IfOk result (λ seats. AreSeatsAfter edit self.now.windows.records.items self.now.areas.items
+            seats.items) }
     {
         let mut seats = self.seats()?;
         let mut seat = seats.remove(edit.at);
@@ -198,7 +203,8 @@ impl WindowManager {
     /// The windows as they are, with room for one more.
     pub(crate) fn seats(&self) -> Result<Vec<Seat<'_>>, AllocError>
         requires { length self.now.areas.items ≡ length self.now.windows.records.items }
-        ensures seats { IfOk result (λ seats. AreSeatsOf self.now.windows.records.items self.now.areas.items seats.items) }
+        ensures seats { IfOk result (λ seats. AreSeatsOf self.now.windows.records.items self.now.areas.items
+            seats.items) }
         ensures length { IfOk result (λ seats. vec_len seats ≡ length self.now.windows.records.items) }
         ensures room { IfOk result (λ seats. vec_len seats < vec_capacity seats) }
     {
@@ -215,7 +221,7 @@ impl WindowManager {
         requires areas { length self.old.areas.items ≡ length self.old.windows.records.items }
         requires at { edit.at < length self.old.windows.records.items }
         requires to { edit.to < length self.old.windows.records.items }
-        requires placed { IsPlaceable ⟦<Taken as Defined>⟧.loan edit self.old.windows.records.items }
+        requires placed { IsPlaceable ⟦<TakenWindow as Defined>⟧.loan edit self.old.windows.records.items }
         ensures put { IsPutAnew edit self.old.windows.records.items self.new.windows.records.items }
         ensures len { length self.new.windows.records.items ≡ length self.old.windows.records.items }
         ensures active { self.new.windows.active ≡ self.old.windows.active }
@@ -252,11 +258,11 @@ impl WindowManager {
         requires areas { length self.old.areas.items ≡ length self.old.windows.records.items }
         requires at { edit.at < length self.old.windows.records.items }
         requires to { edit.to < length self.old.windows.records.items }
-        requires settled { AreSettledAfter ⟦<Taken as Defined>⟧.loan edit activation self.old.windows.active
+        requires settled { AreSettledAfter ⟦<TakenWindow as Defined>⟧.loan edit activation self.old.windows.active
             self.old.windows.records.items }
-        requires placed { IsPlaceable ⟦<Taken as Defined>⟧.loan edit self.old.windows.records.items }
+        requires placed { IsPlaceable ⟦<TakenWindow as Defined>⟧.loan edit self.old.windows.records.items }
         requires parts { vec_len plan.parts ≡ length self.old.windows.records.items }
-        ensures { IsCommitted ⟦<Taken as Defined>⟧.loan edit activation plan by self.old self.new }
+        ensures { IsCommitted ⟦<TakenWindow as Defined>⟧.loan edit activation plan by self.old self.new }
     {
         self.put_anew(edit);
         self.activate(activation);

@@ -13,7 +13,7 @@ ghost use Rattle.window_mgr.specs.Sparing.{Spares};
 use crate::arrange::{Activates, Edit};
 use crate::standing::may_stand;
 use crate::{MoveWindow, SendBehind, ShowHide, WindowManager, WindowReply};
-use def_iface::{Defined, Taken};
+use def_iface::{Defined, TakenWindow};
 use tb_geom::Refusal;
 use window_list::local;
 
@@ -25,10 +25,10 @@ impl WindowManager {
         window: u64,
         select: bool,
     ) -> Result<WindowReply, Refusal>
-        requires { IsKept ⟦<Taken as Defined>⟧.loan self.old }
-        ensures step { IsStepOverAnySlots ⟦<Taken as Defined>⟧.loan
+        requires { IsKept ⟦<TakenWindow as Defined>⟧.loan self.old }
+        ensures step { IsStepOverAnySlots ⟦<TakenWindow as Defined>⟧.loan
             (if select then asks.Select window else asks.BringToFront window) result self.old self.new }
-        ensures sparing { Spares ⟦<Taken as Defined>⟧.loan window None self.old self.new }
+        ensures sparing { Spares ⟦<TakenWindow as Defined>⟧.loan window None self.old self.new }
     {
         let Some(at) = self.find(window) else {
             return Err(Refusal::NoSuchWindow);
@@ -43,9 +43,10 @@ impl WindowManager {
     /// Puts a window behind another or at the back of its class.
     #[tactic(auto, using(crate::proofs::Sparing::spares_same))]
     pub(crate) fn send_behind(&mut self, sent: SendBehind) -> Result<WindowReply, Refusal>
-        requires { IsKept ⟦<Taken as Defined>⟧.loan self.old }
-        ensures step { IsStepOverAnySlots ⟦<Taken as Defined>⟧.loan (asks.SendBehind sent) result self.old self.new }
-        ensures sparing { Spares ⟦<Taken as Defined>⟧.loan sent.window None self.old self.new }
+        requires { IsKept ⟦<TakenWindow as Defined>⟧.loan self.old }
+        ensures step { IsStepOverAnySlots ⟦<TakenWindow as Defined>⟧.loan (asks.SendBehind sent) result self.old
+            self.new }
+        ensures sparing { Spares ⟦<TakenWindow as Defined>⟧.loan sent.window None self.old self.new }
     {
         let Some(at) = self.find(sent.window) else {
             return Err(Refusal::NoSuchWindow);
@@ -62,10 +63,10 @@ impl WindowManager {
 
     /// The index in the list, counted without the window at this index, where it is to go behind another.
     fn place_to_send(&self, sent: SendBehind, at: usize) -> Result<usize, Refusal>
-        requires kept { IsKept ⟦<Taken as Defined>⟧.loan self.now }
+        requires kept { IsKept ⟦<TakenWindow as Defined>⟧.loan self.now }
         requires at { StandsAt self.now.windows.records.items sent.window at }
-        ensures { MatchResult result (IsPlaceBehind ⟦<Taken as Defined>⟧.loan sent at self.now)
-            (λ e. first_refusal (behind_refusals sent (desk_of ⟦<Taken as Defined>⟧.loan self.now [])) ≡ Some e) }
+        ensures { MatchResult result (IsPlaceBehind ⟦<TakenWindow as Defined>⟧.loan sent at self.now)
+            (λ e. first_refusal (behind_refusals sent (desk_of ⟦<TakenWindow as Defined>⟧.loan self.now [])) ≡ Some e) }
     {
         let found = self.windows.at(at);
         let Some(front) = sent.behind else {
@@ -86,9 +87,9 @@ impl WindowManager {
     /// Moves a window, and selects it where that is asked.
     #[tactic(auto, using(crate::proofs::Sparing::spares_same))]
     pub(crate) fn move_window(&mut self, moved: MoveWindow) -> Result<WindowReply, Refusal>
-        requires { IsKept ⟦<Taken as Defined>⟧.loan self.old }
-        ensures step { IsStepOverAnySlots ⟦<Taken as Defined>⟧.loan (asks.Move moved) result self.old self.new }
-        ensures sparing { Spares ⟦<Taken as Defined>⟧.loan moved.window (Some moved.place) self.old self.new }
+        requires { IsKept ⟦<TakenWindow as Defined>⟧.loan self.old }
+        ensures step { IsStepOverAnySlots ⟦<TakenWindow as Defined>⟧.loan (asks.Move moved) result self.old self.new }
+        ensures sparing { Spares ⟦<TakenWindow as Defined>⟧.loan moved.window (Some moved.place) self.old self.new }
     {
         let Some(at) = self.find(moved.window) else {
             return Err(Refusal::NoSuchWindow);
@@ -116,11 +117,11 @@ impl WindowManager {
         change: ShowHide,
         activates: bool,
     ) -> Result<WindowReply, Refusal>
-        requires { IsKept ⟦<Taken as Defined>⟧.loan self.old }
-        ensures step { IsStepOverAnySlots ⟦<Taken as Defined>⟧.loan
+        requires { IsKept ⟦<TakenWindow as Defined>⟧.loan self.old }
+        ensures step { IsStepOverAnySlots ⟦<TakenWindow as Defined>⟧.loan
             (if activates then (if change.shown then asks.Show change.window else asks.Hide change.window)
             else asks.ShowHide change) result self.old self.new }
-        ensures sparing { Spares ⟦<Taken as Defined>⟧.loan change.window None self.old self.new }
+        ensures sparing { Spares ⟦<TakenWindow as Defined>⟧.loan change.window None self.old self.new }
     {
         let Some(at) = self.find(change.window) else {
             return Err(Refusal::NoSuchWindow);
@@ -142,7 +143,8 @@ fn if_so(holds: bool, activates: Activates) -> Activates
 
 /// What becomes active where a window becomes visible or hidden, or stays so.
 fn when_shown(was: bool, is: bool) -> Activates
-    ensures { result ≡ (if is then (if was then Nothing else ItselfIfFront) else (if was then FrontInItsPlace else Nothing)) }
+    ensures { result ≡ (if is then (if was then Nothing else ItselfIfFront)
+        else (if was then FrontInItsPlace else Nothing)) }
 {
     match (was, is) {
         (false, true) => Activates::ItselfIfFront,

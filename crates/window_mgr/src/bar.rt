@@ -5,14 +5,14 @@ ghost use Rattle.window_mgr.specs.Kept.{IsKept};
 ghost use Rattle.window_mgr.specs.Updating.{LeavesState};
 
 use crate::WindowManager;
-use def_iface::{Defined, Taken};
+use def_iface::{Defined, TakenWindow};
 use desk_ground::{Titles, draw_bar};
 
 impl WindowManager {
     /// Shows other titles in the menu bar. It takes no memory.
     pub fn set_titles(&mut self, titles: Titles)
-        requires { IsKept ⟦<Taken as Defined>⟧.loan self.old }
-        ensures { LeavesState ⟦<Taken as Defined>⟧.loan (IsBarShown titles) self.old self.new }
+        requires { IsKept ⟦<TakenWindow as Defined>⟧.loan self.old }
+        ensures { LeavesState ⟦<TakenWindow as Defined>⟧.loan (IsBarShown titles) self.old self.new }
     {
         self.bar.titles = titles;
         draw_bar(

@@ -9,7 +9,7 @@ ghost use Rattle.window_paint.specs.Writes.{IsWrittenBy};
 use crate::WindowManager;
 use bit_blit::fill;
 use bit_map::{BitMap, Mode};
-use def_iface::{Defined, Taken};
+use def_iface::{Defined, TakenWindow};
 use desk_ground::DESKTOP;
 use strike_font::Font;
 use tb_geom::Point;
@@ -20,10 +20,12 @@ use window_paint::{move_content, paint_part};
 impl WindowManager {
     /// Draws what a plan says, once the windows are as they are to be, and keeps their areas.
     pub(crate) fn commit(&mut self, plan: Plan, by: Option<Point>)
-        requires settled { All IsSettled (map (record_of ⟦<Taken as Defined>⟧.loan) self.old.windows.records.items) }
+        requires settled { All IsSettled (map (record_of ⟦<TakenWindow as Defined>⟧.loan)
+            self.old.windows.records.items) }
         requires parts { length plan.parts.items ≡ length self.old.windows.records.items }
         ensures drawn { IsPlanDrawn plan by self.old.font
-            (map (record_of ⟦<Taken as Defined>⟧.loan) self.old.windows.records.items) self.old.screen self.new.screen }
+            (map (record_of ⟦<TakenWindow as Defined>⟧.loan) self.old.windows.records.items) self.old.screen
+            self.new.screen }
         ensures areas { self.new.areas.items ≡ areas_then self.old.areas.items plan.areas.items }
         ensures desktop { self.new.desktop ≡ plan.desktop }
         ensures others { self.new ≡ record self.old {
@@ -49,9 +51,10 @@ impl WindowManager {
 
 /// Paints the parts of windows: makes what of their content is new white, and draws their frames.
 fn paint_parts(screen: &mut BitMap, windows: &WindowList, parts: &[Repaint], font: &Font)
-    requires settled { All IsSettled (map (record_of ⟦<Taken as Defined>⟧.loan) windows.now.records.items) }
+    requires settled { All IsSettled (map (record_of ⟦<TakenWindow as Defined>⟧.loan) windows.now.records.items) }
     requires parts { length parts.now ≡ length windows.now.records.items }
-    ensures painted { ArePainted font.now (map (record_of ⟦<Taken as Defined>⟧.loan) windows.now.records.items) parts.now
+    ensures painted { ArePainted font.now (map (record_of ⟦<TakenWindow as Defined>⟧.loan) windows.now.records.items)
+        parts.now
         screen.old screen.new }
     ensures written { IsWrittenBy (erased parts.now) (redrawn parts.now) screen.old screen.new }
 {

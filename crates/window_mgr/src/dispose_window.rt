@@ -12,9 +12,8 @@ ghost use Rattle.window_mgr.specs.Without.{AreSeatsWithout, IsPlanWithout, IsAct
 ghost use Rattle.window_mgr.specs.Sparing.{Spares};
 
 use crate::arrange::{Activates, Activation, Rearrangement, front_of};
-use crate::close::put_away;
 use crate::{WindowManager, WindowReply};
-use def_iface::{Defined, Stocked, Taken, WindowStock};
+use def_iface::{Defined, Stocked, TakenWindow, WindowStock, put_away};
 use scan_region::Region;
 use std::alloc::AllocError;
 use tb_geom::Refusal;
@@ -30,12 +29,14 @@ impl WindowManager {
         window: u64,
         stock: &mut WindowStock,
     ) -> Result<WindowReply, Refusal>
-        requires { IsWholeManager ⟦<Taken as Defined>⟧.loan self.old (⟦<WindowStock as Stocked>⟧.slots stock.old) }
-        ensures whole { IsWholeManager ⟦<Taken as Defined>⟧.loan self.new (⟦<WindowStock as Stocked>⟧.slots stock.new) }
+        requires { IsWholeManager ⟦<TakenWindow as Defined>⟧.loan self.old
+            (⟦<WindowStock as Stocked>⟧.slots stock.old) }
+        ensures whole { IsWholeManager ⟦<TakenWindow as Defined>⟧.loan self.new
+            (⟦<WindowStock as Stocked>⟧.slots stock.new) }
         ensures step { IsWindowStep (Dispose window) result
-            (state_of ⟦<Taken as Defined>⟧.loan self.old (⟦<WindowStock as Stocked>⟧.slots stock.old))
-            (state_of ⟦<Taken as Defined>⟧.loan self.new (⟦<WindowStock as Stocked>⟧.slots stock.new)) }
-        ensures sparing { Spares ⟦<Taken as Defined>⟧.loan window None self.old self.new }
+            (state_of ⟦<TakenWindow as Defined>⟧.loan self.old (⟦<WindowStock as Stocked>⟧.slots stock.old))
+            (state_of ⟦<TakenWindow as Defined>⟧.loan self.new (⟦<WindowStock as Stocked>⟧.slots stock.new)) }
+        ensures sparing { Spares ⟦<TakenWindow as Defined>⟧.loan window None self.old self.new }
     {
         let Some(at) = self.find(window) else {
             return Err(Refusal::NoSuchWindow);
@@ -50,11 +51,11 @@ impl WindowManager {
 
     /// All that changes on the screen where this window, at this index, is there no more, and all growth.
     fn plan_without(&self, window: u64, at: usize) -> Result<Rearrangement, AllocError>
-        requires kept { IsKept ⟦<Taken as Defined>⟧.loan self.now }
+        requires kept { IsKept ⟦<TakenWindow as Defined>⟧.loan self.now }
         requires at { StandsAt self.now.windows.records.items window at }
-        ensures plan { IfOk result (λ r. IsPlanWithout ⟦<Taken as Defined>⟧.loan at window self.now r.plan) }
+        ensures plan { IfOk result (λ r. IsPlanWithout ⟦<TakenWindow as Defined>⟧.loan at window self.now r.plan) }
         ensures activation { IfOk result (λ r.
-            IsActivationWithout ⟦<Taken as Defined>⟧.loan at window self.now r.activation) }
+            IsActivationWithout ⟦<TakenWindow as Defined>⟧.loan at window self.now r.activation) }
         ensures length { IfOk result (λ r. vec_len r.plan.parts + 1 ≡ length self.now.windows.records.items) }
     {
         let seats = self.seats_without(at)?;
@@ -84,13 +85,13 @@ impl WindowManager {
     }
 
     /// Makes active what becomes so, takes the window at this index out, and draws what a plan says.
-    fn take_off(&mut self, at: usize, activation: Activation, plan: Plan) -> Taken
+    fn take_off(&mut self, at: usize, activation: Activation, plan: Plan) -> TakenWindow
         requires areas { length self.old.areas.items ≡ length self.old.windows.records.items }
         requires at { at < length self.old.windows.records.items }
-        requires settled { All IsSettled (map (record_of ⟦<Taken as Defined>⟧.loan)
+        requires settled { All IsSettled (map (record_of ⟦<TakenWindow as Defined>⟧.loan)
             (relit_all activation self.old.windows.active (remove self.old.windows.records.items at))) }
         requires parts { vec_len plan.parts + 1 ≡ length self.old.windows.records.items }
-        ensures { IsTakenOff ⟦<Taken as Defined>⟧.loan at activation plan result self.old self.new }
+        ensures { IsTakenOff ⟦<TakenWindow as Defined>⟧.loan at activation plan result self.old self.new }
     {
         self.activate(activation);
         let Window { taken, .. } = self.windows.remove(at);

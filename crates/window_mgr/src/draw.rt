@@ -8,7 +8,7 @@ ghost use Rattle.window_mgr.specs.Records.{state_of};
 ghost use Rattle.window_mgr.specs.Refused.{IsRefusal, is_formal};
 
 use crate::{Drawing, WindowManager, WindowReply};
-use def_iface::{Defined, Taken};
+use def_iface::{Defined, TakenWindow};
 use draw_port::MOST_OPERATIONS;
 use tb_geom::Refusal;
 use window_paint::paint_last_operation;
@@ -16,9 +16,9 @@ use window_paint::paint_last_operation;
 impl WindowManager {
     /// The index of the window that is drawn in, where nothing but memory can refuse that.
     fn index_to_draw(&self, drawing: &Drawing<'_>) -> Result<usize, Refusal>
-        requires { IsKept ⟦<Taken as Defined>⟧.loan self.now }
+        requires { IsKept ⟦<TakenWindow as Defined>⟧.loan self.now }
         ensures { MatchResult result (MayDraw drawing.now self.now)
-            (λ e. IsRefusal (Draw drawing.now) (state_of ⟦<Taken as Defined>⟧.loan self.now []) (Some e)) }
+            (λ e. IsRefusal (Draw drawing.now) (state_of ⟦<TakenWindow as Defined>⟧.loan self.now []) (Some e)) }
     {
         match (drawing.operation.judge(), self.find(drawing.window)) {
             (Err(refusal), _) if is_formal(refusal) => Err(refusal),
@@ -39,8 +39,8 @@ impl WindowManager {
     /// BadRegion as `OpRef::judge` has them, NoSuchWindow, OutOfRange and TooLong as it has them, TooMany
     /// where the picture has 1024 operations, NoMemory.
     pub(crate) fn draw(&mut self, drawing: &Drawing<'_>) -> Result<WindowReply, Refusal>
-        requires { IsKept ⟦<Taken as Defined>⟧.loan self.old }
-        ensures { IsStepOverAnySlots ⟦<Taken as Defined>⟧.loan (Draw drawing.now) result self.old self.new }
+        requires { IsKept ⟦<TakenWindow as Defined>⟧.loan self.old }
+        ensures { IsStepOverAnySlots ⟦<TakenWindow as Defined>⟧.loan (Draw drawing.now) result self.old self.new }
     {
         let at = self.index_to_draw(drawing)?;
         let Ok(operation) = drawing.operation.to_op(self.alloc) else {

@@ -3,7 +3,7 @@ ghost use Rattle.std.specs.Prelude.{◌≡◌, if◌then◌else◌, Ok, Err, Som
 ghost use Rattle.tb_geom.specs.declared.refusal.Refusal.TheVariants.{OutOfRange};
 ghost use Rattle.tb_geom.specs.Points.{minus};
 ghost use Rattle.tb_geom.specs.Rects.{in_plane};
-ghost use Rattle.def_iface.specs.News.{no_news};
+ghost use Rattle.def_iface.specs.WindowNews.{no_news};
 ghost use Rattle.window_mgr.specs.Kept.{IsKept};
 ghost use Rattle.vis_update.specs.Areas.{area_has};
 ghost use Rattle.window_mgr.specs.Finding.{found_at, part_of_hit};
@@ -12,16 +12,16 @@ ghost use Rattle.window_mgr.specs.Records.{desk_of};
 ghost use Rattle.window_mgr.specs.Whole.{IsSettled};
 
 use crate::{Found, WindowManager, WindowPart};
-use def_iface::{Defined, Hit, Taken};
+use def_iface::{Defined, Hit, TakenWindow};
 use tb_geom::{Point, Refusal};
 use window_list::{Window, local};
 
 impl WindowManager {
     /// Whose the point of the screen is. OutOfRange where it lies outside the range of coordinates.
     pub fn find_window(&self, point: Point) -> Result<Found, Refusal>
-        requires { IsKept ⟦<Taken as Defined>⟧.loan self.now }
+        requires { IsKept ⟦<TakenWindow as Defined>⟧.loan self.now }
         ensures { result ≡ (if in_plane point
-            then Ok (found_at (desk_of ⟦<Taken as Defined>⟧.loan self.now []) point)
+            then Ok (found_at (desk_of ⟦<TakenWindow as Defined>⟧.loan self.now []) point)
             else Err OutOfRange) }
     {
         if point.is_in_range() {
@@ -33,9 +33,9 @@ impl WindowManager {
 
     /// Whose the point is.
     fn found_at(&self, point: Point) -> Found
-        requires asked { IsKept ⟦<Taken as Defined>⟧.loan self.now }
+        requires asked { IsKept ⟦<TakenWindow as Defined>⟧.loan self.now }
         requires in_plane { in_plane point ≡ true }
-        ensures { result ≡ found_at (desk_of ⟦<Taken as Defined>⟧.loan self.now []) point }
+        ensures { result ≡ found_at (desk_of ⟦<TakenWindow as Defined>⟧.loan self.now []) point }
     {
         if !self.screen.bounds().contains(point) {
             return Found {
@@ -73,10 +73,11 @@ impl WindowManager {
 
 /// The window, and the part of it that the point of the screen lies in.
 fn found(window: &Window, point: Point) -> Found
-    requires settled { IsSettled (record_of ⟦<Taken as Defined>⟧.loan window.now) }
+    requires settled { IsSettled (record_of ⟦<TakenWindow as Defined>⟧.loan window.now) }
     requires in_plane { in_plane point ≡ true }
     ensures { result ≡ record {
-      part = part_of_hit ((⟦<Taken as Defined>⟧.loan window.now.taken).definition.hit no_news (minus point window.now.place));
+      part = part_of_hit ((⟦<TakenWindow as Defined>⟧.loan window.now.taken).definition.hit no_news
+          (minus point window.now.place));
       window = Some window.now.serial;
     } }
 {

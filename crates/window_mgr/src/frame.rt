@@ -1,6 +1,6 @@
 //! What a window's definition is told of its window, and the window's frame, drawn anew where it shows.
 ghost use Rattle.std.specs.Prelude.{◌≡◌, ◌<◌, ◌==◌, length, true};
-ghost use Rattle.def_iface.specs.News.{told_change};
+ghost use Rattle.def_iface.specs.WindowNews.{told_change};
 ghost use Rattle.window_list.specs.Changes.{keeps_size, has_short_title};
 ghost use Rattle.window_mgr.specs.Edits.{IsWindowAt};
 ghost use Rattle.window_mgr.specs.FrameNotices.{IsFrameNotified, notified_record};
@@ -9,7 +9,7 @@ ghost use Rattle.window_mgr.specs.Sparing.{Repaints};
 ghost use Rattle.window_mgr.specs.Updating.{LeavesState};
 
 use crate::WindowManager;
-use def_iface::{Defined, Taken, WindowChange};
+use def_iface::{Defined, TakenWindow, WindowChange};
 use window_paint::paint_frame;
 
 impl WindowManager {
@@ -17,14 +17,16 @@ impl WindowManager {
     /// within the damage that the definition answers. The record keeps what it is told. A change of the size
     /// is told by `WindowCall::Size`, and a title has at most 255 bytes. It takes no memory.
     pub fn notify(&mut self, at: usize, change: WindowChange<'_>)
-        requires kept { IsKept ⟦<Taken as Defined>⟧.loan self.old }
+        requires kept { IsKept ⟦<TakenWindow as Defined>⟧.loan self.old }
         requires at { at < length self.old.windows.records.items }
         requires size { keeps_size change ≡ true }
         requires title { has_short_title change ≡ true }
         ensures told { (w : _) → IsWindowAt self.old.windows.records.items at w
-            → LeavesState ⟦<Taken as Defined>⟧.loan (IsFrameNotified w.serial (λ _. told_change change.entry) (notified_record change.entry)) self.old self.new }
+            → LeavesState ⟦<TakenWindow as Defined>⟧.loan
+            (IsFrameNotified w.serial (λ _. told_change change.entry) (notified_record change.entry)) self.old
+            self.new }
         ensures repainted { (w : _) → IsWindowAt self.old.windows.records.items at w
-            → Repaints ⟦<Taken as Defined>⟧.loan (λ n. n == w.serial) self.old self.new }
+            → Repaints ⟦<TakenWindow as Defined>⟧.loan (λ n. n == w.serial) self.old self.new }
     {
         let damage = self.windows.notify(at, change);
         paint_frame(

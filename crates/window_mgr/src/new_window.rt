@@ -1,7 +1,8 @@
 //! The call that makes a window.
-ghost use Rattle.std.specs.Prelude.{◌≡◌, ◌+◌, ◌++◌, ◌∷◌, [], true, map, if◌then◌else◌, Some, None, All, IfOk, IfErr, MatchResult, length, vec_len};
+ghost use Rattle.std.specs.Prelude.{◌≡◌, ◌+◌, ◌++◌, ◌∷◌, [], true, map, if◌then◌else◌, Some, None, All, IfOk, IfErr};
+ghost use Rattle.std.specs.Prelude.{MatchResult, length, vec_len};
 ghost use Rattle.tb_geom.specs.Rects.{in_plane};
-ghost use Rattle.def_iface.specs.Meaning.{is_fitting};
+ghost use Rattle.def_iface.specs.WindowMeaning.{is_fitting};
 ghost use Rattle.desk_call.specs.declared.window.WindowCall.TheVariants.{New, NewFloating};
 ghost use Rattle.vis_update.specs.Records.{record_of};
 ghost use Rattle.vis_update.specs.Places.{is_placed};
@@ -16,7 +17,7 @@ ghost use Rattle.window_mgr.specs.Step.{IsWindowStep};
 ghost use Rattle.window_mgr.specs.Whole.{IsWholeManager, IsSettled, LieThere};
 
 use crate::{NewWindow, WindowManager, WindowReply};
-use def_iface::{Defined, Stage, Stocked, Taken, WindowStock};
+use def_iface::{Defined, Stage, Stocked, TakenWindow, WindowStock};
 use draw_port::Picture;
 use std::alloc::{AllocError, Global};
 use tb_geom::{Point, Refusal};
@@ -51,11 +52,13 @@ impl WindowManager {
         floating: bool,
         stock: &mut WindowStock,
     ) -> Result<WindowReply, Refusal>
-        requires { IsWholeManager ⟦<Taken as Defined>⟧.loan self.old (⟦<WindowStock as Stocked>⟧.slots stock.old) }
-        ensures whole { IsWholeManager ⟦<Taken as Defined>⟧.loan self.new (⟦<WindowStock as Stocked>⟧.slots stock.new) }
+        requires { IsWholeManager ⟦<TakenWindow as Defined>⟧.loan self.old
+            (⟦<WindowStock as Stocked>⟧.slots stock.old) }
+        ensures whole { IsWholeManager ⟦<TakenWindow as Defined>⟧.loan self.new
+            (⟦<WindowStock as Stocked>⟧.slots stock.new) }
         ensures step { IsWindowStep (if floating then NewFloating window.now else New window.now) result
-            (state_of ⟦<Taken as Defined>⟧.loan self.old (⟦<WindowStock as Stocked>⟧.slots stock.old))
-            (state_of ⟦<Taken as Defined>⟧.loan self.new (⟦<WindowStock as Stocked>⟧.slots stock.new)) }
+            (state_of ⟦<TakenWindow as Defined>⟧.loan self.old (⟦<WindowStock as Stocked>⟧.slots stock.old))
+            (state_of ⟦<TakenWindow as Defined>⟧.loan self.new (⟦<WindowStock as Stocked>⟧.slots stock.new)) }
     {
         match stock.take(window.kind.as_slice()) {
             Ok(taken) => match self.plan_window(window, floating, &taken) {
@@ -79,15 +82,15 @@ impl WindowManager {
         &mut self,
         window: &NewWindow<'_>,
         floating: bool,
-        taken: &Taken,
+        taken: &TakenWindow,
     ) -> Result<Addition, Refusal>
-        requires { IsKept ⟦<Taken as Defined>⟧.loan self.old }
+        requires { IsKept ⟦<TakenWindow as Defined>⟧.loan self.old }
         ensures same { SameDesk self.old self.new }
-        ensures ok { let d = (⟦<Taken as Defined>⟧.loan taken.now).definition in IfOk result (λ addition.
+        ensures ok { let d = (⟦<TakenWindow as Defined>⟧.loan taken.now).definition in IfOk result (λ addition.
             (first_refusal (judged_refusals window.now (is_placed (Some d) window.now.place window.now.size)
             (length self.old.windows.records.items) self.old.windows.next) ≡ None)
-            × IsPlanned ⟦<Taken as Defined>⟧.loan floating window.now d self.new addition) }
-        ensures err { let d = (⟦<Taken as Defined>⟧.loan taken.now).definition in IfErr result (
+            × IsPlanned ⟦<TakenWindow as Defined>⟧.loan floating window.now d self.new addition) }
+        ensures err { let d = (⟦<TakenWindow as Defined>⟧.loan taken.now).definition in IfErr result (
             IsUnplanned window.now (is_placed (Some d) window.now.place window.now.size)
             (length self.old.windows.records.items) self.old.windows.next) }
     {
@@ -106,7 +109,7 @@ impl WindowManager {
     /// Why a window is refused that no definition is left for.
     fn refusal_without(&self, window: &NewWindow<'_>) -> Refusal
         ensures { first_refusal (judged_refusals window.now (is_placed None window.now.place window.now.size)
-            (length (desk_of ⟦<Taken as Defined>⟧.loan self.now []).windows) self.now.windows.next
+            (length (desk_of ⟦<TakenWindow as Defined>⟧.loan self.now []).windows) self.now.windows.next
             ++ (true, Refusal.NoDefinition) ∷ []) ≡ Some result }
     {
         match self.judge(window, is_placed_alone(window.place, window.size)) {
@@ -143,15 +146,15 @@ impl WindowManager {
         &self,
         window: &NewWindow<'_>,
         floating: bool,
-        taken: &Taken,
+        taken: &TakenWindow,
         touch: Touch,
     ) -> Result<Plan, AllocError>
-        requires kept { IsKept ⟦<Taken as Defined>⟧.loan self.now }
-        requires placed { is_placed (Some (⟦<Taken as Defined>⟧.loan taken.now).definition)
+        requires kept { IsKept ⟦<TakenWindow as Defined>⟧.loan self.now }
+        requires placed { is_placed (Some (⟦<TakenWindow as Defined>⟧.loan taken.now).definition)
             window.now.place window.now.size ≡ true }
         requires number { self.now.windows.next ≡ Some touch.window }
-        ensures plan { IfOk result (λ plan. IsPlanWith ⟦<Taken as Defined>⟧.loan floating window.now touch.window
-            (⟦<Taken as Defined>⟧.loan taken.now).definition touch self.now plan) }
+        ensures plan { IfOk result (λ plan. IsPlanWith ⟦<TakenWindow as Defined>⟧.loan floating window.now touch.window
+            (⟦<TakenWindow as Defined>⟧.loan taken.now).definition touch self.now plan) }
         ensures some { IfOk result (λ plan. vec_len plan.parts ≡ length self.now.windows.records.items + 1) }
     {
         let nothing = Area::empty(self.alloc);
@@ -189,17 +192,19 @@ impl WindowManager {
         window: &NewWindow<'_>,
         floating: bool,
         addition: Addition,
-        taken: Taken,
+        taken: TakenWindow,
     )
-        requires fresh { (⟦<Taken as Defined>⟧.loan taken).definition.stage ≡ Stage.Fresh }
-        requires fits { is_fitting (⟦<Taken as Defined>⟧.loan taken).definition window.now.size ≡ true }
-        requires may_stand { is_placed (Some (⟦<Taken as Defined>⟧.loan taken).definition)
+        requires fresh { (⟦<TakenWindow as Defined>⟧.loan taken).definition.stage ≡ Stage.Fresh }
+        requires fits { is_fitting (⟦<TakenWindow as Defined>⟧.loan taken).definition window.now.size ≡ true }
+        requires may_stand { is_placed (Some (⟦<TakenWindow as Defined>⟧.loan taken).definition)
             window.now.place window.now.size ≡ true }
-        requires settled { All IsSettled (map (record_of ⟦<Taken as Defined>⟧.loan) self.old.windows.records.items) }
+        requires settled { All IsSettled (map (record_of ⟦<TakenWindow as Defined>⟧.loan)
+            self.old.windows.records.items) }
         requires areas { length self.old.areas.items ≡ length self.old.windows.records.items }
-        requires planned { IsPlanned ⟦<Taken as Defined>⟧.loan floating window.now
-            (⟦<Taken as Defined>⟧.loan taken).definition self.old addition }
-        ensures { IsAdded ⟦<Taken as Defined>⟧.loan floating window.now addition.ticket.serial (⟦<Taken as Defined>⟧.loan taken)
+        requires planned { IsPlanned ⟦<TakenWindow as Defined>⟧.loan floating window.now
+            (⟦<TakenWindow as Defined>⟧.loan taken).definition self.old addition }
+        ensures { IsAdded ⟦<TakenWindow as Defined>⟧.loan floating window.now addition.ticket.serial
+            (⟦<TakenWindow as Defined>⟧.loan taken)
             addition.touch addition.plan self.old self.new }
     {
         let Addition {
@@ -254,12 +259,12 @@ fn record_for(
     floating: bool,
     serial: u64,
     title: Title,
-    taken: Taken,
+    taken: TakenWindow,
 ) -> Window
     requires title { title.items ≡ window.now.title }
     requires placed { in_plane window.now.place ≡ true }
-    ensures seen { record_of ⟦<Taken as Defined>⟧.loan result ≡ new_record floating window.now serial
-        (⟦<Taken as Defined>⟧.loan taken).slot (⟦<Taken as Defined>⟧.loan taken).definition }
+    ensures seen { record_of ⟦<TakenWindow as Defined>⟧.loan result ≡ new_record floating window.now serial
+        (⟦<TakenWindow as Defined>⟧.loan taken).slot (⟦<TakenWindow as Defined>⟧.loan taken).definition }
     ensures serial { result.serial ≡ serial }
     ensures shown { result.shown ≡ window.now.shown }
     ensures floating { result.floating ≡ floating }

@@ -10,7 +10,7 @@ ghost use Rattle.window_mgr.specs.Sparing.{IsSparingCall};
 
 use crate::tell::AskedRegion;
 use crate::{ShowHide, WindowCall, WindowInfo, WindowManager, WindowReply};
-use def_iface::{Defined, Stocked, Taken, WindowStock};
+use def_iface::{Defined, Stocked, TakenWindow, WindowStock};
 use tb_geom::Refusal;
 
 impl WindowManager {
@@ -21,12 +21,14 @@ impl WindowManager {
         call: &WindowCall<'_>,
         stock: &mut WindowStock,
     ) -> Result<WindowReply, Refusal>
-        requires { IsWholeManager ⟦<Taken as Defined>⟧.loan self.old (⟦<WindowStock as Stocked>⟧.slots stock.old) }
-        ensures whole { IsWholeManager ⟦<Taken as Defined>⟧.loan self.new (⟦<WindowStock as Stocked>⟧.slots stock.new) }
+        requires { IsWholeManager ⟦<TakenWindow as Defined>⟧.loan self.old
+            (⟦<WindowStock as Stocked>⟧.slots stock.old) }
+        ensures whole { IsWholeManager ⟦<TakenWindow as Defined>⟧.loan self.new
+            (⟦<WindowStock as Stocked>⟧.slots stock.new) }
         ensures step { IsWindowStep call.now result
-            (state_of ⟦<Taken as Defined>⟧.loan self.old (⟦<WindowStock as Stocked>⟧.slots stock.old))
-            (state_of ⟦<Taken as Defined>⟧.loan self.new (⟦<WindowStock as Stocked>⟧.slots stock.new)) }
-        ensures sparing { IsSparingCall ⟦<Taken as Defined>⟧.loan call.now self.old self.new }
+            (state_of ⟦<TakenWindow as Defined>⟧.loan self.old (⟦<WindowStock as Stocked>⟧.slots stock.old))
+            (state_of ⟦<TakenWindow as Defined>⟧.loan self.new (⟦<WindowStock as Stocked>⟧.slots stock.new)) }
+        ensures sparing { IsSparingCall ⟦<TakenWindow as Defined>⟧.loan call.now self.old self.new }
     {
         match call {
             WindowCall::New(window) => self.new_window(window, false, stock),
@@ -69,8 +71,8 @@ impl WindowManager {
 
     /// Tells how a window stands.
     fn answer_info(&self, window: u64) -> Result<WindowReply, Refusal>
-        requires { IsKept ⟦<Taken as Defined>⟧.loan self.now }
-        ensures { IsStepOverAnySlots ⟦<Taken as Defined>⟧.loan (Info window) result self.now self.now }
+        requires { IsKept ⟦<TakenWindow as Defined>⟧.loan self.now }
+        ensures { IsStepOverAnySlots ⟦<TakenWindow as Defined>⟧.loan (Info window) result self.now self.now }
     {
         let Some(at) = self.find(window) else {
             return Err(Refusal::NoSuchWindow);

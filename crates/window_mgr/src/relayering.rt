@@ -2,7 +2,7 @@
 //! their place, which does not.
 ghost use Rattle.std.specs.Prelude.{◌≡◌, ◌<◌, ℕ, slice_index_or, List, length, Option, IfOk, IfSome};
 ghost use Rattle.tb_geom.specs.Points.{PixelSet};
-ghost use Rattle.def_iface.specs.declared.part.Part.{Part};
+ghost use Rattle.desk_layers.specs.declared.part.Part.{Part};
 ghost use Rattle.def_iface.specs.Stocked.{SlotView};
 ghost use Rattle.window_list.specs.declared.layer.Layer.{Layer};
 ghost use Rattle.window_list.specs.Holders.{ArePartsApart};
@@ -10,12 +10,13 @@ ghost use Rattle.window_mgr.specs.Edits.{IsWindowAt};
 ghost use Rattle.window_mgr.specs.Kept.{IsKept};
 ghost use Rattle.window_mgr.specs.Records.{state_of, state_showing};
 ghost use Rattle.window_mgr.specs.Whole.{IsWholeManager};
-ghost use Rattle.window_mgr.specs.Relayered.{IsPartAt, MayHaveLayers, IsGainedAt, IsPlanOfLayers, AreLayersSet, AreLayersPut, HasUpdate, IsLayerDrawnWithin, IsLayerToggled};
+ghost use Rattle.window_mgr.specs.Relayered.{IsPartAt, MayHaveLayers, IsGainedAt, IsPlanOfLayers, AreLayersSet};
+ghost use Rattle.window_mgr.specs.Relayered.{AreLayersPut, HasUpdate, IsLayerDrawnWithin, IsLayerToggled};
 
 use crate::WindowManager;
 use bit_blit::fill;
 use bit_map::{Mode, Pattern};
-use def_iface::{Defined, Taken};
+use def_iface::{Defined, TakenWindow};
 use scan_region::Region;
 use std::alloc::AllocError;
 use tb_geom::{Point, Rect};
@@ -35,14 +36,14 @@ impl WindowManager {
         relaid: &Relaid,
         afresh: Option<usize>,
     ) -> Result<Relaying, AllocError>
-        requires kept { IsKept ⟦<Taken as Defined>⟧.loan self.now }
+        requires kept { IsKept ⟦<TakenWindow as Defined>⟧.loan self.now }
         requires at { at < length self.now.windows.records.items }
         requires apart { ArePartsApart relaid.now.layers.layers }
         requires afresh { IfSome afresh (λ i. i < length relaid.now.layers.layers) }
-        ensures { IfOk result (λ r. (u : _) → HasUpdate ⟦<Taken as Defined>⟧.loan at update.now self.now u
+        ensures { IfOk result (λ r. (u : _) → HasUpdate ⟦<TakenWindow as Defined>⟧.loan at update.now self.now u
             → MayHaveLayers at u relaid.now.layers
             → (part : Option Part) → IsPartAt relaid.now.layers.layers afresh part → IsGainedAt at part u relaid.now
-            → IsPlanOfLayers ⟦<Taken as Defined>⟧.loan at relaid.now.layers.layers part u r) }
+            → IsPlanOfLayers ⟦<TakenWindow as Defined>⟧.loan at relaid.now.layers.layers part u r) }
     {
         let drawn = match afresh {
             Some(index) => Some(relaid.layers.owned(index)),
@@ -56,17 +57,18 @@ impl WindowManager {
     /// be redrawn. Where the screen was right, and the layer shows outside of the rectangle what it showed, it is shown anew so. It
     /// takes no memory.
     pub fn show_layer<S: Showing>(&mut self, at: usize, index: usize, within: Rect, showing: &S)
-        requires kept { IsKept ⟦<Taken as Defined>⟧.loan self.old }
+        requires kept { IsKept ⟦<TakenWindow as Defined>⟧.loan self.old }
         requires at { at < length self.old.windows.records.items }
         requires index { (w : _) → IsWindowAt self.old.windows.records.items at w → index < length w.layers.layers }
         requires whole { S.is_whole showing.now }
         ensures { (w : _) → IsWindowAt self.old.windows.records.items at w
             → (l : Layer) → l ≡ slice_index_or w.layers.layers index l
             → (was : List ℕ → Part → PixelSet) (slots : List SlotView)
-            → IsWholeManager ⟦<Taken as Defined>⟧.loan self.old slots
-            → IsWholeManager ⟦<Taken as Defined>⟧.loan self.new slots
-            × IsLayerDrawnWithin within w.serial l (state_showing was (state_of ⟦<Taken as Defined>⟧.loan self.old slots))
-            (state_showing (S.shows showing.now) (state_of ⟦<Taken as Defined>⟧.loan self.new slots)) }
+            → IsWholeManager ⟦<TakenWindow as Defined>⟧.loan self.old slots
+            → IsWholeManager ⟦<TakenWindow as Defined>⟧.loan self.new slots
+            × IsLayerDrawnWithin within w.serial l
+            (state_showing was (state_of ⟦<TakenWindow as Defined>⟧.loan self.old slots))
+            (state_showing (S.shows showing.now) (state_of ⟦<TakenWindow as Defined>⟧.loan self.new slots)) }
     {
         let area = &self.areas[at];
         show_layer(
@@ -84,18 +86,18 @@ impl WindowManager {
     /// Inverts what the change of a list's selection does of the layer at this index of a window, on all visible pixels that the
     /// layer owns, also where they are to be redrawn. It takes no memory.
     pub fn toggle_layer<T: Toggling>(&mut self, at: usize, index: usize, toggling: &T)
-        requires kept { IsKept ⟦<Taken as Defined>⟧.loan self.old }
+        requires kept { IsKept ⟦<TakenWindow as Defined>⟧.loan self.old }
         requires at { at < length self.old.windows.records.items }
         requires index { (w : _) → IsWindowAt self.old.windows.records.items at w → index < length w.layers.layers }
         requires ready { T.is_ready toggling.now }
         ensures { (w : _) → IsWindowAt self.old.windows.records.items at w
             → (l : Layer) → l ≡ slice_index_or w.layers.layers index l
             → (was is : List ℕ → Part → PixelSet) (slots : List SlotView)
-            → IsWholeManager ⟦<Taken as Defined>⟧.loan self.old slots
-            → IsWholeManager ⟦<Taken as Defined>⟧.loan self.new slots
+            → IsWholeManager ⟦<TakenWindow as Defined>⟧.loan self.old slots
+            → IsWholeManager ⟦<TakenWindow as Defined>⟧.loan self.new slots
             × IsLayerToggled w.serial w.place l.part (T.toggles toggling.now)
-            (state_showing was (state_of ⟦<Taken as Defined>⟧.loan self.old slots))
-            (state_showing is (state_of ⟦<Taken as Defined>⟧.loan self.new slots)) }
+            (state_showing was (state_of ⟦<TakenWindow as Defined>⟧.loan self.old slots))
+            (state_showing is (state_of ⟦<TakenWindow as Defined>⟧.loan self.new slots)) }
     {
         let area = &self.areas[at];
         invert_layer(
@@ -118,21 +120,22 @@ impl WindowManager {
         afresh: Option<usize>,
         showing: &S,
     )
-        requires kept { IsKept ⟦<Taken as Defined>⟧.loan self.old }
+        requires kept { IsKept ⟦<TakenWindow as Defined>⟧.loan self.old }
         requires at { at < length self.old.windows.records.items }
         requires may { MayHaveLayers at self.old layers }
         requires afresh { IfSome afresh (λ i. i < length layers.layers) }
         requires planned { (part : Option Part) → IsPartAt layers.layers afresh part
-            → IsPlanOfLayers ⟦<Taken as Defined>⟧.loan at layers.layers part self.old relaying }
+            → IsPlanOfLayers ⟦<TakenWindow as Defined>⟧.loan at layers.layers part self.old relaying }
         requires whole { S.is_whole showing.now }
         ensures put { AreLayersPut at layers relaying.update self.old self.new }
         ensures set { (w : _) → IsWindowAt self.old.windows.records.items at w
             → (part : Option Part) → IsPartAt layers.layers afresh part
             → (was : List ℕ → Part → PixelSet) (slots : List SlotView)
-            → IsWholeManager ⟦<Taken as Defined>⟧.loan self.old slots
-            → IsWholeManager ⟦<Taken as Defined>⟧.loan self.new slots
-            × AreLayersSet w.serial layers.layers part (state_showing was (state_of ⟦<Taken as Defined>⟧.loan self.old slots))
-            (state_showing (S.shows showing.now) (state_of ⟦<Taken as Defined>⟧.loan self.new slots)) }
+            → IsWholeManager ⟦<TakenWindow as Defined>⟧.loan self.old slots
+            → IsWholeManager ⟦<TakenWindow as Defined>⟧.loan self.new slots
+            × AreLayersSet w.serial layers.layers part
+            (state_showing was (state_of ⟦<TakenWindow as Defined>⟧.loan self.old slots))
+            (state_showing (S.shows showing.now) (state_of ⟦<TakenWindow as Defined>⟧.loan self.new slots)) }
     {
         self.windows.set_layers(at, layers);
         let origin = Point { h: 0, v: 0 };

@@ -7,14 +7,15 @@ ghost use Rattle.window_mgr.specs.AnySlots.{IsStepOverAnySlots};
 ghost use Rattle.window_mgr.specs.Kept.{IsKept};
 
 use crate::{NewPicture, ScrollPicture, WindowManager, WindowReply};
-use def_iface::{Defined, Taken};
+use def_iface::{Defined, TakenWindow};
 use tb_geom::{Point, Refusal};
 
 impl WindowManager {
     /// Gives a window another picture, all of which is to be redrawn where it shows.
     pub(crate) fn set_picture(&mut self, new: &NewPicture<'_>) -> Result<WindowReply, Refusal>
-        requires { IsKept ⟦<Taken as Defined>⟧.loan self.old }
-        ensures { IsStepOverAnySlots ⟦<Taken as Defined>⟧.loan (asks.SetPicture new.now) result self.old self.new }
+        requires { IsKept ⟦<TakenWindow as Defined>⟧.loan self.old }
+        ensures { IsStepOverAnySlots ⟦<TakenWindow as Defined>⟧.loan (asks.SetPicture new.now) result self.old
+            self.new }
     {
         let Some(at) = self.find(new.window) else {
             return Err(Refusal::NoSuchWindow);
@@ -35,8 +36,8 @@ impl WindowManager {
 
     /// Moves a window's picture in its content. What comes into sight of it is to be redrawn.
     pub(crate) fn scroll(&mut self, scroll: ScrollPicture) -> Result<WindowReply, Refusal>
-        requires { IsKept ⟦<Taken as Defined>⟧.loan self.old }
-        ensures { IsStepOverAnySlots ⟦<Taken as Defined>⟧.loan (asks.Scroll scroll) result self.old self.new }
+        requires { IsKept ⟦<TakenWindow as Defined>⟧.loan self.old }
+        ensures { IsStepOverAnySlots ⟦<TakenWindow as Defined>⟧.loan (asks.Scroll scroll) result self.old self.new }
     {
         let Some(at) = self.find(scroll.window) else {
             return Err(Refusal::NoSuchWindow);

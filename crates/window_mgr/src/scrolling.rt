@@ -4,7 +4,7 @@ ghost use Rattle.window_mgr.specs.Kept.{IsKept};
 ghost use Rattle.window_mgr.specs.Scrolls.{IsPlanOfScroll, IsScrollDrawn};
 
 use crate::WindowManager;
-use def_iface::{Defined, Taken};
+use def_iface::{Defined, TakenWindow};
 use std::alloc::AllocError;
 use tb_geom::Point;
 use vis_update::{Scrolled, scroll_of};
@@ -14,9 +14,9 @@ impl WindowManager {
     /// All that changes on the screen where the picture of the window at this index moves by so much in its content, and
     /// all growth.
     pub(crate) fn plan_scroll(&self, at: usize, by: Point) -> Result<Scrolled, AllocError>
-        requires kept { IsKept ⟦<Taken as Defined>⟧.loan self.now }
+        requires kept { IsKept ⟦<TakenWindow as Defined>⟧.loan self.now }
         requires at { at < length self.now.windows.records.items }
-        ensures { IfOk result (IsPlanOfScroll ⟦<Taken as Defined>⟧.loan at by self.now) }
+        ensures { IfOk result (IsPlanOfScroll ⟦<TakenWindow as Defined>⟧.loan at by self.now) }
     {
         let covered = self.windows.at(at).layers.covered();
         scroll_of(self.alloc, self.area(at), covered, by)

@@ -12,7 +12,7 @@ ghost use Rattle.window_mgr.specs.Sparing.{Spares};
 use crate::arrange::{Activates, Edit, Rearrangement};
 use crate::standing::may_stand;
 use crate::{SizeWindow, WindowManager, WindowReply};
-use def_iface::{Defined, Taken};
+use def_iface::{Defined, TakenWindow};
 use tb_geom::{Point, Refusal};
 use vis_update::Plan;
 use window_list::Placement;
@@ -21,9 +21,9 @@ impl WindowManager {
     /// Gives a window another size, and tells its definition.
     #[tactic(auto, using(crate::proofs::Sparing::spares_same))]
     pub(crate) fn size_window(&mut self, sized: SizeWindow) -> Result<WindowReply, Refusal>
-        requires { IsKept ⟦<Taken as Defined>⟧.loan self.old }
-        ensures step { IsStepOverAnySlots ⟦<Taken as Defined>⟧.loan (asks.Size sized) result self.old self.new }
-        ensures sparing { Spares ⟦<Taken as Defined>⟧.loan sized.window None self.old self.new }
+        requires { IsKept ⟦<TakenWindow as Defined>⟧.loan self.old }
+        ensures step { IsStepOverAnySlots ⟦<TakenWindow as Defined>⟧.loan (asks.Size sized) result self.old self.new }
+        ensures sparing { Spares ⟦<TakenWindow as Defined>⟧.loan sized.window None self.old self.new }
     {
         let Some(at) = self.find(sized.window) else {
             return Err(Refusal::NoSuchWindow);
@@ -49,13 +49,13 @@ impl WindowManager {
         placement: Placement,
         by: Option<Point>,
     ) -> Result<WindowReply, Refusal>
-        requires kept { IsKept ⟦<Taken as Defined>⟧.loan self.old }
+        requires kept { IsKept ⟦<TakenWindow as Defined>⟧.loan self.old }
         requires at { at < length self.old.windows.records.items }
-        requires placeable { IsPlaceableAt ⟦<Taken as Defined>⟧.loan at placement self.old.windows.records.items }
+        requires placeable { IsPlaceableAt ⟦<TakenWindow as Defined>⟧.loan at placement self.old.windows.records.items }
         requires way { IsOnItsWay at placement.place by self.old.windows.records.items }
-        ensures step { IsLaidOverAnySlots ⟦<Taken as Defined>⟧.loan at placement by result self.old self.new }
+        ensures step { IsLaidOverAnySlots ⟦<TakenWindow as Defined>⟧.loan at placement by result self.old self.new }
         ensures sparing { (w : _) → IsWindowAt self.old.windows.records.items at w
-            → Spares ⟦<Taken as Defined>⟧.loan w.serial by self.old self.new }
+            → Spares ⟦<TakenWindow as Defined>⟧.loan w.serial by self.old self.new }
     {
         let mut edit = Edit::of(at, self.windows.at(at));
         edit.place = placement.place;
@@ -72,10 +72,11 @@ impl WindowManager {
     /// says.
     fn commit_placement(&mut self, at: usize, placement: Placement, plan: Plan, by: Option<Point>)
         requires at { at < length self.old.windows.records.items }
-        requires settled { All IsSettled (map (record_of ⟦<Taken as Defined>⟧.loan) self.old.windows.records.items) }
-        requires placeable { IsPlaceableAt ⟦<Taken as Defined>⟧.loan at placement self.old.windows.records.items }
+        requires settled { All IsSettled (map (record_of ⟦<TakenWindow as Defined>⟧.loan)
+            self.old.windows.records.items) }
+        requires placeable { IsPlaceableAt ⟦<TakenWindow as Defined>⟧.loan at placement self.old.windows.records.items }
         requires parts { vec_len plan.parts ≡ length self.old.windows.records.items }
-        ensures { IsPlacementCommitted ⟦<Taken as Defined>⟧.loan at placement plan by self.old self.new }
+        ensures { IsPlacementCommitted ⟦<TakenWindow as Defined>⟧.loan at placement plan by self.old self.new }
     {
         self.windows.set_placement(at, placement);
         self.commit(plan, by);

@@ -10,7 +10,7 @@ ghost use Rattle.window_mgr.specs.Kept.{IsKept};
 ghost use Rattle.window_mgr.specs.Telling.{AreRegionBytes, IsNotTold, kept_region, asking};
 
 use crate::{WindowManager, WindowReply};
-use def_iface::{Defined, Taken};
+use def_iface::{Defined, TakenWindow};
 use scan_region::Region;
 use std::alloc::Global;
 use tb_geom::{Point, Refusal};
@@ -33,8 +33,8 @@ impl WindowManager {
         window: u64,
         told: AskedRegion,
     ) -> Result<WindowReply, Refusal>
-        requires { IsKept ⟦<Taken as Defined>⟧.loan self.old }
-        ensures { IsStepOverAnySlots ⟦<Taken as Defined>⟧.loan (asking told window) result self.old self.new }
+        requires { IsKept ⟦<TakenWindow as Defined>⟧.loan self.old }
+        ensures { IsStepOverAnySlots ⟦<TakenWindow as Defined>⟧.loan (asking told window) result self.old self.new }
     {
         let Some(at) = self.find(window) else {
             return Err(Refusal::NoSuchWindow);
@@ -55,7 +55,8 @@ fn area_bytes(
     origin: Point,
 ) -> Result<Vec<u8>, Refusal>
     requires origin { in_plane origin ≡ true }
-    requires there { (p : Point) → holds (kept_region told area.old) (plus p origin) ≡ true → is_pixel_in_range p ≡ true }
+    requires there { (p : Point) → holds (kept_region told area.old) (plus p origin) ≡ true
+        → is_pixel_in_range p ≡ true }
     requires here { (p : Point) → holds (kept_region told area.old) p ≡ true → is_pixel_in_range p ≡ true }
     ensures same { area.new ≡ area.old }
     ensures bytes { MatchResult result

@@ -10,7 +10,7 @@ ghost use Rattle.window_paint.specs.Kinds.{is_kind_there};
 ghost use Rattle.window_mgr.specs.Updating.{LeavesState, LeavesShowing, IsRemarked, IsRefreshed, IsUpdatePut, is_of_kind};
 
 use crate::WindowManager;
-use def_iface::{Defined, Taken};
+use def_iface::{Defined, TakenWindow};
 use desk_call::LayerKind;
 use scan_region::Region;
 use tb_geom::Point;
@@ -40,12 +40,12 @@ impl WindowManager {
 
     /// Makes these pixels of a window's visible content its update region, and draws nothing.
     pub fn set_update(&mut self, at: usize, update: Region)
-        requires kept { IsKept ⟦<Taken as Defined>⟧.loan self.old }
+        requires kept { IsKept ⟦<TakenWindow as Defined>⟧.loan self.old }
         requires at { at < length self.old.windows.records.items }
         requires within { (a : Area) → a ≡ slice_index_or self.old.areas.items at a
             → (p : Point) → holds update p ≡ true → holds a.visible p ≡ true }
         ensures { (w : _) → IsWindowAt self.old.windows.records.items at w
-            → LeavesState ⟦<Taken as Defined>⟧.loan (IsRemarked w.serial update) self.old self.new }
+            → LeavesState ⟦<TakenWindow as Defined>⟧.loan (IsRemarked w.serial update) self.old self.new }
     {
         self.put_update(at, update);
     }
@@ -62,14 +62,15 @@ impl WindowManager {
     /// Draws what is to be redrawn of a window's layers of one kind, which is then no longer to be; what is left of the
     /// update region is given: what of it other layers have.
     pub fn serve_kind<S: Showing>(&mut self, at: usize, kind: LayerKind, rest: Region, layers: &S)
-        requires kept { IsKept ⟦<Taken as Defined>⟧.loan self.old }
+        requires kept { IsKept ⟦<TakenWindow as Defined>⟧.loan self.old }
         requires at { at < length self.old.windows.records.items }
         requires whole { S.is_whole layers.now }
         requires rest { (a : Area) → a ≡ slice_index_or self.old.areas.items at a
             → (w : _) → IsWindowAt self.old.windows.records.items at w
             → (p : Point) → holds rest p ≡ (holds a.update p && not (is_kind_there kind w p)) }
         ensures { (w : _) → IsWindowAt self.old.windows.records.items at w
-            → LeavesShowing ⟦<Taken as Defined>⟧.loan (S.shows layers.now) (IsRefreshed (is_of_kind kind w.serial)) self.old self.new }
+            → LeavesShowing ⟦<TakenWindow as Defined>⟧.loan (S.shows layers.now)
+            (IsRefreshed (is_of_kind kind w.serial)) self.old self.new }
     {
         paint_kind(
             &mut self.screen,
@@ -84,11 +85,12 @@ impl WindowManager {
 
     /// Draws all that is to be redrawn of a window's content, of which nothing is then to be.
     pub fn serve_all<S: Showing>(&mut self, at: usize, layers: &S)
-        requires kept { IsKept ⟦<Taken as Defined>⟧.loan self.old }
+        requires kept { IsKept ⟦<TakenWindow as Defined>⟧.loan self.old }
         requires at { at < length self.old.windows.records.items }
         requires whole { S.is_whole layers.now }
         ensures { (w : _) → IsWindowAt self.old.windows.records.items at w
-            → LeavesShowing ⟦<Taken as Defined>⟧.loan (S.shows layers.now) (IsRefreshed (is_content_of w.serial)) self.old self.new }
+            → LeavesShowing ⟦<TakenWindow as Defined>⟧.loan (S.shows layers.now) (IsRefreshed (is_content_of w.serial))
+            self.old self.new }
     {
         let stale = &self.areas[at].update;
         paint_content(

@@ -10,15 +10,15 @@ ghost use Rattle.window_mgr.specs.Records.{desk_of};
 
 use crate::standing::may_stand;
 use crate::{WindowManager, WindowReply, Zoom, ZoomWindow};
-use def_iface::{Defined, Size, Taken};
+use def_iface::{Defined, Size, TakenWindow};
 use tb_geom::{Point, Rect, Refusal};
 use window_list::{Placement, UserState, Window, local};
 
 impl WindowManager {
     /// Zooms a window, and tells its definition. One that is zoomed so already stays.
     pub(crate) fn zoom_window(&mut self, zoom: ZoomWindow) -> Result<WindowReply, Refusal>
-        requires { IsKept ⟦<Taken as Defined>⟧.loan self.old }
-        ensures { IsStepOverAnySlots ⟦<Taken as Defined>⟧.loan (asks.Zoom zoom) result self.old self.new }
+        requires { IsKept ⟦<TakenWindow as Defined>⟧.loan self.old }
+        ensures { IsStepOverAnySlots ⟦<TakenWindow as Defined>⟧.loan (asks.Zoom zoom) result self.old self.new }
     {
         let Some(at) = self.find(zoom.window) else {
             return Err(Refusal::NoSuchWindow);
@@ -39,9 +39,10 @@ impl WindowManager {
 
     /// How a window lies once it is zoomed, or None where it is zoomed so already.
     fn zoom_target(&self, direction: Zoom, window: &Window) -> Option<Placement>
-        requires { IsKept ⟦<Taken as Defined>⟧.loan self.now }
-        ensures { result ≡ zoom_target direction window.now.user_state (desk_of ⟦<Taken as Defined>⟧.loan self.now [])
-            (record_of ⟦<Taken as Defined>⟧.loan window.now) }
+        requires { IsKept ⟦<TakenWindow as Defined>⟧.loan self.now }
+        ensures { result ≡ zoom_target direction window.now.user_state
+            (desk_of ⟦<TakenWindow as Defined>⟧.loan self.now [])
+            (record_of ⟦<TakenWindow as Defined>⟧.loan window.now) }
     {
         match (direction, window.user_state) {
             (Zoom::Out, None) => {

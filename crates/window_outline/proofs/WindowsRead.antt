@@ -4,8 +4,8 @@ use Rattle.std.proofs.lemmas.Bool.{and_parts}
 use Rattle.std.proofs.lemmas.Int.{ints, clamps}
 use Rattle.tb_geom.specs.declared.point.Point.{Point}
 use Rattle.def_iface.specs.declared.size.Size.{Size}
-use Rattle.def_iface.specs.declared.taken.Taken.{Taken}
-use Rattle.def_iface.specs.Meaning.{Loan}
+use Rattle.def_iface.specs.Slots.{TakenBox}
+use Rattle.def_iface.specs.WindowMeaning.{WindowLoan}
 use Rattle.def_iface.specs.Sizes.{is_extent, is_size}
 use Rattle.desk_call.specs.declared.outline.SizeLimits.{SizeLimits}
 use Rattle.desk_call.specs.Outlines.{are_limits}
@@ -21,7 +21,7 @@ use Rattle.window_outline.specs.Outlining.{clamped, grown}
 
 -- ---- the window of a serial
 
-module _ {V : Type 0} {H : V → Type 0} (loan : Taken V H → Loan) (t : WindowManager V H) (kept : IsKept loan t) (s at : ℕ) (stands : StandsAt t.windows.records.items s at)
+module _ {V : Type 0} {H : V → Type 0} (loan : TakenBox V H → WindowLoan) (t : WindowManager V H) (kept : IsKept loan t) (s at : ℕ) (stands : StandsAt t.windows.records.items s at)
     (x : Window V H) (x_is : IsWindowAt t.windows.records.items at x) where
   pub read : record_with s (map (record_of loan) t.windows.records.items) ≡ Some (record_of loan x)
   read = telling.found loan t kept s at x stands.0 x_is (stands.1 x x_is)

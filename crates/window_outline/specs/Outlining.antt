@@ -7,7 +7,7 @@ use Rattle.tb_geom.specs.declared.rect.Rect.{Rect}
 use Rattle.tb_geom.specs.Points.{PixelSet, plus, minus}
 use Rattle.tb_geom.specs.Rects.{in_plane, is_empty_rect, empty_rect, moved_rect}
 use Rattle.def_iface.specs.declared.size.Size.{Size}
-use Rattle.def_iface.specs.Desk.{on_screen, in_bar}
+use Rattle.desk_layers.specs.Desk.{on_screen, in_bar}
 use Rattle.def_iface.specs.Lines.{frame_lines}
 use Rattle.desk_call.specs.declared.activity.Activity.{Activity}
 use Rattle.desk_call.specs.declared.activity.Activity.TheVariants.{Idle, Dragging, Growing}

@@ -17,7 +17,7 @@ ghost use Rattle.window_outline.specs.OutlineSteps.{IsOutlining};
 use crate::Outlining;
 use crate::lines::{NO_LINES, moved_lines};
 use crate::reading::{moved_number, window_of};
-use def_iface::{Defined, Size, Taken};
+use def_iface::{Defined, Size, TakenWindow};
 use desk_call::{Activity, GrowWindow, GrownWindow, OutlineReply, SizeLimits, WindowPart};
 use tb_geom::{Point, Rect, Refusal};
 use window_mgr::WindowManager;
@@ -28,9 +28,10 @@ pub(crate) fn begin_grow(
     activity: Activity,
     pressed: GrowWindow,
 ) -> Result<Outlining, Refusal>
-    requires kept { IsKept ⟦<Taken as Defined>⟧.loan windows.now }
+    requires kept { IsKept ⟦<TakenWindow as Defined>⟧.loan windows.now }
     requires outline { IsOutlineKept activity }
-    ensures step { IsOutlining (asks.Grow pressed) activity result (desk_of ⟦<Taken as Defined>⟧.loan windows.now []) }
+    ensures step { IsOutlining (asks.Grow pressed) activity result
+        (desk_of ⟦<TakenWindow as Defined>⟧.loan windows.now []) }
     ensures outline { IfOk result (λ o. IsOutlineKept o.activity) }
 {
     let Some(_) = window_of(windows, pressed.window) else {
@@ -66,10 +67,10 @@ pub(crate) fn step_grow(
     grown: GrownWindow,
     point: Point,
 ) -> Result<Outlining, Refusal>
-    requires kept { IsKept ⟦<Taken as Defined>⟧.loan windows.now }
+    requires kept { IsKept ⟦<TakenWindow as Defined>⟧.loan windows.now }
     requires outline { IsOutlineKept (opened.Growing grown) }
     ensures step { IsOutlining (asks.StepGrow point) (opened.Growing grown) result
-        (desk_of ⟦<Taken as Defined>⟧.loan windows.now []) }
+        (desk_of ⟦<TakenWindow as Defined>⟧.loan windows.now []) }
     ensures outline { IfOk result (λ o. IsOutlineKept o.activity) }
 {
     if !point.is_in_range() {
@@ -93,10 +94,10 @@ pub(crate) fn end_grow(
     grown: GrownWindow,
     point: Point,
 ) -> Result<Outlining, Refusal>
-    requires kept { IsKept ⟦<Taken as Defined>⟧.loan windows.now }
+    requires kept { IsKept ⟦<TakenWindow as Defined>⟧.loan windows.now }
     requires outline { IsOutlineKept (opened.Growing grown) }
     ensures step { IsOutlining (asks.EndGrow point) (opened.Growing grown) result
-        (desk_of ⟦<Taken as Defined>⟧.loan windows.now []) }
+        (desk_of ⟦<TakenWindow as Defined>⟧.loan windows.now []) }
     ensures outline { IfOk result (λ o. IsOutlineKept o.activity) }
 {
     if !point.is_in_range() {
@@ -112,10 +113,10 @@ pub(crate) fn end_grow(
 /// Whether FindWindow answers the grow box of the window where the mouse button was pressed. OutOfRange where that point is
 /// out of range, or the limits are none.
 fn is_pressed(windows: &WindowManager, pressed: GrowWindow) -> Result<bool, Refusal>
-    requires { IsKept ⟦<Taken as Defined>⟧.loan windows.now }
+    requires { IsKept ⟦<TakenWindow as Defined>⟧.loan windows.now }
     ensures { MatchResult result
         (λ is. ((in_plane pressed.point && are_limits pressed.limits) ≡ true)
-        × (is ≡ begins (asks.Grow pressed) (desk_of ⟦<Taken as Defined>⟧.loan windows.now [])))
+        × (is ≡ begins (asks.Grow pressed) (desk_of ⟦<TakenWindow as Defined>⟧.loan windows.now [])))
         (λ e. ((in_plane pressed.point && are_limits pressed.limits) ≡ false) × (e ≡ Refusal.OutOfRange)) }
 {
     let found = windows.find_window(pressed.point)?;
@@ -153,11 +154,11 @@ fn grow_lines(
     from: Point,
     to: Point,
 ) -> Result<[Rect; 8], Refusal>
-    requires kept { IsKept ⟦<Taken as Defined>⟧.loan windows.now }
+    requires kept { IsKept ⟦<TakenWindow as Defined>⟧.loan windows.now }
     requires limits { are_limits limits ≡ true }
     requires from { in_plane from ≡ true }
     requires to { in_plane to ≡ true }
-    ensures lines { let desk = desk_of ⟦<Taken as Defined>⟧.loan windows.now [] in
+    ensures lines { let desk = desk_of ⟦<TakenWindow as Defined>⟧.loan windows.now [] in
         AreLines (grow_lines limits (record_with serial desk.windows) from to) result }
     ensures apart { IfOk result AreApart }
 {
@@ -170,10 +171,10 @@ fn grow_lines(
 
 /// The size that this window is grown to with the mouse at this point, or 0 by 0 where there is no window.
 fn grown_size(windows: &WindowManager, growth: GrownWindow, to: Point) -> Size
-    requires kept { IsKept ⟦<Taken as Defined>⟧.loan windows.now }
+    requires kept { IsKept ⟦<TakenWindow as Defined>⟧.loan windows.now }
     requires outline { IsOutlineKept (opened.Growing growth) }
     requires to { in_plane to ≡ true }
-    ensures { let desk = desk_of ⟦<Taken as Defined>⟧.loan windows.now [] in
+    ensures { let desk = desk_of ⟦<TakenWindow as Defined>⟧.loan windows.now [] in
         result ≡ grown_size growth.limits (record_with growth.window desk.windows) growth.from to }
 {
     match window_of(windows, growth.window) {
@@ -184,8 +185,8 @@ fn grown_size(windows: &WindowManager, growth: GrownWindow, to: Point) -> Size
 
 /// The size, or 0 by 0 where it is that of the window of this serial, or there is none.
 fn other_size(windows: &WindowManager, serial: u64, size: Size) -> Size
-    requires { IsKept ⟦<Taken as Defined>⟧.loan windows.now }
-    ensures { let desk = desk_of ⟦<Taken as Defined>⟧.loan windows.now [] in
+    requires { IsKept ⟦<TakenWindow as Defined>⟧.loan windows.now }
+    ensures { let desk = desk_of ⟦<TakenWindow as Defined>⟧.loan windows.now [] in
         result ≡ other_size (record_with serial desk.windows) size }
 {
     match window_of(windows, serial) {

@@ -8,7 +8,7 @@ ghost use Rattle.window_outline.specs.OutlineSteps.{IsOutlining};
 
 use crate::dragging::{begin_drag, end_drag, step_drag};
 use crate::growing::{begin_grow, end_grow, step_grow};
-use def_iface::{Defined, Taken};
+use def_iface::{Defined, TakenWindow};
 use desk_call::{Activity, OutlineCall, OutlineReply};
 use tb_geom::Refusal;
 use window_mgr::WindowManager;
@@ -29,10 +29,10 @@ pub fn outlined_by(
     activity: Activity,
     call: &OutlineCall,
 ) -> Result<Outlining, Refusal>
-    requires kept { IsKept ⟦<Taken as Defined>⟧.loan windows.now }
+    requires kept { IsKept ⟦<TakenWindow as Defined>⟧.loan windows.now }
     requires admitted { gate activity (outline_standing call.now) ≡ None }
     requires outline { IsOutlineKept activity }
-    ensures step { IsOutlining call.now activity result (desk_of ⟦<Taken as Defined>⟧.loan windows.now []) }
+    ensures step { IsOutlining call.now activity result (desk_of ⟦<TakenWindow as Defined>⟧.loan windows.now []) }
     ensures outline { IfOk result (λ o. IsOutlineKept o.activity) }
 {
     match (call, activity) {

@@ -7,19 +7,19 @@ ghost use Rattle.window_mgr.specs.Finding.{record_with};
 ghost use Rattle.window_mgr.specs.Kept.{IsKept};
 ghost use Rattle.window_mgr.specs.Whole.{IsSettled};
 
-use def_iface::{Defined, Taken};
+use def_iface::{Defined, TakenWindow};
 use tb_geom::Point;
 use window_list::Window;
 use window_mgr::WindowManager;
 
 /// The window of this serial.
 pub(crate) fn window_of(windows: &WindowManager, serial: u64) -> Option<&Window>
-    requires { IsKept ⟦<Taken as Defined>⟧.loan windows.now }
+    requires { IsKept ⟦<TakenWindow as Defined>⟧.loan windows.now }
     ensures found { MatchOption result
-        (record_with serial (map (record_of ⟦<Taken as Defined>⟧.loan) windows.now.windows.records.items) ≡ None)
-        (λ w. record_with serial (map (record_of ⟦<Taken as Defined>⟧.loan) windows.now.windows.records.items)
-        ≡ Some (record_of ⟦<Taken as Defined>⟧.loan w.now)) }
-    ensures settled { IfSome result (λ w. IsSettled (record_of ⟦<Taken as Defined>⟧.loan w.now)) }
+        (record_with serial (map (record_of ⟦<TakenWindow as Defined>⟧.loan) windows.now.windows.records.items) ≡ None)
+        (λ w. record_with serial (map (record_of ⟦<TakenWindow as Defined>⟧.loan) windows.now.windows.records.items)
+        ≡ Some (record_of ⟦<TakenWindow as Defined>⟧.loan w.now)) }
+    ensures settled { IfSome result (λ w. IsSettled (record_of ⟦<TakenWindow as Defined>⟧.loan w.now)) }
 {
     let at = windows.find(serial)?;
     Some(windows.list().at(at))

@@ -11,8 +11,8 @@ use Rattle.tb_geom.proofs.RectLemmas.{sides_of, sides_rise, is_around}
 use Rattle.bit_map.specs.Bits.{Bits}
 use Rattle.bit_blit.specs.Draws.{Draws}
 use Rattle.bit_blit.proofs.DrawsLemmas.{Draws-where, Draws-on_map}
-use Rattle.def_iface.specs.Meaning.{Definition}
-use Rattle.def_iface.specs.News.{no_news}
+use Rattle.def_iface.specs.WindowMeaning.{WindowDefinition}
+use Rattle.def_iface.specs.WindowNews.{no_news}
 use Rattle.window_paint.specs.Frames.{IsPainted}
 
 -- ---- the range of coordinates
@@ -89,7 +89,7 @@ framed_within region clip these f old new clips drawn =
     turned false false t e = refl
 
 -- white where content is new, and a frame drawn over that
-pub painted_by : (font : List ℕ) (d : Definition) (place : Point) (new frame : Pixels) (old mid end : Bits)
+pub painted_by : (font : List ℕ) (d : WindowDefinition) (place : Point) (new frame : Pixels) (old mid end : Bits)
     → Draws (holds new) (λ p value. false) old mid
     → Draws (holds frame) (λ p _. d.picture no_news font (minus p place)) mid end
     → IsPainted font d place new frame old end

@@ -8,10 +8,10 @@ use Rattle.tb_geom.specs.Points.{PixelSet, minus}
 use Rattle.bit_map.specs.Bits.{Bits}
 use Rattle.bit_blit.specs.Draws.{Draws}
 use Rattle.bit_blit.proofs.DrawsLemmas.{Draws-over, Draws-same, Draws-where, Draws-none}
-use Rattle.def_iface.specs.declared.part.Part.{Part}
-use Rattle.def_iface.specs.declared.part.Part.TheVariants as part
-use Rattle.def_iface.specs.Desk.{same_part}
-use Rattle.def_iface.proofs.Owning.{same_part-self, same_part-true}
+use Rattle.desk_layers.specs.declared.part.Part.{Part}
+use Rattle.desk_layers.specs.declared.part.Part.TheVariants as part
+use Rattle.desk_layers.specs.Desk.{same_part}
+use Rattle.desk_layers.proofs.Owning.{same_part-self, same_part-true}
 use Rattle.desk_call.specs.declared.update.LayerKind.{LayerKind}
 use Rattle.desk_call.specs.declared.update.LayerKind.TheVariants.{Picture, Lists, Controls}
 use Rattle.window_list.specs.declared.layer.Layer.{Layer}

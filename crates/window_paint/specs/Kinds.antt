@@ -1,8 +1,8 @@
 -- The kinds of layers: the picture, the lists and the controls of a window. Points are of the screen.
 use Rattle.std.specs.Prelude.{Bool, true, false}
 use Rattle.tb_geom.specs.Points.{PixelSet, minus}
-use Rattle.def_iface.specs.declared.part.Part.{Part}
-use Rattle.def_iface.specs.declared.part.Part.TheVariants as part
+use Rattle.desk_layers.specs.declared.part.Part.{Part}
+use Rattle.desk_layers.specs.declared.part.Part.TheVariants as part
 use Rattle.desk_call.specs.declared.update.LayerKind.{LayerKind}
 use Rattle.desk_call.specs.declared.update.LayerKind.TheVariants.{Picture, Lists, Controls}
 use Rattle.window_list.specs.Holders.{part_at}

@@ -2,8 +2,8 @@
 use Rattle.std.specs.Prelude.{ℕ, List}
 use Rattle.tb_geom.specs.Points.{PixelSet, minus}
 use Rattle.draw_port.specs.Ops.{picture_bit}
-use Rattle.def_iface.specs.declared.part.Part.{Part}
-use Rattle.def_iface.specs.declared.part.Part.TheVariants as part
+use Rattle.desk_layers.specs.declared.part.Part.{Part}
+use Rattle.desk_layers.specs.declared.part.Part.TheVariants as part
 use Rattle.window_list.specs.Holders.{part_at}
 use Rattle.window_list.specs.declared.window.Window.{Window}
 

@@ -33,7 +33,8 @@ pub fn paint_layer<S: Showing>(
     requires apart { ArePartsApart window.now.layers.layers }
     requires whole { S.is_whole layers.now }
     ensures { (l : Layer) → l ≡ slice_index_or window.now.layers.layers at l
-        → Draws (λ p. holds region.now p && belongs_to l.part window.now.layers.layers (minus p window.now.layers.place))
+        → Draws (λ p. holds region.now p && belongs_to l.part window.now.layers.layers
+        (minus p window.now.layers.place))
         (λ p _. S.shows layers.now font.now l.part (minus p window.now.place))
         map.old map.new }
 {
@@ -58,7 +59,8 @@ pub fn show_layer<S: Showing>(
     requires apart { ArePartsApart window.now.layers.layers }
     requires whole { S.is_whole layers.now }
     ensures { (l : Layer) → l ≡ slice_index_or window.now.layers.layers at l
-        → Draws (λ p. ((holds region.now p && belongs_to l.part window.now.layers.layers (minus p window.now.layers.place))
+        → Draws (λ p. ((holds region.now p && belongs_to l.part window.now.layers.layers
+        (minus p window.now.layers.place))
         && not (holds but.now p)) && rect_holds within (minus p window.now.place))
         (λ p _. S.shows layers.now font.now l.part (minus p window.now.place))
         map.old map.new }
@@ -83,7 +85,8 @@ pub fn invert_layer<T: Toggling>(
     requires apart { ArePartsApart window.now.layers.layers }
     requires ready { T.is_ready toggling.now }
     ensures { (l : Layer) → l ≡ slice_index_or window.now.layers.layers at l
-        → Draws (λ p. holds region.now p && belongs_to l.part window.now.layers.layers (minus p window.now.layers.place))
+        → Draws (λ p. holds region.now p && belongs_to l.part window.now.layers.layers
+        (minus p window.now.layers.place))
         (λ p d. if T.toggles toggling.now font.now (minus p window.now.place) then not d else d)
         map.old map.new }
 {

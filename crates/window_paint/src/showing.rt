@@ -4,11 +4,11 @@ ghost use Rattle.tb_geom.specs.Points.{PixelSet};
 ghost use Rattle.tb_geom.specs.Rects.{in_plane};
 ghost use Rattle.bit_blit.specs.Draws.{Draws};
 ghost use Rattle.draw_port.specs.Canvases.{canvas_holds, canvas_point, SameFrame};
-ghost use Rattle.def_iface.specs.declared.part.Part.{Part};
+ghost use Rattle.desk_layers.specs.declared.part.Part.{Part};
 ghost use Rattle.window_paint.specs.White.{all_white};
 
 use bit_map::{Mode, Pattern};
-use def_iface::Part;
+use desk_layers::Part;
 use draw_port::Canvas;
 
 /// Whoever keeps the controls and lists of windows, and so can draw them.

@@ -1,8 +1,8 @@
 //! Sizes, and definitions in a stock and out of it.
 ghost use Rattle.std.specs.Prelude.{◌≡◌, true};
-ghost use Rattle.def_iface.specs.Meaning.{is_fitting};
+ghost use Rattle.def_iface.specs.WindowMeaning.{is_fitting};
 
-use def_iface::{Defined, Hit, Size, Stage, Taken, WindowDef, WindowRegions, WindowStock};
+use def_iface::{Defined, Hit, Size, Stage, TakenWindow, WindowDef, WindowRegions, WindowStock};
 use draw_port::{Canvas, Cut};
 use scan_region::Region;
 use std::alloc::Global;
@@ -139,8 +139,8 @@ const DRAWN: [(bool, &[u8]); 2] = [
 ];
 
 /// The regions at that size, as a picture.
-fn regions(alloc: Global, taken: &Taken) -> Result<Vec<u8>, Refusal>
-    requires { is_fitting (⟦<Taken as Defined>⟧.loan taken.now).definition SIZE ≡ true }
+fn regions(alloc: Global, taken: &TakenWindow) -> Result<Vec<u8>, Refusal>
+    requires { is_fitting (⟦<TakenWindow as Defined>⟧.loan taken.now).definition SIZE ≡ true }
 {
     let regions = Shown(taken.regions_for(alloc, SIZE)?);
     Ok(picture(alloc, &regions, rect!(-3, -5, 5, 4))?)
@@ -155,10 +155,10 @@ fn all_but(hole: &Region) -> Cut<'_> {
 }
 
 /// What is drawn on a map of one value, as a picture.
-fn drawn(alloc: Global, taken: &Taken, value: bool) -> Result<Vec<u8>, Refusal>
-    requires live { (⟦<Taken as Defined>⟧.loan taken.now).definition.stage ≡ Stage.Live }
-    requires told { is_fitting (⟦<Taken as Defined>⟧.loan taken.now).definition
-        (⟦<Taken as Defined>⟧.loan taken.now).definition.size ≡ true }
+fn drawn(alloc: Global, taken: &TakenWindow, value: bool) -> Result<Vec<u8>, Refusal>
+    requires live { (⟦<TakenWindow as Defined>⟧.loan taken.now).definition.stage ≡ Stage.Live }
+    requires told { is_fitting (⟦<TakenWindow as Defined>⟧.loan taken.now).definition
+        (⟦<TakenWindow as Defined>⟧.loan taken.now).definition.size ≡ true }
 {
     let hole = Region::from_rect(alloc, rect!(3, 5, 4, 6))?;
     let cut = all_but(&hole);

@@ -7,12 +7,12 @@ use Rattle.tb_geom.specs.Points.{PixelSet, minus}
 use Rattle.tb_geom.specs.Pixels.{holds}
 use Rattle.bit_map.specs.Bits.{Bits, on_map, bit}
 use Rattle.bit_blit.specs.Draws.{Draws}
-use Rattle.def_iface.specs.declared.part.Part.{Part}
-use Rattle.def_iface.specs.declared.taken.Taken.{Taken}
-use Rattle.def_iface.specs.Meaning.{Loan}
-use Rattle.def_iface.specs.Desk as layers
-use Rattle.def_iface.specs.Owner.{Owner, owner}
-use Rattle.def_iface.specs.Scratch.{scratch}
+use Rattle.desk_layers.specs.declared.part.Part.{Part}
+use Rattle.def_iface.specs.Slots.{TakenBox}
+use Rattle.def_iface.specs.WindowMeaning.{WindowLoan}
+use Rattle.desk_layers.specs.Desk as layers
+use Rattle.desk_layers.specs.Owner.{Owner, owner}
+use Rattle.desk_layers.specs.Scratch.{scratch}
 use Rattle.window_list.specs.declared.window.Window.{Window}
 use Rattle.window_paint.specs.Shown.{content_shown}
 use Rattle.vis_update.specs.declared.area.Area.{Area}
@@ -33,7 +33,7 @@ use Rattle.window_update.specs.Sets.{marked_in, on_place}
 use Rattle.window_update.specs.Rightness.{IsAgreement, IsJudgement}
 use Rattle.window_update.proofs.MarkLemmas.{its_area}
 
-module _ {V : Type 0} {H : V → Type 0} (loan : Taken V H → Loan) (shows : List ℕ → Part → PixelSet) (t : WindowManager V H) (kept : IsKept loan t) (at : ℕ) (low : at < length t.windows.records.items)
+module _ {V : Type 0} {H : V → Type 0} (loan : TakenBox V H → WindowLoan) (shows : List ℕ → Part → PixelSet) (t : WindowManager V H) (kept : IsKept loan t) (at : ℕ) (low : at < length t.windows.records.items)
     (x : Window V H) (x_is : IsWindowAt t.windows.records.items at x) where
   abbrev desk : FullDesk
   desk = desk_showing shows (desk_of loan t [])

@@ -8,8 +8,8 @@ use Rattle.tb_geom.specs.Points.{PixelSet, plus, minus}
 use Rattle.tb_geom.specs.Rects.{in_plane}
 use Rattle.tb_geom.specs.Pixels.{Pixels, holds}
 use Rattle.scan_region.specs.Moves.{StaysInRange, is_pixel_in_range}
-use Rattle.def_iface.specs.declared.taken.Taken.{Taken}
-use Rattle.def_iface.specs.Meaning.{Loan}
+use Rattle.def_iface.specs.Slots.{TakenBox}
+use Rattle.def_iface.specs.WindowMeaning.{WindowLoan}
 use Rattle.desk_call.specs.declared.update.AreaRef.{AreaRef}
 use Rattle.window_list.specs.declared.window.Window.{Window}
 use Rattle.vis_update.specs.declared.area.Area.{Area}
@@ -52,7 +52,7 @@ module _ (visible shown moved part back : Pixels) (place way : Point)
 
 -- ---- the window at a place of the list
 
-module _ {V : Type 0} {H : V → Type 0} (loan : Taken V H → Loan) (t : WindowManager V H) (kept : IsKept loan t) (at : ℕ) (low : at < length t.windows.records.items) where
+module _ {V : Type 0} {H : V → Type 0} (loan : TakenBox V H → WindowLoan) (t : WindowManager V H) (kept : IsKept loan t) (at : ℕ) (low : at < length t.windows.records.items) where
   -- it is settled
   pub settled : (x : Window V H) → IsWindowAt t.windows.records.items at x → IsSettled (record_of loan x)
   settled x x_is = telling.settled loan t kept x.serial at x low x_is refl

@@ -5,14 +5,14 @@ use Rattle.std.proofs.lemmas.Bool.{false≢true, and_parts}
 use Rattle.tb_geom.specs.declared.point.Point.{Point}
 use Rattle.tb_geom.specs.Points.{PixelSet, minus}
 use Rattle.tb_geom.specs.Pixels.{Pixels, holds}
-use Rattle.def_iface.specs.declared.part.Part.{Part}
-use Rattle.def_iface.specs.declared.taken.Taken.{Taken}
-use Rattle.def_iface.specs.Meaning.{Loan}
-use Rattle.def_iface.specs.Desk.{LayeredDesk, on_screen}
-use Rattle.def_iface.specs.Owner.{Owner, owner, is_content}
-use Rattle.def_iface.specs.Owner.Owner.{Desktop, Bar, Frame, Content}
-use Rattle.def_iface.specs.Change.{stale_by}
-use Rattle.def_iface.proofs.Owning.{same_number, same_owner-self}
+use Rattle.desk_layers.specs.declared.part.Part.{Part}
+use Rattle.def_iface.specs.Slots.{TakenBox}
+use Rattle.def_iface.specs.WindowMeaning.{WindowLoan}
+use Rattle.desk_layers.specs.Desk.{LayeredDesk, on_screen}
+use Rattle.desk_layers.specs.Owner.{Owner, owner, is_content}
+use Rattle.desk_layers.specs.Owner.Owner.{Desktop, Bar, Frame, Content}
+use Rattle.desk_layers.specs.Change.{stale_by}
+use Rattle.desk_layers.proofs.Owning.{same_number, same_owner-self}
 use Rattle.desk_call.specs.declared.update.LayerKind.{LayerKind}
 use Rattle.window_list.specs.Holders.{part_at}
 use Rattle.vis_update.specs.declared.area.Area.{Area}
@@ -106,7 +106,7 @@ module _ (kind : LayerKind) (s : ℕ) (before after : FullState) (c drawn : Choi
 
 -- ---- the windows of a window manager
 
-module _ {V : Type 0} {H : V → Type 0} (loan : Taken V H → Loan) (t : WindowManager V H) (kept : IsKept loan t) (at : ℕ) (low : at < length t.windows.records.items)
+module _ {V : Type 0} {H : V → Type 0} (loan : TakenBox V H → WindowLoan) (t : WindowManager V H) (kept : IsKept loan t) (at : ℕ) (low : at < length t.windows.records.items)
     (w : Window V H) (w_is : IsWindowAt t.windows.records.items at w) (a : Area) (a_is : a ≡ slice_index_or t.areas.items at a) where
   abbrev now : LayeredDesk
   now = layered_desk (desk_of loan t [])
@@ -174,7 +174,7 @@ module _ {V : Type 0} {H : V → Type 0} (loan : Taken V H → Loan) (t : Window
         by_sides false on content e = refl
 
 -- after a draw
-pub choices_left : {V : Type 0} {H : V → Type 0} (loan : Taken V H → Loan) (shows : List ℕ → Part → PixelSet) (t : WindowManager V H) (kept : IsKept loan t) (new : WindowManager V H) (kind : LayerKind) (s : ℕ) (c drawn : Choices)
+pub choices_left : {V : Type 0} {H : V → Type 0} (loan : TakenBox V H → WindowLoan) (shows : List ℕ → Part → PixelSet) (t : WindowManager V H) (kept : IsKept loan t) (new : WindowManager V H) (kind : LayerKind) (s : ℕ) (c drawn : Choices)
     → AreChoices s (layered_desk (desk_of loan t [])) (stale_in t.areas.items) c → has_kind c.drawn kind ≡ false
     → drawn.drawn ≡ with_kind kind c.drawn → ((k : Kinds) → IsFurther (with_kind kind c.drawn) k → left_for drawn k ≡ left_for c k)
     → LeavesShowing loan shows (IsRefreshed (is_of_kind kind s)) t new

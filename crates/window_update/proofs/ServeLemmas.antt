@@ -7,9 +7,9 @@ use Rattle.tb_geom.specs.declared.refusal.Refusal.TheVariants.{NoMemory, NoSuchW
 use Rattle.tb_geom.specs.Points.{PixelSet, plus}
 use Rattle.tb_geom.specs.Pixels.{Pixels, holds}
 use Rattle.region_bytes.specs.Bytes.{IsUnwritten}
-use Rattle.def_iface.proofs.Owning.{same_number}
-use Rattle.def_iface.specs.declared.taken.Taken.{Taken}
-use Rattle.def_iface.specs.Meaning.{Loan}
+use Rattle.desk_layers.proofs.Owning.{same_number}
+use Rattle.def_iface.specs.Slots.{TakenBox}
+use Rattle.def_iface.specs.WindowMeaning.{WindowLoan}
 use Rattle.def_iface.specs.Stocked.{SlotView}
 use Rattle.desk_call.specs.declared.activity.Activity.{Activity}
 use Rattle.desk_call.specs.declared.activity.Activity.TheVariants.{Idle, Updating}
@@ -22,8 +22,8 @@ use Rattle.desk_call.specs.declared.window.WindowReply.TheVariants.{Done}
 use Rattle.desk_call.specs.declared.window.WindowCall.{WindowCall}
 use Rattle.desk_call.specs.declared.window.WindowCall.TheVariants.{VisibleRegion, UpdateRegion}
 use Rattle.window_list.specs.declared.window.Window.{Window}
-use Rattle.def_iface.specs.declared.part.Part.{Part}
-use Rattle.def_iface.specs.Owner.{Owner, owner}
+use Rattle.desk_layers.specs.declared.part.Part.{Part}
+use Rattle.desk_layers.specs.Owner.{Owner, owner}
 use Rattle.vis_update.specs.declared.area.Area.{Area}
 use Rattle.vis_update.specs.Areas.{is_content_of, stale_in}
 use Rattle.vis_update.specs.Records.{WindowRecord, record_of}
@@ -67,13 +67,13 @@ narrowed_update call activity begun o w is same asks =
     (λ i. narrowed (asks i) (is i) begun) ∙ ap (λ b. if b then Some (λ p. false) else None) (ap (λ n. o == n) same ∙ same_number o)
 
 -- the step of a call is that of the call that it is
-pub of_call : {V : Type 0} {H : V → Type 0} (loan : Taken V H → Loan) (shows : List ℕ → Part → PixelSet) (t new : WindowManager V H) (u after : Opened) (call other : UpdateCall) (result : Result WindowReply Refusal) → call ≡ other
+pub of_call : {V : Type 0} {H : V → Type 0} (loan : TakenBox V H → WindowLoan) (shows : List ℕ → Part → PixelSet) (t new : WindowManager V H) (u after : Opened) (call other : UpdateCall) (result : Result WindowReply Refusal) → call ≡ other
     → IsUpdateStepOverAnySlots loan shows other result t u new after → IsUpdateStepOverAnySlots loan shows call result t u new after
 of_call loan shows t new u after call other result is step = subst (λ k. IsUpdateStepOverAnySlots loan shows k result t u new after) (sym is) step
 
 -- ---- an update begun and drawn
 
-module _ {V : Type 0} {H : V → Type 0} (loan : Taken V H → Loan) (shows : List ℕ → Part → PixelSet) (t : WindowManager V H) (kept : IsKept loan t) (s at : ℕ) (stands : StandsAt t.windows.records.items s at) where
+module _ {V : Type 0} {H : V → Type 0} (loan : TakenBox V H → WindowLoan) (shows : List ℕ → Part → PixelSet) (t : WindowManager V H) (kept : IsKept loan t) (s at : ℕ) (stands : StandsAt t.windows.records.items s at) where
   here : (x : Window V H) × (IsWindowAt t.windows.records.items at x)
   here = there_is t.windows.records.items at stands.0
 
@@ -142,18 +142,18 @@ module _ {V : Type 0} {H : V → Type 0} (loan : Taken V H → Loan) (shows : Li
       (left.0, subst (λ r. IsUpdateStep (asks.Serve s) r (desk_with u (was slots)) (desk_with after (state_showing shows (state_of loan new slots)))) (sym done) (free slots, (refl, (idle, left.1))))
 
 -- what is kept is whole for what is open, by whatever name that goes
-pub open_whole : {V : Type 0} {H : V → Type 0} (loan : Taken V H → Loan) (t : WindowManager V H) (a b : Activity) (u : Updates) → a ≡ b → IsWholeUpdates loan a t u → IsWholeUpdates loan b t u
+pub open_whole : {V : Type 0} {H : V → Type 0} (loan : TakenBox V H → WindowLoan) (t : WindowManager V H) (a b : Activity) (u : Updates) → a ≡ b → IsWholeUpdates loan a t u → IsWholeUpdates loan b t u
 open_whole loan t a b u same whole = subst (λ k. IsWholeUpdates loan k t u) same whole
 
 -- layers were drawn
-pub are_drawn : {V : Type 0} {H : V → Type 0} (loan : Taken V H → Loan) (shows : List ℕ → Part → PixelSet) (t : WindowManager V H) (kept : IsKept loan t) (d : LayerDraw) (at : ℕ) → StandsAt t.windows.records.items d.window at → (u : Opened) (new : WindowManager V H)
+pub are_drawn : {V : Type 0} {H : V → Type 0} (loan : TakenBox V H → WindowLoan) (shows : List ℕ → Part → PixelSet) (t : WindowManager V H) (kept : IsKept loan t) (d : LayerDraw) (at : ℕ) → StandsAt t.windows.records.items d.window at → (u : Opened) (new : WindowManager V H)
     → LeavesShowing loan shows (AreDrawn d.layers d.window) t new → IsUpdateStepOverAnySlots loan shows (asks.Draw d) (Ok Done) t u new u
 are_drawn loan shows t kept d at stands u new leaves slots whole =
     let left = leaves slots whole in
     (left.0, (free loan shows t kept d.window at stands slots, (refl, (record { activity = refl; begun = refl }, left.1))))
 
 -- layers that were drawn before in the update are drawn where nothing changes
-pub drawn_before : {V : Type 0} {H : V → Type 0} (loan : Taken V H → Loan) (shows : List ℕ → Part → PixelSet) (t : WindowManager V H) (kind : LayerKind) (s : ℕ) (c : Choices)
+pub drawn_before : {V : Type 0} {H : V → Type 0} (loan : TakenBox V H → WindowLoan) (shows : List ℕ → Part → PixelSet) (t : WindowManager V H) (kind : LayerKind) (s : ℕ) (c : Choices)
     → AreChoices s (layered_desk (desk_of loan t [])) (stale_in t.areas.items) c → has_kind c.drawn kind ≡ true → LeavesShowing loan shows (AreDrawn kind s) t t
 drawn_before loan shows t kind s c choices has slots whole =
     (whole, stays_refreshed loan t slots whole shows (is_of_kind kind s) (λ p on e. choices.fresh p on (kind_chosen kind c.drawn s (owner (layered_desk (desk_of loan t [])) p) has e)))

@@ -2,11 +2,11 @@
 use Rattle.std.proofs.Common.{◌≡◌, ℕ, Bool, true, false, ◌&&◌, not, List, [], refl, sym, ap, ◌∙◌, nat_abs, subst}
 use Rattle.tb_geom.specs.declared.point.Point.{Point}
 use Rattle.tb_geom.specs.Points.{PixelSet}
-use Rattle.def_iface.specs.declared.taken.Taken.{Taken}
-use Rattle.def_iface.specs.Meaning.{Loan}
+use Rattle.def_iface.specs.Slots.{TakenBox}
+use Rattle.def_iface.specs.WindowMeaning.{WindowLoan}
 use Rattle.def_iface.specs.Stocked.{SlotView}
-use Rattle.def_iface.specs.Desk.{LayeredDesk, on_screen}
-use Rattle.def_iface.specs.Owner.{owner}
+use Rattle.desk_layers.specs.Desk.{LayeredDesk, on_screen}
+use Rattle.desk_layers.specs.Owner.{owner}
 use Rattle.desk_call.specs.declared.activity.Activity.{Activity}
 use Rattle.desk_call.specs.declared.activity.Activity.TheVariants.{Updating}
 use Rattle.vis_update.specs.Areas.{is_content_of, stale_in}
@@ -32,7 +32,7 @@ choices_stay s desk other stale rest c sides owners sets kept = record {
     by_side k p true on = ap (λ x. is_content_of s (owner desk p) && (x && not (is_chosen_of k s (owner desk p)))) (sym (sets p on))
     by_side k p false on = refl
 
-module _ {V : Type 0} {H : V → Type 0} (loan : Taken V H → Loan) where
+module _ {V : Type 0} {H : V → Type 0} (loan : TakenBox V H → WindowLoan) where
   -- while no update is open, the sides are all
   pub closed_whole : (activity : Activity) (t : WindowManager V H) (u : Updates) → ((s : ℕ) → activity ≡ Updating s → ⊥) → u.buffer.width ≡ t.screen.width → u.buffer.height ≡ t.screen.height → IsWholeUpdates loan activity t u
   closed_whole activity t u closed width height = record { width = width; height = height; choices = λ s is. absurd (closed s is) }

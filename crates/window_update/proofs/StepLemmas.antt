@@ -7,13 +7,13 @@ use Rattle.tb_geom.specs.declared.refusal.Refusal.{Refusal}
 use Rattle.tb_geom.specs.declared.refusal.Refusal.TheVariants.{NoMemory, StalePixels}
 use Rattle.tb_geom.specs.Points.{PixelSet, minus}
 use Rattle.tb_geom.specs.Pixels.{Pixels, holds}
-use Rattle.def_iface.specs.declared.part.Part.{Part}
-use Rattle.def_iface.specs.declared.taken.Taken.{Taken}
-use Rattle.def_iface.specs.Meaning.{Loan}
+use Rattle.desk_layers.specs.declared.part.Part.{Part}
+use Rattle.def_iface.specs.Slots.{TakenBox}
+use Rattle.def_iface.specs.WindowMeaning.{WindowLoan}
 use Rattle.def_iface.specs.Stocked.{SlotView}
-use Rattle.def_iface.specs.Desk as layers
-use Rattle.def_iface.specs.Owner.{Owner, owner}
-use Rattle.def_iface.specs.Change.{Change, IsChanged}
+use Rattle.desk_layers.specs.Desk as layers
+use Rattle.desk_layers.specs.Owner.{Owner, owner}
+use Rattle.desk_layers.specs.Change.{Change, IsChanged}
 use Rattle.desk_call.specs.declared.activity.Activity.{Activity}
 use Rattle.desk_call.specs.declared.update.UpdateCall.{UpdateCall}
 use Rattle.desk_call.specs.declared.update.UpdateCall.TheVariants as asks
@@ -49,13 +49,13 @@ use Rattle.window_update.specs.UpdateSteps.{adding, taking, IsAreaMarked, IsUpda
 use Rattle.window_update.proofs.MarkLemmas.{its_area}
 
 -- a call that is refused and leaves all as it was
-pub is_refused : {V : Type 0} {H : V → Type 0} (loan : Taken V H → Loan) (shows : List ℕ → Part → PixelSet) (t : WindowManager V H) (u : Opened) (call : UpdateCall) (e : Refusal)
+pub is_refused : {V : Type 0} {H : V → Type 0} (loan : TakenBox V H → WindowLoan) (shows : List ℕ → Part → PixelSet) (t : WindowManager V H) (u : Opened) (call : UpdateCall) (e : Refusal)
     → ((slots : List SlotView) → IsUpdateRefused call e (state_showing shows (state_of loan t slots))) → IsUpdateStepOverAnySlots loan shows call (Err e) t u t u
 is_refused loan shows t u call e refused slots whole =
     (whole, (refused slots, record { windows = record { desk = refl; stale = λ p on. refl; image = λ p on. refl }; activity = refl; begun = refl }))
 
 -- so does one for which there is no memory
-pub short_of_memory : {V : Type 0} {H : V → Type 0} (loan : Taken V H → Loan) (shows : List ℕ → Part → PixelSet) (t new : WindowManager V H) (u : Opened) (call : UpdateCall) (e : Refusal) → new ≡ t
+pub short_of_memory : {V : Type 0} {H : V → Type 0} (loan : TakenBox V H → WindowLoan) (shows : List ℕ → Part → PixelSet) (t new : WindowManager V H) (u : Opened) (call : UpdateCall) (e : Refusal) → new ≡ t
     → ((slots : List SlotView) → IsUpdateRefusal call (state_showing shows (state_of loan t slots)) None × ((may_update_grow call ≡ true) × (e ≡ NoMemory))) → IsUpdateStepOverAnySlots loan shows call (Err e) t u new u
 short_of_memory loan shows t new u call e same free =
     subst (λ n. IsUpdateStepOverAnySlots loan shows call (Err e) t u n u) (sym same) (is_refused loan shows t u call e (λ slots. inr (free slots)))
@@ -76,13 +76,13 @@ marking_grows Stale m = refl
 marking_grows Right m = refl
 
 -- what was judged of the window at a place, by its number
-pub judged_there : {V : Type 0} {H : V → Type 0} (loan : Taken V H → Loan) (shows : List ℕ → Part → PixelSet) (t : WindowManager V H) (at s : ℕ) → StandsAt t.windows.records.items s at → (set : PixelSet) (right : Bool)
+pub judged_there : {V : Type 0} {H : V → Type 0} (loan : TakenBox V H → WindowLoan) (shows : List ℕ → Part → PixelSet) (t : WindowManager V H) (at s : ℕ) → StandsAt t.windows.records.items s at → (set : PixelSet) (right : Bool)
     → ((w : Window V H) → IsWindowAt t.windows.records.items at w → IsJudgement w.serial set (state_showing shows (state_of loan t [])) right) → IsJudgement s set (state_showing shows (state_of loan t [])) right
 judged_there loan shows t at s stands set right judged =
     let x = there_is t.windows.records.items at stands.0 in
     subst (λ n. IsJudgement n set (state_showing shows (state_of loan t [])) right) (stands.1 x.0 x.1) (judged x.0 x.1)
 
-module _ {V : Type 0} {H : V → Type 0} (loan : Taken V H → Loan) (shows : List ℕ → Part → PixelSet) (t : WindowManager V H) (kept : IsKept loan t) (m : WindowArea) (at : ℕ) (stands : StandsAt t.windows.records.items m.window at) where
+module _ {V : Type 0} {H : V → Type 0} (loan : TakenBox V H → WindowLoan) (shows : List ℕ → Part → PixelSet) (t : WindowManager V H) (kept : IsKept loan t) (m : WindowArea) (at : ℕ) (stands : StandsAt t.windows.records.items m.window at) where
   here : (x : Window V H) × (IsWindowAt t.windows.records.items at x)
   here = there_is t.windows.records.items at stands.0
 
@@ -172,12 +172,12 @@ module _ {V : Type 0} {H : V → Type 0} (loan : Taken V H → Loan) (shows : Li
     sides_stay verdict (Err e) (memory, same) = (ap (λ (n : WindowManager V H). n.screen.width) same, ap (λ (n : WindowManager V H). n.screen.height) same)
 
 -- another map for comparing changes no state
-pub other_map : {V : Type 0} {H : V → Type 0} (loan : Taken V H → Loan) (shows : List ℕ → Part → PixelSet) (t new : WindowManager V H) (activity : Activity) (u other : Updates) (call : UpdateCall) (result : Result WindowReply Refusal) → other.begun ≡ u.begun
+pub other_map : {V : Type 0} {H : V → Type 0} (loan : TakenBox V H → WindowLoan) (shows : List ℕ → Part → PixelSet) (t new : WindowManager V H) (activity : Activity) (u other : Updates) (call : UpdateCall) (result : Result WindowReply Refusal) → other.begun ≡ u.begun
     → IsUpdateStepOverAnySlots loan shows call result t (opened activity u) new (opened activity u) → IsUpdateStepOverAnySlots loan shows call result t (opened activity u) new (opened activity other)
 other_map loan shows t new activity u other call result same step =
     subst (λ (b : Pixels). IsUpdateStepOverAnySlots loan shows call result t (opened activity u) new (record { activity = activity; begun = λ p. holds b p })) (sym same) step
 
 -- where controls and lists show white, as a window manager by itself says, a step is one of its own state
-pub shows_white : {V : Type 0} {H : V → Type 0} (loan : Taken V H → Loan) (t new : WindowManager V H) (u after : Opened) (call : UpdateCall) (result : Result WindowReply Refusal)
+pub shows_white : {V : Type 0} {H : V → Type 0} (loan : TakenBox V H → WindowLoan) (t new : WindowManager V H) (u after : Opened) (call : UpdateCall) (result : Result WindowReply Refusal)
     → IsUpdateStepOverAnySlots loan (λ font. all_white) call result t u new after → LeavesDesk loan (IsUpdateStep call result) t u new after
 shows_white loan t new u after call result step = step

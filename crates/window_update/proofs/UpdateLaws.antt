@@ -6,9 +6,9 @@ use Rattle.tb_geom.specs.declared.refusal.Refusal.TheVariants.{StalePixels}
 use Rattle.tb_geom.specs.Points.{PixelSet, minus}
 use Rattle.tb_geom.specs.Pixels.{holds}
 use Rattle.region_bytes.proofs.Decoded.{same_set}
-use Rattle.def_iface.specs.Desk as layers
-use Rattle.def_iface.specs.Owner.{owner}
-use Rattle.def_iface.specs.Scratch.{scratch}
+use Rattle.desk_layers.specs.Desk as layers
+use Rattle.desk_layers.specs.Owner.{owner}
+use Rattle.desk_layers.specs.Scratch.{scratch}
 use Rattle.desk_call.specs.declared.update.AreaRef.{AreaRef}
 use Rattle.desk_call.specs.declared.update.AreaRef.TheVariants.{Rect, Region}
 use Rattle.desk_call.specs.declared.update.UpdateCall.{UpdateCall}

@@ -6,8 +6,8 @@ use Rattle.std.specs.Bool.{IsTrue}
 use Rattle.tb_geom.specs.declared.point.Point.{Point}
 use Rattle.tb_geom.specs.Points.{plus, minus}
 use Rattle.tb_geom.specs.Pixels.{holds}
-use Rattle.def_iface.specs.declared.taken.Taken.{Taken}
-use Rattle.def_iface.specs.Meaning.{Loan}
+use Rattle.def_iface.specs.Slots.{TakenBox}
+use Rattle.def_iface.specs.WindowMeaning.{WindowLoan}
 use Rattle.def_iface.specs.Stocked.{SlotView}
 use Rattle.window_list.specs.declared.window.Window.{Window}
 use Rattle.vis_update.specs.declared.area.Area.{Area}
@@ -21,7 +21,7 @@ use Rattle.window_mgr.proofs.TellLemmas as telling
 use Rattle.window_mgr.specs.DeskStates.{Opened, desk_state, is_updating}
 use Rattle.window_update.specs.Waiting.{IsEmpty, IsWaiting, IsFirstWaiting, update_told}
 
-module _ {V : Type 0} {H : V → Type 0} (loan : Taken V H → Loan) (t : WindowManager V H) (u : Opened) where
+module _ {V : Type 0} {H : V → Type 0} (loan : TakenBox V H → WindowLoan) (t : WindowManager V H) (u : Opened) where
   -- a window whose update is open is not to be updated
   pub open_waits_not : (s : ℕ) (slots : List SlotView) → is_updating s (u.activity) ≡ true → IsWaiting s (desk_state loan t u slots) false
   open_waits_not s slots opened p = ap (λ b. if b then false else update_of s (state_of loan t slots) p) opened

@@ -3,11 +3,11 @@ use Rattle.std.specs.Prelude.{◌≡◌, ℕ, Bool, true, false, ◌==◌, ◌&&
 use Rattle.tb_geom.specs.declared.point.Point.{Point}
 use Rattle.tb_geom.specs.Points.{PixelSet, minus}
 use Rattle.tb_geom.specs.Pixels.{Pixels, holds}
-use Rattle.def_iface.specs.declared.part.Part.{Part}
-use Rattle.def_iface.specs.declared.part.Part.TheVariants as part
-use Rattle.def_iface.specs.Desk.{LayeredDesk, on_screen}
-use Rattle.def_iface.specs.Owner.{Owner, owner}
-use Rattle.def_iface.specs.Owner.Owner.{Content}
+use Rattle.desk_layers.specs.declared.part.Part.{Part}
+use Rattle.desk_layers.specs.declared.part.Part.TheVariants as part
+use Rattle.desk_layers.specs.Desk.{LayeredDesk, on_screen}
+use Rattle.desk_layers.specs.Owner.{Owner, owner}
+use Rattle.desk_layers.specs.Owner.Owner.{Content}
 use Rattle.desk_call.specs.declared.update.LayerKind.{LayerKind}
 use Rattle.desk_call.specs.declared.update.LayerKind.TheVariants.{Picture, Lists, Controls}
 use Rattle.window_list.specs.Holders.{part_at}

@@ -5,8 +5,8 @@ use Rattle.tb_geom.specs.declared.refusal.Refusal.{Refusal}
 use Rattle.tb_geom.specs.declared.refusal.Refusal.TheVariants.{NoMemory}
 use Rattle.tb_geom.specs.Points.{PixelSet, minus}
 use Rattle.tb_geom.specs.Pixels.{Pixels, holds}
-use Rattle.def_iface.specs.declared.taken.Taken.{Taken}
-use Rattle.def_iface.specs.Meaning.{Loan}
+use Rattle.def_iface.specs.Slots.{TakenBox}
+use Rattle.def_iface.specs.WindowMeaning.{WindowLoan}
 use Rattle.desk_call.specs.declared.update.AreaRef.{AreaRef}
 use Rattle.desk_call.specs.declared.window.WindowReply.{WindowReply}
 use Rattle.desk_call.specs.declared.window.WindowReply.TheVariants.{Done}
@@ -32,7 +32,7 @@ module _ {V : Type 0} {H : V → Type 0} where
       → (p : Point) → holds update p ≡ marked_by mark (holds a.update p) (holds a.visible p && set (minus p w.place)))
 
 -- `loan` says what a definition that was taken means
-module _ {V : Type 0} {H : V → Type 0} (loan : Taken V H → Loan) where
+module _ {V : Type 0} {H : V → Type 0} (loan : TakenBox V H → WindowLoan) where
   -- an area of the window at this place was marked, or there was no memory and nothing changed
   abbrev pub IsMarkedBy : Verdict → ℕ → AreaRef → Result WindowReply Refusal → WindowManager V H → WindowManager V H → Type 0
   IsMarkedBy mark at area (Ok answer) old new = (answer ≡ Done) × ((update : Pixels) × IsUpdateAfter old at area mark update

@@ -3,9 +3,9 @@ use Rattle.std.specs.Prelude.{◌≡◌, ℕ, Bool, true, false}
 use Rattle.tb_geom.specs.declared.point.Point.{Point}
 use Rattle.tb_geom.specs.Points.{PixelSet}
 use Rattle.bit_map.specs.Bits.{Bits, bit}
-use Rattle.def_iface.specs.Desk.{on_screen}
-use Rattle.def_iface.specs.Owner.{owner}
-use Rattle.def_iface.specs.Scratch.{scratch}
+use Rattle.desk_layers.specs.Desk.{on_screen}
+use Rattle.desk_layers.specs.Owner.{owner}
+use Rattle.desk_layers.specs.Scratch.{scratch}
 use Rattle.window_mgr.specs.FullDesk.{FullState, layered_desk}
 use Rattle.window_update.specs.Sets.{marked_in}
 

@@ -8,7 +8,7 @@ use Rattle.tb_geom.specs.Pixels.{Pixels, holds}
 use Rattle.tb_geom.specs.Rects.{rect_holds, is_in_range}
 use Rattle.region_bytes.specs.Bytes.{IsRegionBytes, IsBad}
 use Rattle.lent_ops.specs.OpRefs.{IsRegion}
-use Rattle.def_iface.specs.Owner.{Owner}
+use Rattle.desk_layers.specs.Owner.{Owner}
 use Rattle.desk_call.specs.declared.update.AreaRef.{AreaRef}
 use Rattle.desk_call.specs.declared.update.AreaRef.TheVariants.{Rect, Region}
 use Rattle.vis_update.specs.Areas.{is_content_of}

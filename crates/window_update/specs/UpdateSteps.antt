@@ -3,10 +3,10 @@ use Rattle.std.specs.Prelude.{◌≡◌, ℕ, List, Result, Ok, Err}
 use Rattle.tb_geom.specs.declared.point.Point.{Point}
 use Rattle.tb_geom.specs.declared.refusal.Refusal.{Refusal}
 use Rattle.tb_geom.specs.Points.{PixelSet}
-use Rattle.def_iface.specs.declared.part.Part.{Part}
-use Rattle.def_iface.specs.declared.taken.Taken.{Taken}
-use Rattle.def_iface.specs.Meaning.{Loan}
-use Rattle.def_iface.specs.Change.{Change, no_change, IsChanged}
+use Rattle.desk_layers.specs.declared.part.Part.{Part}
+use Rattle.def_iface.specs.Slots.{TakenBox}
+use Rattle.def_iface.specs.WindowMeaning.{WindowLoan}
+use Rattle.desk_layers.specs.Change.{Change, no_change, IsChanged}
 use Rattle.desk_call.specs.declared.activity.Activity.TheVariants.{Idle, Updating}
 use Rattle.desk_call.specs.declared.update.LayerKind.{LayerKind}
 use Rattle.desk_call.specs.declared.update.UpdateCall.{UpdateCall}
@@ -78,7 +78,7 @@ IsToldOf set (Ok answer) = IsRegionTold set answer
 IsToldOf set (Err e) = IsNotTold set e
 
 -- `loan` says what a definition that was taken means, and `shows` what controls and lists show in a font
-module _ {V : Type 0} {H : V → Type 0} (loan : Taken V H → Loan) (shows : List ℕ → Part → PixelSet) where
+module _ {V : Type 0} {H : V → Type 0} (loan : TakenBox V H → WindowLoan) (shows : List ℕ → Part → PixelSet) where
   -- over any slots over which the window manager is whole, it is whole after the call, which is one step
   abbrev pub IsUpdateStepOverAnySlots : UpdateCall → Result WindowReply Refusal
       → WindowManager V H → Opened → WindowManager V H → Opened → Type 0

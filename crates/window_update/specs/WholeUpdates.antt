@@ -1,8 +1,8 @@
 -- What is kept for updates.
 use Rattle.std.specs.Prelude.{◌≡◌, ℕ, []}
 use Rattle.tb_geom.specs.Pixels.{holds}
-use Rattle.def_iface.specs.declared.taken.Taken.{Taken}
-use Rattle.def_iface.specs.Meaning.{Loan}
+use Rattle.def_iface.specs.Slots.{TakenBox}
+use Rattle.def_iface.specs.WindowMeaning.{WindowLoan}
 use Rattle.desk_call.specs.declared.activity.Activity.{Activity}
 use Rattle.desk_call.specs.declared.activity.Activity.TheVariants.{Updating}
 use Rattle.vis_update.specs.Areas.{stale_in}
@@ -18,7 +18,7 @@ abbrev pub opened : Activity → Updates → Opened
 opened activity u = record { activity = activity; begun = λ p. holds u.begun p }
 
 -- `loan` says what a definition that was taken means
-module _ {V : Type 0} {H : V → Type 0} (loan : Taken V H → Loan) where
+module _ {V : Type 0} {H : V → Type 0} (loan : TakenBox V H → WindowLoan) where
   -- the map for comparing is as wide and high as the screen, and for the update that is open, if one is, the regions
   -- are kept that its draws leave
   pub record IsWholeUpdates (activity : Activity) (t : WindowManager V H) (u : Updates) : Type 0 where

@@ -2,7 +2,7 @@
 ghost use Rattle.std.specs.Prelude.{◌≡◌, ◌&&◌, not, true, false, IfOk};
 ghost use Rattle.tb_geom.specs.declared.point.Point.{Point};
 ghost use Rattle.tb_geom.specs.Pixels.{holds};
-ghost use Rattle.def_iface.specs.declared.part.Part.TheVariants as part;
+ghost use Rattle.desk_layers.specs.declared.part.Part.TheVariants as part;
 ghost use Rattle.window_list.specs.Holders.{ArePartsApart};
 ghost use Rattle.window_paint.specs.Kinds.{is_of, is_kind_there};
 ghost use Rattle.window_update.specs.Choosing.{has_kind, with_kind, left_for, IsFurther, AreChoicesOf};
@@ -114,7 +114,8 @@ impl Choices {
     pub(crate) fn draw(&mut self, kind: LayerKind) -> Region
         ensures drawn { self.new.drawn ≡ with_kind kind self.old.drawn }
         ensures left { (p : Point) → holds result p ≡ left_for self.old (with_kind kind self.old.drawn) p }
-        ensures others { (k : Kinds) → IsFurther (with_kind kind self.old.drawn) k → left_for self.new k ≡ left_for self.old k }
+        ensures others { (k : Kinds) → IsFurther (with_kind kind self.old.drawn) k
+            → left_for self.new k ≡ left_for self.old k }
     {
         match kind {
             LayerKind::Picture => self.drawn.picture = true,

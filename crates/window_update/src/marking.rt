@@ -2,7 +2,7 @@
 ghost use Rattle.std.specs.Prelude.{◌≡◌, ◌&&◌, ℕ, List, true, length, ◌<◌, IfOk, MatchResult, [], None, Some};
 ghost use Rattle.tb_geom.specs.declared.point.Point.{Point};
 ghost use Rattle.tb_geom.specs.Points.{PixelSet, minus, plus};
-ghost use Rattle.def_iface.specs.declared.part.Part.{Part};
+ghost use Rattle.desk_layers.specs.declared.part.Part.{Part};
 ghost use Rattle.tb_geom.specs.Pixels.{holds};
 ghost use Rattle.tb_geom.specs.Rects.{in_plane};
 ghost use Rattle.scan_region.specs.Moves.{is_pixel_in_range};
@@ -20,7 +20,7 @@ ghost use Rattle.window_update.specs.UpdateSteps.{IsUpdateStepOverAnySlots};
 use crate::areas::{JudgedArea, judge, region_of};
 use crate::right::agree;
 use crate::{AreaRef, Updates, WindowArea};
-use def_iface::{Defined, Taken};
+use def_iface::{Defined, TakenWindow};
 use desk_call::WindowReply;
 use scan_region::Region;
 use std::alloc::{AllocError, Global};
@@ -37,9 +37,9 @@ impl Updates {
         windows: &mut WindowManager,
         marking: &WindowArea<'_>,
     ) -> Result<WindowReply, Refusal>
-        requires kept { IsKept ⟦<Taken as Defined>⟧.loan windows.old }
+        requires kept { IsKept ⟦<TakenWindow as Defined>⟧.loan windows.old }
         ensures step { (shows : List ℕ → Part → PixelSet) (o : Opened)
-            → IsUpdateStepOverAnySlots ⟦<Taken as Defined>⟧.loan shows (asks.Invalidate marking.now) result
+            → IsUpdateStepOverAnySlots ⟦<TakenWindow as Defined>⟧.loan shows (asks.Invalidate marking.now) result
             windows.old o windows.new o }
         ensures width { windows.new.screen.width ≡ windows.old.screen.width }
         ensures height { windows.new.screen.height ≡ windows.old.screen.height }
@@ -64,11 +64,11 @@ impl Updates {
         marking: &WindowArea<'_>,
         layers: &S,
     ) -> Result<WindowReply, Refusal>
-        requires kept { IsKept ⟦<Taken as Defined>⟧.loan windows.old }
+        requires kept { IsKept ⟦<TakenWindow as Defined>⟧.loan windows.old }
         requires width { self.old.buffer.width ≡ windows.old.screen.width }
         requires height { self.old.buffer.height ≡ windows.old.screen.height }
         requires layers { S.is_whole layers.now }
-        ensures step { (o : Opened) → IsUpdateStepOverAnySlots ⟦<Taken as Defined>⟧.loan (S.shows layers.now)
+        ensures step { (o : Opened) → IsUpdateStepOverAnySlots ⟦<TakenWindow as Defined>⟧.loan (S.shows layers.now)
             (asks.Validate marking.now) result windows.old o windows.new o }
         ensures same { self.new.begun ≡ self.old.begun }
         ensures width { self.new.buffer.width ≡ windows.new.screen.width }
@@ -98,7 +98,7 @@ impl Updates {
         area: &JudgedArea<'_>,
         layers: &S,
     ) -> bool
-        requires kept { IsKept ⟦<Taken as Defined>⟧.loan windows.now }
+        requires kept { IsKept ⟦<TakenWindow as Defined>⟧.loan windows.now }
         requires width { self.old.buffer.width ≡ windows.now.screen.width }
         requires height { self.old.buffer.height ≡ windows.now.screen.height }
         requires at { at < length windows.now.windows.records.items }
@@ -108,7 +108,7 @@ impl Updates {
         ensures same { self.new ≡ record self.old { buffer = self.new.buffer } }
         ensures right { (w : _) → IsWindowAt windows.now.windows.records.items at w
             → IsJudgement w.serial (judged_set area.now)
-            (state_showing (S.shows layers.now) (state_of ⟦<Taken as Defined>⟧.loan windows.now [])) result }
+            (state_showing (S.shows layers.now) (state_of ⟦<TakenWindow as Defined>⟧.loan windows.now [])) result }
     {
         let parts = windows.parts();
         let window = parts.windows.at(at);
@@ -127,11 +127,12 @@ struct Target<'a> {
 
 /// The window that an area is of, and the area. The refusal is the first of these: BadRegion, NoSuchWindow, OutOfRange.
 fn target_of<'a>(windows: &WindowManager, marking: &WindowArea<'a>) -> Result<Target<'a>, Refusal>
-    requires kept { IsKept ⟦<Taken as Defined>⟧.loan windows.now }
+    requires kept { IsKept ⟦<TakenWindow as Defined>⟧.loan windows.now }
     ensures { MatchResult result
-        (λ r. StandsAt windows.now.windows.records.items marking.now.window r.at × IsAreaOf marking.now.area (judged_set r.area)
-        × IsAreaRefusal marking.now (state_of ⟦<Taken as Defined>⟧.loan windows.now []) None)
-        (λ e. IsAreaRefusal marking.now (state_of ⟦<Taken as Defined>⟧.loan windows.now []) (Some e)) }
+        (λ r. StandsAt windows.now.windows.records.items marking.now.window r.at
+        × IsAreaOf marking.now.area (judged_set r.area)
+        × IsAreaRefusal marking.now (state_of ⟦<TakenWindow as Defined>⟧.loan windows.now []) None)
+        (λ e. IsAreaRefusal marking.now (state_of ⟦<TakenWindow as Defined>⟧.loan windows.now []) (Some e)) }
 {
     match (judge(&marking.area), windows.find(marking.window)) {
         (Err(Refusal::BadRegion), _) => Err(Refusal::BadRegion),
@@ -150,9 +151,9 @@ fn mark(
     area: &AreaRef<'_>,
     verdict: Verdict,
 ) -> Result<WindowReply, Refusal>
-    requires kept { IsKept ⟦<Taken as Defined>⟧.loan windows.old }
+    requires kept { IsKept ⟦<TakenWindow as Defined>⟧.loan windows.old }
     requires at { at < length windows.old.windows.records.items }
-    ensures { IsMarkedBy ⟦<Taken as Defined>⟧.loan verdict at area.now result windows.old windows.new }
+    ensures { IsMarkedBy ⟦<TakenWindow as Defined>⟧.loan verdict at area.now result windows.old windows.new }
 {
     match update_after(alloc, windows, at, area, verdict) {
         Ok(update) => {
@@ -171,7 +172,7 @@ fn update_after(
     area: &AreaRef<'_>,
     verdict: Verdict,
 ) -> Result<Region, AllocError>
-    requires kept { IsKept ⟦<Taken as Defined>⟧.loan windows.now }
+    requires kept { IsKept ⟦<TakenWindow as Defined>⟧.loan windows.now }
     requires at { at < length windows.now.windows.records.items }
     ensures { IfOk result (IsUpdateAfter windows.now at area.now verdict) }
 {

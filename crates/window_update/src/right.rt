@@ -73,7 +73,8 @@ fn differ_at(
     requires plane { in_plane point ≡ true }
     requires screen { on_map screen.now point ≡ true }
     requires image { on_map image.now point ≡ true }
-    ensures { result ≡ (differ (bit screen.now point) (bit image.now point) && judged_set area.now (minus point place)) }
+    ensures { result ≡ (differ (bit screen.now point) (bit image.now point)
+        && judged_set area.now (minus point place)) }
 {
     screen.get(point) != image.get(point) && area.contains(local(point, place))
 }

@@ -1,6 +1,6 @@
 //! An update: begun, drawn and ended.
 ghost use Rattle.std.specs.Prelude.{◌≡◌, ℕ, List, true, IfOk, Ok};
-ghost use Rattle.def_iface.specs.declared.part.Part.{Part};
+ghost use Rattle.desk_layers.specs.declared.part.Part.{Part};
 ghost use Rattle.desk_call.specs.declared.activity.Activity.TheVariants.{Idle, Updating};
 ghost use Rattle.desk_call.specs.declared.window.WindowReply.TheVariants.{Done};
 ghost use Rattle.tb_geom.specs.declared.point.Point.{Point};
@@ -16,7 +16,7 @@ ghost use Rattle.window_update.specs.UpdateSteps.{IsUpdateStepOverAnySlots};
 
 use crate::choices::Choices;
 use crate::{LayerDraw, Updates};
-use def_iface::{Defined, Taken};
+use def_iface::{Defined, TakenWindow};
 use desk_call::{Activity, WindowReply};
 use scan_region::Region;
 use std::alloc::{AllocError, Global};
@@ -33,12 +33,12 @@ impl Updates {
         activity: &mut Activity,
         window: u64,
     ) -> Result<WindowReply, Refusal>
-        requires kept { IsKept ⟦<Taken as Defined>⟧.loan windows.now }
-        requires whole { IsWholeUpdates ⟦<Taken as Defined>⟧.loan activity.old windows.now self.old }
+        requires kept { IsKept ⟦<TakenWindow as Defined>⟧.loan windows.now }
+        requires whole { IsWholeUpdates ⟦<TakenWindow as Defined>⟧.loan activity.old windows.now self.old }
         ensures step { (shows : List ℕ → Part → PixelSet)
-            → IsUpdateStepOverAnySlots ⟦<Taken as Defined>⟧.loan shows (asks.Begin window) result
+            → IsUpdateStepOverAnySlots ⟦<TakenWindow as Defined>⟧.loan shows (asks.Begin window) result
             windows.now (opened activity.old self.old) windows.now (opened activity.new self.new) }
-        ensures whole { IsWholeUpdates ⟦<Taken as Defined>⟧.loan activity.new windows.now self.new }
+        ensures whole { IsWholeUpdates ⟦<TakenWindow as Defined>⟧.loan activity.new windows.now self.new }
     {
         let Some(at) = windows.find(window) else {
             return Err(Refusal::NoSuchWindow);
@@ -65,12 +65,13 @@ impl Updates {
         draw: LayerDraw,
         layers: &S,
     ) -> Result<WindowReply, Refusal>
-        requires kept { IsKept ⟦<Taken as Defined>⟧.loan windows.old }
-        requires whole { IsWholeUpdates ⟦<Taken as Defined>⟧.loan (Updating draw.window) windows.old self.old }
+        requires kept { IsKept ⟦<TakenWindow as Defined>⟧.loan windows.old }
+        requires whole { IsWholeUpdates ⟦<TakenWindow as Defined>⟧.loan (Updating draw.window) windows.old self.old }
         requires layers { S.is_whole layers.now }
-        ensures step { (o : Opened) → IsUpdateStepOverAnySlots ⟦<Taken as Defined>⟧.loan (S.shows layers.now) (asks.Draw draw)
+        ensures step { (o : Opened) → IsUpdateStepOverAnySlots ⟦<TakenWindow as Defined>⟧.loan (S.shows layers.now)
+            (asks.Draw draw)
             result windows.old o windows.new o }
-        ensures whole { IsWholeUpdates ⟦<Taken as Defined>⟧.loan (Updating draw.window) windows.new self.new }
+        ensures whole { IsWholeUpdates ⟦<TakenWindow as Defined>⟧.loan (Updating draw.window) windows.new self.new }
         ensures same { self.new.begun ≡ self.old.begun }
     {
         let Some(at) = windows.find(draw.window) else {
@@ -105,12 +106,13 @@ pub(crate) fn serve<S: Showing>(
     window: u64,
     layers: &S,
 ) -> Result<WindowReply, Refusal>
-    requires kept { IsKept ⟦<Taken as Defined>⟧.loan windows.old }
+    requires kept { IsKept ⟦<TakenWindow as Defined>⟧.loan windows.old }
     requires idle { activity.old ≡ Idle }
     requires layers { S.is_whole layers.now }
     ensures step { (begun : PixelSet)
-        → IsUpdateStepOverAnySlots ⟦<Taken as Defined>⟧.loan (S.shows layers.now) (asks.Serve window) result
-        windows.old (record { activity = activity.old; begun = begun }) windows.new (record { activity = activity.new; begun = begun }) }
+        → IsUpdateStepOverAnySlots ⟦<TakenWindow as Defined>⟧.loan (S.shows layers.now) (asks.Serve window) result
+        windows.old (record { activity = activity.old; begun = begun }) windows.new
+        (record { activity = activity.new; begun = begun }) }
     ensures idle { activity.new ≡ Idle }
     ensures width { windows.new.screen.width ≡ windows.old.screen.width }
     ensures height { windows.new.screen.height ≡ windows.old.screen.height }

@@ -20,7 +20,7 @@ use crate::areas::JudgedArea;
 use crate::choices::Choices;
 use crate::serving::serve;
 use bit_map::BitMap;
-use def_iface::{Defined, Taken};
+use def_iface::{Defined, TakenWindow};
 use desk_call::{Activity, WindowCall, WindowReply};
 use scan_region::Region;
 use std::alloc::{AllocError, Global};
@@ -67,12 +67,12 @@ impl Updates {
         call: &UpdateCall<'_>,
         layers: &S,
     ) -> Result<WindowReply, Refusal>
-        requires kept { IsKept ⟦<Taken as Defined>⟧.loan windows.old }
-        requires whole { IsWholeUpdates ⟦<Taken as Defined>⟧.loan activity.old windows.old self.old }
+        requires kept { IsKept ⟦<TakenWindow as Defined>⟧.loan windows.old }
+        requires whole { IsWholeUpdates ⟦<TakenWindow as Defined>⟧.loan activity.old windows.old self.old }
         requires layers { S.is_whole layers.now }
         requires admitted { gate activity.old (update_standing call.now) ≡ None }
-        ensures whole { IsWholeUpdates ⟦<Taken as Defined>⟧.loan activity.new windows.new self.new }
-        ensures step { IsUpdateStepOverAnySlots ⟦<Taken as Defined>⟧.loan (S.shows layers.now) call.now result
+        ensures whole { IsWholeUpdates ⟦<TakenWindow as Defined>⟧.loan activity.new windows.new self.new }
+        ensures step { IsUpdateStepOverAnySlots ⟦<TakenWindow as Defined>⟧.loan (S.shows layers.now) call.now result
             windows.old (opened activity.old self.old) windows.new (opened activity.new self.new) }
     {
         match call {
@@ -118,14 +118,16 @@ impl Updates {
         rect: Rect,
         layers: &S,
     ) -> Result<bool, Refusal>
-        requires kept { IsKept ⟦<Taken as Defined>⟧.loan windows.now }
+        requires kept { IsKept ⟦<TakenWindow as Defined>⟧.loan windows.now }
         requires width { self.old.buffer.width ≡ windows.now.screen.width }
         requires height { self.old.buffer.height ≡ windows.now.screen.height }
         requires layers { S.is_whole layers.now }
-        ensures whole { (activity : Activity) → IsWholeUpdates ⟦<Taken as Defined>⟧.loan activity windows.now self.old
-            → IsWholeUpdates ⟦<Taken as Defined>⟧.loan activity windows.now self.new }
+        ensures whole { (activity : Activity) → IsWholeUpdates ⟦<TakenWindow as Defined>⟧.loan activity windows.now
+            self.old
+            → IsWholeUpdates ⟦<TakenWindow as Defined>⟧.loan activity windows.now self.new }
         ensures same { self.new.begun ≡ self.old.begun }
-        ensures right { let state = state_showing (S.shows layers.now) (state_of ⟦<Taken as Defined>⟧.loan windows.now []) in
+        ensures right { let state = state_showing (S.shows layers.now) (state_of ⟦<TakenWindow as Defined>⟧.loan
+            windows.now []) in
             MatchResult result
             (λ right. (is_missing window state.desk.windows ≡ false) × IsJudgement window (rect_holds rect) state right)
             (λ e. (is_missing window state.desk.windows ≡ true) × (e ≡ Refusal.NoSuchWindow)) }

@@ -7,16 +7,17 @@ ghost use Rattle.window_mgr.specs.Edits.{IsWindowAt};
 ghost use Rattle.window_mgr.specs.Kept.{IsKept};
 ghost use Rattle.window_update.specs.Waiting.{IsWaiting, IsFirstToUpdate};
 
-use def_iface::{Defined, Taken};
+use def_iface::{Defined, TakenWindow};
 use desk_call::Activity;
 use window_mgr::WindowManager;
 
 /// The serial of the first window, from the front, whose update region is not empty (*Inside Macintosh* I, "The Window
 /// Manager", CheckUpdate). That of a window whose update is open is empty. Takes no memory.
 pub fn first_to_update(windows: &WindowManager, activity: Activity) -> Option<u64>
-    requires { IsKept ⟦<Taken as Defined>⟧.loan windows.now }
+    requires { IsKept ⟦<TakenWindow as Defined>⟧.loan windows.now }
     ensures { (begun : PixelSet) (slots : List SlotView) → IsFirstToUpdate
-        (desk_state ⟦<Taken as Defined>⟧.loan windows.now (record { activity = activity; begun = begun }) slots) result }
+        (desk_state ⟦<TakenWindow as Defined>⟧.loan windows.now (record { activity = activity; begun = begun }) slots)
+        result }
 {
     let list = windows.list();
     for at in 0..list.len() {
@@ -29,10 +30,12 @@ pub fn first_to_update(windows: &WindowManager, activity: Activity) -> Option<u6
 
 /// Whether the window at this index is to be updated.
 fn is_waiting(windows: &WindowManager, activity: Activity, at: usize) -> bool
-    requires kept { IsKept ⟦<Taken as Defined>⟧.loan windows.now }
+    requires kept { IsKept ⟦<TakenWindow as Defined>⟧.loan windows.now }
     requires at { at < length windows.now.windows.records.items }
-    ensures { (w : _) → IsWindowAt windows.now.windows.records.items at w → (begun : PixelSet) (slots : List SlotView) → IsWaiting w.serial
-        (desk_state ⟦<Taken as Defined>⟧.loan windows.now (record { activity = activity; begun = begun }) slots) result }
+    ensures { (w : _) → IsWindowAt windows.now.windows.records.items at w → (begun : PixelSet) (slots : List SlotView)
+        → IsWaiting w.serial
+        (desk_state ⟦<TakenWindow as Defined>⟧.loan windows.now (record { activity = activity; begun = begun }) slots)
+        result }
 {
     if is_updating(activity, windows.list().at(at).serial) {
         return false;

@@ -1,7 +1,7 @@
 //! Lines that ask something about controls, and what is answered about them.
 
+use command_words::{Verb, verb_of, write_control_reply};
 use control_values::{ControlPart, ControlValues, Highlight};
-use control_words::{ControlVerb, write_control_reply};
 use desk_call::{ControlCall, ControlInfo, ControlOf, ControlReply, FoundControl};
 use line_words::Words;
 use std::test::Fail;
@@ -15,9 +15,9 @@ fn asked<'a>(room: &'a mut [u8; 100], line: &[u8]) -> Result<ControlCall<'a>, Re
     };
     bytes.copy_from_slice(line);
     let (word, words) = Words::new(bytes).word()?;
-    match ControlVerb::from_word(word.as_slice()) {
-        Some(verb) => verb.call(words),
-        None => Err(Refusal::NoSuchName),
+    match verb_of(word.as_slice()) {
+        Some(Verb::Control(verb)) => verb.call(words),
+        _ => Err(Refusal::NoSuchName),
     }
 }
 

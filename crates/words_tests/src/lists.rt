@@ -1,9 +1,9 @@
 //! Lines that ask something about lists, and what is answered about them.
 
+use command_words::{Verb, verb_of, write_list_reply};
 use desk_call::{CellOf, ListCall, ListOf, ListReply};
 use line_words::Words;
 use list_cells::Cell;
-use list_words::{ListVerb, write_list_reply};
 use std::test::Fail;
 use tb_geom::Refusal;
 use watched_io::WatchedWriter;
@@ -15,9 +15,9 @@ fn asked<'a>(room: &'a mut [u8; 100], line: &[u8]) -> Result<ListCall<'a>, Refus
     };
     bytes.copy_from_slice(line);
     let (word, words) = Words::new(bytes).word()?;
-    match ListVerb::from_word(word.as_slice()) {
-        Some(verb) => verb.call(words),
-        None => Err(Refusal::NoSuchName),
+    match verb_of(word.as_slice()) {
+        Some(Verb::List(verb)) => verb.call(words),
+        _ => Err(Refusal::NoSuchName),
     }
 }
 

@@ -1,5 +1,5 @@
-use Rattle.def_iface.specs.contracts.taken.TakenDefined.TheImpl as taken
-use Rattle.def_iface.specs.contracts.window_stock.WindowStockStocked.TheImpl as stock
+use Rattle.def_iface.specs.contracts.taken_window.TakenWindowDefined.TheImpl as taken
+use Rattle.def_iface.specs.contracts.taken_window.WindowStockStocked.TheImpl as stock
 use Rattle.window_mgr.specs.Whole.{IsWholeManager}
 use Rattle.layer_tests.proofs.followed.follow.OwnLists as own
 use Rattle.layer_tests.proofs.followed.follow.Given as goal

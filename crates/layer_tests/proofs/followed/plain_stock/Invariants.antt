@@ -1,5 +1,5 @@
 use Rattle.std.specs.Prelude.{All}
-use Rattle.def_iface.specs.contracts.window_stock.WindowStockStocked.TheImpl as stock
+use Rattle.def_iface.specs.contracts.taken_window.WindowStockStocked.TheImpl as stock
 use Rattle.def_iface.specs.Stocked.{IsFull}
 use Rattle.layer_tests.proofs.followed.plain_stock.Given as goal
 

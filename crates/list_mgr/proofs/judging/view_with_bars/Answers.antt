@@ -1,5 +1,5 @@
 use Rattle.std.proofs.Common.{◌≡◌, true, false, Some, sym, ap, ◌∙◌, rules}
-use Rattle.def_iface.specs.contracts.taken_control.TakenControlDefinedControl.TheImpl as control
+use Rattle.def_iface.specs.contracts.taken_control.TakenControlDefined.TheImpl as control
 use Rattle.control_mgr.specs.Laying.{definition_if}
 use Rattle.list_view.specs.Bars as bars
 use Rattle.list_mgr.specs.ListRefusals.{may_bar_be_in, size_of}
@@ -16,7 +16,7 @@ may_bar_be_in-across-requires g c = ap (λ r. is_control_size (size_of r)) c.hor
 
 pub returns-then-across : goal.returns-then-across
 returns-then-across g c w place =
-    let control_loan = (control.control_loan-value g.dyn-1).it in
+    let control_loan = (control.loan-value g.dyn-1).it in
     let n = c.args.new.now in
     let v = definition_if control_loan c.args.vertical in
     let h = definition_if control_loan c.args.horizontal in
@@ -30,7 +30,7 @@ returns-then-across g c w place =
 
 pub returns-else-down : goal.returns-else-down
 returns-else-down g c w place =
-    let control_loan = (control.control_loan-value g.dyn-1).it in
+    let control_loan = (control.loan-value g.dyn-1).it in
     let n = c.args.new.now in
     let v = definition_if control_loan c.args.vertical in
     let h = definition_if control_loan c.args.horizontal in

@@ -1,9 +1,9 @@
 use Rattle.std.proofs.Common.{◌≡◌, true, pos, ap, ◌∙◌}
 use Rattle.bit_map.specs.Bits.{on_map}
-use Rattle.def_iface.specs.contracts.taken.TakenDefined.TheImpl as taken
-use Rattle.def_iface.specs.contracts.taken_control.TakenControlDefinedControl.TheImpl as taken_control
-use Rattle.def_iface.specs.contracts.taken_list.TakenListDefinedList.TheImpl as taken_list
-use Rattle.def_iface.specs.contracts.taken_menu.TakenMenuDefinedMenu.TheImpl as taken_menu
+use Rattle.def_iface.specs.contracts.taken_window.TakenWindowDefined.TheImpl as taken
+use Rattle.def_iface.specs.contracts.taken_control.TakenControlDefined.TheImpl as taken_control
+use Rattle.def_iface.specs.contracts.taken_list.TakenListDefined.TheImpl as taken_list
+use Rattle.def_iface.specs.contracts.taken_menu.TakenMenuDefined.TheImpl as taken_menu
 use Rattle.vis_update.specs.Areas.{stale_in}
 use Rattle.desk_toolbox.specs.WholeToolbox.{toolbox_state}
 use Rattle.desk_toolbox.specs.Boxed.{no_slots}
@@ -18,7 +18,7 @@ pub returns-then-get : goal.returns-then-get
 returns-then-get g c =
     let there : on_map c.screen.result.now c.args.point ≡ true =
     on_both _ c.args.painted.now c.screen.result.now c.requires.large (ap pos c.screen.ensures.width) (ap pos c.screen.ensures.height) c.args.point c.requires.point in
-    differs_if (toolbox_state (taken.loan-value g.dyn-1).it (taken_menu.menu_loan-value g.dyn-3).it (taken_control.control_loan-value g.dyn-2).it (taken_list.list_loan-value g.dyn-4).it c.args.toolbox.now no_slots) c.args.painted.now c.args.point
+    differs_if (toolbox_state (taken.loan-value g.dyn-1).it (taken_menu.loan-value g.dyn-3).it (taken_control.loan-value g.dyn-2).it (taken_list.loan-value g.dyn-4).it c.args.toolbox.now no_slots) c.args.painted.now c.args.point
     c.requires.large c.requires.point c.get.result c.get-2.result c.is_stale.result
     (c.get.ensures ∙ c.screen.ensures.shown no_slots c.args.point there) c.get-2.ensures c.if-get.true
     (c.is_stale.ensures ∙ ap (λ w. stale_in w.areas.items c.args.point) c.windows.ensures)
@@ -27,6 +27,6 @@ pub returns-else-get : goal.returns-else-get
 returns-else-get g c =
     let there : on_map c.screen.result.now c.args.point ≡ true =
     on_both _ c.args.painted.now c.screen.result.now c.requires.large (ap pos c.screen.ensures.width) (ap pos c.screen.ensures.height) c.args.point c.requires.point in
-    alike_if (toolbox_state (taken.loan-value g.dyn-1).it (taken_menu.menu_loan-value g.dyn-3).it (taken_control.control_loan-value g.dyn-2).it (taken_list.list_loan-value g.dyn-4).it c.args.toolbox.now no_slots) c.args.painted.now c.args.point
+    alike_if (toolbox_state (taken.loan-value g.dyn-1).it (taken_menu.loan-value g.dyn-3).it (taken_control.loan-value g.dyn-2).it (taken_list.loan-value g.dyn-4).it c.args.toolbox.now no_slots) c.args.painted.now c.args.point
     c.requires.large c.requires.point c.get.result c.get-2.result
     (c.get.ensures ∙ c.screen.ensures.shown no_slots c.args.point there) c.get-2.ensures c.if-get.false

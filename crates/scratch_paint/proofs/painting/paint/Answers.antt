@@ -1,9 +1,9 @@
 use Rattle.std.proofs.Common.{SFits, w32, rules}
 use Rattle.std.proofs.lemmas.Int.{to_z-of_z}
-use Rattle.def_iface.specs.contracts.taken.TakenDefined.TheImpl as taken
-use Rattle.def_iface.specs.contracts.taken_control.TakenControlDefinedControl.TheImpl as taken_control
-use Rattle.def_iface.specs.contracts.taken_list.TakenListDefinedList.TheImpl as taken_list
-use Rattle.def_iface.specs.contracts.taken_menu.TakenMenuDefinedMenu.TheImpl as taken_menu
+use Rattle.def_iface.specs.contracts.taken_window.TakenWindowDefined.TheImpl as taken
+use Rattle.def_iface.specs.contracts.taken_control.TakenControlDefined.TheImpl as taken_control
+use Rattle.def_iface.specs.contracts.taken_list.TakenListDefined.TheImpl as taken_list
+use Rattle.def_iface.specs.contracts.taken_menu.TakenMenuDefined.TheImpl as taken_menu
 use Rattle.window_mgr.proofs.KeptLemmas.{kept}
 use Rattle.scratch_paint.proofs.FrontLemmas.{screen_painted}
 use Rattle.scratch_paint.proofs.painting.paint.Goals as goal
@@ -23,5 +23,5 @@ paint_front-requires-clause-placed g c = rw c.activity.ensures c.requires.whole.
 pub returns : goal.returns
 returns g c =
     let fits : SFits w32 c.parts-parts.result.bar = search rules in
-    screen_painted (taken.loan-value g.dyn-1).it (taken_menu.menu_loan-value g.dyn-3).it (taken_control.control_loan-value g.dyn-2).it (taken_list.list_loan-value g.dyn-4).it c.args.toolbox.now c.windows-windows.result.now c.menus.result.now c.activity.result _ c.parts-parts.result.bar _ c.paint_front.new.map
+    screen_painted (taken.loan-value g.dyn-1).it (taken_menu.loan-value g.dyn-3).it (taken_control.loan-value g.dyn-2).it (taken_list.loan-value g.dyn-4).it c.args.toolbox.now c.windows-windows.result.now c.menus.result.now c.activity.result _ c.parts-parts.result.bar _ c.paint_front.new.map
     c.windows-windows.ensures c.menus.ensures c.activity.ensures c.parts-parts.ensures.font c.parts-parts.ensures.bar (rw (c.contents.ensures.0, c.contents.ensures.1) at c.in_ok-image.ensures) (simp to_z-of_z at c.paint_front.ensures)

@@ -1,6 +1,6 @@
 use Rattle.std.proofs.Common.{rules, SFits, w32}
 use Rattle.std.proofs.lemmas.Int.{to_z-of_z}
-use Rattle.def_iface.specs.contracts.taken.TakenDefined.TheImpl as taken
+use Rattle.def_iface.specs.contracts.taken_window.TakenWindowDefined.TheImpl as taken
 use Rattle.scratch_paint.proofs.PaintLemmas.{kept_painted, few_columns}
 use Rattle.scratch_paint.proofs.painting.paint_base.Goals as goal
 

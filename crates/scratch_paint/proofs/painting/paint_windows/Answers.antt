@@ -1,5 +1,5 @@
 use Rattle.std.proofs.Common.{◌≡◌, ◌+◌, ◌-◌, ◌<◌, length, subst, rules}
-use Rattle.def_iface.specs.contracts.taken.TakenDefined.TheImpl as taken
+use Rattle.def_iface.specs.contracts.taken_window.TakenWindowDefined.TheImpl as taken
 use Rattle.window_mgr.proofs.PaintLemmas.{settled_in}
 use Rattle.scratch_paint.specs.Paints.{look_in}
 use Rattle.scratch_paint.proofs.PaintLemmas.{ArePaintedFrom, one_more}

@@ -1,5 +1,5 @@
 use Rattle.std.proofs.Common.{◌≡◌, ◌+◌, ◌-◌, ◌<◌, length, subst, rules}
-use Rattle.def_iface.specs.contracts.taken.TakenDefined.TheImpl as taken
+use Rattle.def_iface.specs.contracts.taken_window.TakenWindowDefined.TheImpl as taken
 use Rattle.vis_update.specs.Records.{WindowRecord, record_of}
 use Rattle.scratch_paint.specs.Paints.{look_in}
 use Rattle.scratch_paint.proofs.PaintLemmas.{AreLayersFrom, content_stays, layer_takes, no_layer, one_layer_more}

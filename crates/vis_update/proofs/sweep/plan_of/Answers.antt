@@ -1,7 +1,7 @@
 use Rattle.std.proofs.Common.{◌<◌, length, rules}
 use Rattle.std.proofs.lemmas.List.Elements.{All-get_or}
 use Rattle.tb_geom.specs.Pixels.{holds}
-use Rattle.def_iface.specs.contracts.taken.TakenDefined.TheImpl as taken
+use Rattle.def_iface.specs.contracts.taken_window.TakenWindowDefined.TheImpl as taken
 use Rattle.vis_update.specs.Seats.{IsNearSeat}
 use Rattle.vis_update.specs.Plans.{IsLosing}
 use Rattle.vis_update.proofs.Sweeping.{swept_more, arrived}

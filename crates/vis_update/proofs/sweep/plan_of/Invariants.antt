@@ -1,7 +1,7 @@
 use Rattle.std.proofs.Common.{◌≡◌, ◌≤◌, false, take, length}
 use Rattle.tb_geom.specs.declared.point.Point.{Point}
 use Rattle.tb_geom.specs.Pixels.{holds}
-use Rattle.def_iface.specs.contracts.taken.TakenDefined.TheImpl as taken
+use Rattle.def_iface.specs.contracts.taken_window.TakenWindowDefined.TheImpl as taken
 use Rattle.vis_update.specs.Areas.{IsNear}
 use Rattle.vis_update.proofs.Sweeping.{AreSwept}
 use Rattle.vis_update.proofs.sweep.plan_of.Given as goal

@@ -1,4 +1,4 @@
-use Rattle.def_iface.specs.contracts.taken.TakenDefined.TheImpl as taken
+use Rattle.def_iface.specs.contracts.taken_window.TakenWindowDefined.TheImpl as taken
 use Rattle.window_frame.proofs.Informing.{IsUnderWay}
 use Rattle.window_frame.proofs.followers.inform_all.Given as goal
 

@@ -1,9 +1,9 @@
 use Rattle.std.proofs.Common.{◌≡◌, refl, sym, ap, subst, ◌∙◌}
-use Rattle.def_iface.specs.contracts.taken.TakenDefined.TheImpl as taken
+use Rattle.def_iface.specs.contracts.taken_window.TakenWindowDefined.TheImpl as taken
 use Rattle.vis_update.specs.Records.{record_of}
 use Rattle.window_mgr.proofs.EditSeats.{same_at}
 use Rattle.std.specs.Prelude.{slice_index_or}
-use Rattle.def_iface.specs.News.{told_highlighted}
+use Rattle.def_iface.specs.WindowNews.{told_highlighted}
 use Rattle.window_list.specs.declared.list.WindowList.{WindowList}
 use Rattle.window_frame.specs.Followers.Flag.{Highlighting}
 use Rattle.window_frame.specs.FrameSteps.{with_flag}

@@ -2,8 +2,8 @@ use Rattle.std.proofs.Common.{◌≡◌, Bool, sym, ap, subst, ◌∙◌}
 use Rattle.std.specs.Option.{is_some}
 use Rattle.window_mgr.proofs.EditSeats.{same_at}
 use Rattle.std.specs.Prelude.{slice_index_or}
-use Rattle.def_iface.specs.News.{told_zoomed}
-use Rattle.def_iface.specs.contracts.taken.TakenDefined.TheImpl as taken
+use Rattle.def_iface.specs.WindowNews.{told_zoomed}
+use Rattle.def_iface.specs.contracts.taken_window.TakenWindowDefined.TheImpl as taken
 use Rattle.vis_update.specs.Records.{WindowRecord, record_of}
 use Rattle.window_list.specs.declared.list.WindowList.{WindowList}
 use Rattle.window_frame.specs.Followers.Flag.{Zooming}

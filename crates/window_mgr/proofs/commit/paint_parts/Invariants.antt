@@ -1,5 +1,5 @@
 use Rattle.std.proofs.Common.{take, map}
-use Rattle.def_iface.specs.contracts.taken.TakenDefined.TheImpl as taken
+use Rattle.def_iface.specs.contracts.taken_window.TakenWindowDefined.TheImpl as taken
 use Rattle.vis_update.specs.Records.{record_of}
 use Rattle.window_mgr.specs.Commits.{ArePainted, erased, redrawn}
 use Rattle.window_paint.specs.Writes.{IsWrittenBy}

@@ -1,4 +1,4 @@
-use Rattle.def_iface.specs.contracts.taken.TakenDefined.TheImpl as taken
+use Rattle.def_iface.specs.contracts.taken_window.TakenWindowDefined.TheImpl as taken
 use Rattle.bit_blit.proofs.DrawsLemmas.{Draws-once}
 use Rattle.bit_blit.proofs.OnceLemmas.{Once-on_map}
 use Rattle.window_paint.proofs.WritesLemmas.{anew_written}

@@ -2,7 +2,7 @@ use Rattle.std.proofs.Common.{◌≡◌, ◌<◌, ◌&&◌, ◌||◌, Bool, true
 use Rattle.std.proofs.Math.Seq.{take-length}
 use Rattle.tb_geom.specs.Points.{minus}
 use Rattle.tb_geom.specs.Pixels.{holds}
-use Rattle.def_iface.specs.Desk.{same_part}
+use Rattle.desk_layers.specs.Desk.{same_part}
 use Rattle.window_list.specs.Holders.{part_at}
 use Rattle.window_paint.proofs.KindLayers.{is_among, among_more, all_among}
 use Rattle.window_update.proofs.MarkLemmas.{if_ok}

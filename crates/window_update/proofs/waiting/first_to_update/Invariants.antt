@@ -1,7 +1,7 @@
 use Rattle.std.proofs.Common.{List, ℕ, Option, map, drop}
 use Rattle.tb_geom.specs.Points.{PixelSet}
 use Rattle.def_iface.specs.Stocked.{SlotView}
-use Rattle.def_iface.specs.contracts.taken.TakenDefined.TheImpl as taken
+use Rattle.def_iface.specs.contracts.taken_window.TakenWindowDefined.TheImpl as taken
 use Rattle.vis_update.specs.Records.{record_of}
 use Rattle.window_mgr.specs.DeskStates.{desk_state}
 use Rattle.window_update.specs.Waiting.{IsFirstWaiting, IsFirstToUpdate}

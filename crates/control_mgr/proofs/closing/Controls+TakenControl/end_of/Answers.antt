@@ -1,35 +1,30 @@
 use Rattle.std.proofs.Common.{refl}
-use Rattle.def_iface.specs.contracts.taken_control.TakenControlDefinedControl.TheImpl as control
-use Rattle.control_mgr.proofs.Ended.{all_left, fewer, leaving_begins, leaving_goes_on, none_seen, rest_seen, youngest_is_left, youngest_is_live, youngest_seen}
+use Rattle.def_iface.specs.contracts.taken_control.TakenControlDefined.TheImpl as control
+use Rattle.window_items.proofs.YoungestLemmas.{fewer, none_seen, rest_seen, youngest_seen}
+use Rattle.control_mgr.proofs.Ended.{all_left, leaving_begins, leaving_goes_on, youngest_is_left, youngest_is_live}
+use Rattle.control_mgr.specs.Seen.{kept_seen}
 use Rattle.control_mgr.proofs.closing.Controls+TakenControl.end_of.Goals as goal
 
 pub loop-control-init : goal.loop-control-init
-loop-control-init g c = leaving_begins c.args.window _ c.requires.live c.requires.stocked
+loop-control-init g c = leaving_begins _ _ _ c.args.window _ c.requires.live c.requires.stocked
 
 pub put_away-requires-clause-live : goal.put_away-requires-clause-live
-put_away-requires-clause-live g c =
-    youngest_is_live c.args.window _ _ _ c.loop-control.invariant
-    (youngest_seen (control.control_loan-value g.dyn-1).it c.args.window c.loop-control.self.list.items.items c.in-Some.control c.in-Some.ensures.value)
+put_away-requires-clause-live g c = youngest_is_live _ _ _ c.args.window _ _ _ c.loop-control.invariant (youngest_seen (kept_seen (control.loan-value g.dyn-1).it) c.args.window c.loop-control.self.list.items.items c.in-Some.control c.in-Some.ensures.value)
 
 pub put_away-requires-clause-left : goal.put_away-requires-clause-left
-put_away-requires-clause-left g c =
-    youngest_is_left c.args.window _ _ _ c.loop-control.invariant
-    (youngest_seen (control.control_loan-value g.dyn-1).it c.args.window c.loop-control.self.list.items.items c.in-Some.control c.in-Some.ensures.value)
+put_away-requires-clause-left g c = youngest_is_left _ _ _ c.args.window _ _ _ c.loop-control.invariant (youngest_seen (kept_seen (control.loan-value g.dyn-1).it) c.args.window c.loop-control.self.list.items.items c.in-Some.control c.in-Some.ensures.value)
 
 pub loop-control-smaller : goal.loop-control-smaller
-loop-control-smaller g c =
-    fewer (control.control_loan-value g.dyn-1).it c.args.window c.loop-control.self.list.items.items c.in-Some.control c.take_of.new.self.items.items c.in-Some.ensures.value c.in-Some.ensures.items
+loop-control-smaller g c = fewer c.args.window c.loop-control.self.list.items.items c.in-Some.control c.take_of.new.self.items.items c.in-Some.ensures.value c.in-Some.ensures.items
 
 pub loop-control-preserved : goal.loop-control-preserved
 loop-control-preserved g c =
-    let loan = (control.control_loan-value g.dyn-1).it in
-    let items = c.loop-control.self.list.items.items in
-    leaving_goes_on c.args.window _ _ _ c.loop-control.invariant (youngest_seen loan c.args.window items c.in-Some.control c.in-Some.ensures.value)
-    _ (rest_seen loan c.args.window items c.take_of.new.self.items.items c.in-Some.ensures.items) c.in-Some.ensures.next c.put_away.ensures
+    leaving_goes_on _ _ _ c.args.window _ _ _ c.loop-control.invariant (youngest_seen (kept_seen (control.loan-value g.dyn-1).it) c.args.window c.loop-control.self.list.items.items c.in-Some.control c.in-Some.ensures.value)
+    _ (rest_seen (kept_seen (control.loan-value g.dyn-1).it) c.args.window c.loop-control.self.list.items.items c.take_of.new.self.items.items c.in-Some.ensures.items) c.in-Some.ensures.next c.put_away.ensures
 
 pub returns : goal.returns
 returns g c =
-    let loan = (control.control_loan-value g.dyn-1).it in
+    let meaning = kept_seen (control.loan-value g.dyn-1).it in
     let items = c.loop-control.self.list.items.items in
-    all_left c.args.window _ _ _ c.loop-control.invariant (none_seen loan c.args.window items c.in_default.ensures.value)
-    (rest_seen loan c.args.window items c.take_of.new.self.items.items c.in_default.ensures.items) c.in_default.ensures.next refl
+    all_left _ _ _ c.args.window _ _ _ c.loop-control.invariant (none_seen meaning c.args.window items c.in_default.ensures.value)
+    (rest_seen meaning c.args.window items c.take_of.new.self.items.items c.in_default.ensures.items) c.in_default.ensures.next refl

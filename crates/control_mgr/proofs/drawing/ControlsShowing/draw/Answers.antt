@@ -8,14 +8,14 @@ use Rattle.control_mgr.proofs.drawing.ControlsShowing.draw.Goals as goal
 pub returns-in-Some-clause-drawn : goal.returns-in-Some-clause-drawn
 returns-in-Some-clause-drawn g c =
     Draws-value _ _ _ _ _
-    (λ p d. found_shows g.D.DefinedControl.control_loan c.args.canvas.now.font.now c.args.self.now.list.items.items c.in-Control.serial c.in-Some.at c.args.part (canvas_point c.args.canvas.now p) c.in-Control.is c.in-Some.ensures.first)
+    (λ p d. found_shows g.D.DrawnControl.control_loan c.args.canvas.now.font.now c.args.self.now.list.items.items c.in-Control.serial c.in-Some.at c.args.part (canvas_point c.args.canvas.now p) c.in-Control.is c.in-Some.ensures.first)
     c.draw_at.ensures.drawn
 
 pub returns-in-None-clause-drawn : goal.returns-in-None-clause-drawn
 returns-in-None-clause-drawn g c =
     Draws-value _ _ _ _ _
     (λ p d. pattern_bit-white (canvas_point c.args.canvas.now p)
-    ∙ sym (none_shows g.D.DefinedControl.control_loan c.args.canvas.now.font.now c.args.self.now.list.items.items c.in-Control.serial c.args.part (canvas_point c.args.canvas.now p) c.in-Control.is c.in-None.ensures.first))
+    ∙ sym (none_shows g.D.DrawnControl.control_loan c.args.canvas.now.font.now c.args.self.now.list.items.items c.in-Control.serial c.args.part (canvas_point c.args.canvas.now p) c.in-Control.is c.in-None.ensures.first))
     c.fill_all.ensures.drawn
 
 pub returns-in_default : goal.returns-in_default
@@ -24,6 +24,6 @@ returns-in_default g c = record {
   same_frame = c.fill_all-in_default.ensures.same_frame;
   drawn = Draws-value _ _ _ _ _
       (λ p d. pattern_bit-white (canvas_point c.args.canvas.now p)
-      ∙ sym (others_show g.D.DefinedControl.control_loan c.args.canvas.now.font.now c.args.self.now.list.items.items c.args.part (canvas_point c.args.canvas.now p) c.in_default.not-Control))
+      ∙ sym (others_show g.D.DrawnControl.control_loan c.args.canvas.now.font.now c.args.self.now.list.items.items c.args.part (canvas_point c.args.canvas.now p) c.in_default.not-Control))
       c.fill_all-in_default.ensures.drawn;
 }

@@ -1,5 +1,5 @@
 use Rattle.std.proofs.Common.{false, rules}
-use Rattle.def_iface.specs.contracts.taken_control.TakenControlDefinedControl.TheImpl as control
+use Rattle.def_iface.specs.contracts.taken_control.TakenControlDefined.TheImpl as control
 use Rattle.window_mgr.specs.Edits.{IsWindowAt}
 use Rattle.window_mgr.proofs.Contents.{layers_apart}
 use Rattle.window_mgr.proofs.Remarked.{area_there}
@@ -19,8 +19,8 @@ pub end_planned-requires-clause-planned : goal.end_planned-requires-clause-plann
 end_planned-requires-clause-planned g c =
     let lies : IsWindowAt c.args.windows.now.windows.records.items c.in_ok-spot.spot.window c.at.result.now = search rules in
     c.in_ok-planned.ensures.planned c.args.windows.now c.args.self.now
-    (ending_now _ (control.control_loan-value g.dyn-1).it c.args.control c.args.windows.now c.args.self.now c.in_ok-spot.spot c.requires.kept _ c.requires.whole c.in_ok-spot.ensures c.at.result.now lies c.area.result.now c.area.ensures)
+    (ending_now _ (control.loan-value g.dyn-1).it c.args.control c.args.windows.now c.args.self.now c.in_ok-spot.spot c.requires.kept _ c.requires.whole c.in_ok-spot.ensures c.at.result.now lies c.area.result.now c.area.ensures)
 
 pub returns : goal.returns
 returns g c =
-    disposed_step _ (control.control_loan-value g.dyn-1).it c.args.control c.args.windows.now c.args.self.now c.in_ok-spot.spot c.in_ok-spot.ensures c.end_planned.new.windows c.end_planned.new.self _ _ c.end_planned.ensures.step
+    disposed_step _ (control.loan-value g.dyn-1).it c.args.control c.args.windows.now c.args.self.now c.in_ok-spot.spot c.in_ok-spot.ensures c.end_planned.new.windows c.end_planned.new.self _ _ c.end_planned.ensures.step

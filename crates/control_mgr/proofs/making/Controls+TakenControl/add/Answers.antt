@@ -1,5 +1,5 @@
 use Rattle.std.proofs.Common.{sym, subst}
-use Rattle.def_iface.specs.contracts.taken_control.TakenControlDefinedControl.TheImpl as control
+use Rattle.def_iface.specs.contracts.taken_control.TakenControlDefined.TheImpl as control
 use Rattle.def_iface.specs.ControlMeaning.{IsControlBegun}
 use Rattle.def_iface.specs.ControlNews.{new_control_news}
 use Rattle.control_mgr.specs.Settled.{AreSettled}
@@ -8,15 +8,15 @@ use Rattle.control_mgr.proofs.making.Controls+TakenControl.add.Goals as goal
 
 pub begin-requires-clause-fits : goal.begin-requires-clause-fits
 begin-requires-clause-fits g c =
-    making.fits_begun _ (control.control_loan-value g.dyn-1).it c.args.new.now _ c.args.windows.now c.args.self.now c.args.addition c.requires.kept c.requires.beside c.requires.addition
+    making.fits_begun _ (control.loan-value g.dyn-1).it c.args.new.now _ c.args.windows.now c.args.self.now c.args.addition c.requires.kept c.requires.beside c.requires.addition
 
 pub commit_layers-requires-clause-planned : goal.commit_layers-requires-clause-planned
 commit_layers-requires-clause-planned g c =
-    making.planned_is _ (control.control_loan-value g.dyn-1).it c.args.new.now _ c.args.windows.now c.args.self.now c.args.addition c.requires.kept c.requires.beside c.requires.addition
+    making.planned_is _ (control.loan-value g.dyn-1).it c.args.new.now _ c.args.windows.now c.args.self.now c.args.addition c.requires.kept c.requires.beside c.requires.addition
 
 pub commit_layers-requires-clause-whole : goal.commit_layers-requires-clause-whole
 commit_layers-requires-clause-whole g c =
-    let control_loan = (control.control_loan-value g.dyn-1).it in
+    let control_loan = (control.loan-value g.dyn-1).it in
     let begun = control_loan c.begin.new.self in
     let live = subst (λ title. IsControlBegun (new_control_news c.args.new.now.size title c.args.addition.ticket.values) (control_loan c.args.taken).definition begun.definition) c.as_slice.ensures c.begin.ensures.begun in
     let ticket = c.requires.addition.ticket in
@@ -27,7 +27,7 @@ commit_layers-requires-clause-whole g c =
 
 pub returns-clause-step : goal.returns-clause-step
 returns-clause-step g c before left took o =
-    let control_loan = (control.control_loan-value g.dyn-1).it in
+    let control_loan = (control.loan-value g.dyn-1).it in
     let begun = control_loan c.begin.new.self in
     let live = subst (λ title. IsControlBegun (new_control_news c.args.new.now.size title c.args.addition.ticket.values) (control_loan c.args.taken).definition begun.definition) c.as_slice.ensures c.begin.ensures.begun in
     let ticket = c.requires.addition.ticket in

@@ -1,4 +1,4 @@
-use Rattle.def_iface.specs.contracts.taken_control.TakenControlDefinedControl.TheImpl as control
+use Rattle.def_iface.specs.contracts.taken_control.TakenControlDefined.TheImpl as control
 use Rattle.control_mgr.proofs.Added as adding
 use Rattle.control_mgr.proofs.making.Controls+TakenControl.grow.Goals as goal
 
@@ -23,4 +23,4 @@ returns-clause-grown g c =
 pub returns-clause-planned : goal.returns-clause-planned
 returns-clause-planned g c u m ready =
     adding.added_is c.args.new.now _ c.args.ticket c.args.layers.now c.requires.may c.in_ok-shape.shape c.in_ok-shape.ensures c.in_ok-relaid.relaid c.in_ok-relaid.ensures.layers
-    _ (control.control_loan-value g.dyn-1).it c.args.update.now c.args.windows.now u m ready c.in_ok-relaid.ensures.gained c.in_ok-relaying.relaying c.in_ok-relaying.ensures
+    _ (control.loan-value g.dyn-1).it c.args.update.now c.args.windows.now u m ready c.in_ok-relaid.ensures.gained c.in_ok-relaying.relaying c.in_ok-relaying.ensures

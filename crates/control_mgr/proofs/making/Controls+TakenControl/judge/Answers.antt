@@ -1,7 +1,7 @@
 use Rattle.std.proofs.Common.{rules, ◌≡◌, ◌<◌, ◌≤◌, length, true, false, Some, Err, SFits, w32, sym, ap, ◌∙◌, subst}
 use Rattle.std.proofs.lemmas.Int.{to_z-of_z}
 use Rattle.control_mgr.specs.ControlRefusals.{is_setting}
-use Rattle.def_iface.specs.contracts.taken_control.TakenControlDefinedControl.TheImpl as control
+use Rattle.def_iface.specs.contracts.taken_control.TakenControlDefined.TheImpl as control
 use Rattle.window_items.proofs.SeenLemmas.{count_of-seen}
 use Rattle.control_mgr.specs.Laying.{definition_if}
 use Rattle.control_mgr.proofs.Judging.{bad_setting, is_given, long_title, many, no_serial, out_of_place, placed_where, refused_so}
@@ -11,7 +11,7 @@ use Rattle.control_mgr.specs.Seen.{kept_seen}
 
 pub returns-then-not-may_be_placed : goal.returns-then-not-may_be_placed
 returns-then-not-may_be_placed g c =
-    let control_loan = (control.control_loan-value g.dyn-1).it in
+    let control_loan = (control.loan-value g.dyn-1).it in
     let d = definition_if control_loan c.args.taken in
     let test : c.may_be_placed.result ≡ false = search rules in
     out_of_place _ control_loan c.args.new.now d c.args.windows.now c.args.self.now c.requires c.in-Some.window c.in-Some.ensures c.at.result.now (search rules)
@@ -19,7 +19,7 @@ returns-then-not-may_be_placed g c =
 
 pub returns-in_err-values : goal.returns-in_err-values
 returns-in_err-values g c =
-    let control_loan = (control.control_loan-value g.dyn-1).it in
+    let control_loan = (control.loan-value g.dyn-1).it in
     let d = definition_if control_loan c.args.taken in
     let is : c.from_residual.result ≡ Err c.in_err-values.field-0.0 = search rules in
     let minimum : SFits w32 c.args.new.now.minimum = search rules in
@@ -33,7 +33,7 @@ returns-in_err-values g c =
 
 pub returns-in_err-title : goal.returns-in_err-title
 returns-in_err-title g c =
-    let control_loan = (control.control_loan-value g.dyn-1).it in
+    let control_loan = (control.loan-value g.dyn-1).it in
     let d = definition_if control_loan c.args.taken in
     let is : c.from_residual-in_err-title.result ≡ Err c.in_err-title.field-0.0 = search rules in
     let minimum : SFits w32 c.args.new.now.minimum = search rules in
@@ -47,7 +47,7 @@ returns-in_err-title g c =
 
 pub returns-in-Some-next : goal.returns-in-Some-next
 returns-in-Some-next g c =
-    let control_loan = (control.control_loan-value g.dyn-1).it in
+    let control_loan = (control.loan-value g.dyn-1).it in
     let d = definition_if control_loan c.args.taken in
     let minimum : SFits w32 c.args.new.now.minimum = search rules in
     let maximum : SFits w32 c.args.new.now.maximum = search rules in
@@ -71,7 +71,7 @@ returns-in-Some-next g c =
 
 pub returns-in_default-next : goal.returns-in_default-next
 returns-in_default-next g c =
-    let control_loan = (control.control_loan-value g.dyn-1).it in
+    let control_loan = (control.loan-value g.dyn-1).it in
     let d = definition_if control_loan c.args.taken in
     let minimum : SFits w32 c.args.new.now.minimum = search rules in
     let maximum : SFits w32 c.args.new.now.maximum = search rules in

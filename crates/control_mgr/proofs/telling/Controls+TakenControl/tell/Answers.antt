@@ -3,7 +3,7 @@ use Rattle.std.specs.Prelude.{IfSome}
 use Rattle.std.proofs.lemmas.Bool.{and_parts}
 use Rattle.tb_geom.specs.Rects.{is_in_range}
 use Rattle.control_mgr.specs.Seen.{seen}
-use Rattle.def_iface.specs.contracts.taken_control.TakenControlDefinedControl.TheImpl as control
+use Rattle.def_iface.specs.contracts.taken_control.TakenControlDefined.TheImpl as control
 use Rattle.def_iface.specs.ControlMeaning.{is_control_size}
 use Rattle.def_iface.proofs.FurtherHearing.{control_hears_then, control_regions_then}
 use Rattle.control_mgr.specs.Spots.{IsTellable}
@@ -36,7 +36,7 @@ returns-clause-damage g c =
     let setting = c.told-set.ensures in
     let highlight = c.told-highlighted.ensures in
     let regions = control_regions_then size.regions (control_regions_then title.regions (control_regions_then setting.regions highlight.regions)) in
-    let control_loan = (control.control_loan-value g.dyn-1).it in
+    let control_loan = (control.loan-value g.dyn-1).it in
     let tellable : IsTellable (seen control_loan x) = subst (λ o. IfSome o IsTellable) (record_read control_loan c.args.self.now.list.items.items c.args.at x c.requires.at c.index_mut-item.ensures.value) c.requires.tellable in
     damaged_at control_loan c.args.self.now.list.items.items c.args.at x _ c.union-damage.result c.bounds-bounds.result c.sect-shared.result c.plane.result c.placed_within.result
     c.requires.at c.index_mut-item.ensures.value

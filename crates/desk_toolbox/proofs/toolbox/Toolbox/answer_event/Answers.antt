@@ -1,9 +1,9 @@
 use Rattle.std.proofs.Common.{◌≡◌, refl, subst}
 use Rattle.desk_toolbox.specs.EventSteps.{event_step}
 use Rattle.tb_geom.specs.Pixels.{holds}
-use Rattle.def_iface.specs.contracts.taken.TakenDefined.TheImpl as taken
-use Rattle.def_iface.specs.contracts.taken_control.TakenControlDefinedControl.TheImpl as taken_control
-use Rattle.def_iface.specs.contracts.taken_list.TakenListDefinedList.TheImpl as taken_list
+use Rattle.def_iface.specs.contracts.taken_window.TakenWindowDefined.TheImpl as taken
+use Rattle.def_iface.specs.contracts.taken_control.TakenControlDefined.TheImpl as taken_control
+use Rattle.def_iface.specs.contracts.taken_list.TakenListDefined.TheImpl as taken_list
 use Rattle.window_mgr.specs.DeskStates.{desk_state}
 use Rattle.window_update.specs.WholeUpdates.{opened}
 use Rattle.control_mgr.specs.ControlDesks.{controls_show}
@@ -26,7 +26,7 @@ returns-clause-whole g c stocks whole = record {
 pub returns-clause-step : goal.returns-clause-step
 returns-clause-step g c stocks =
     let self = c.args.self.now in
-    let shows = controls_show (lists_show (lists.records_of (taken_list.list_loan-value g.dyn-4).it self.lists)) (records_of (taken_control.control_loan-value g.dyn-2).it self.controls) in
+    let shows = controls_show (lists_show (lists.records_of (taken_list.loan-value g.dyn-4).it self.lists)) (records_of (taken_control.loan-value g.dyn-2).it self.controls) in
     record {
       desk = record { windows = record { desk = refl; stale = λ p on. refl; image = λ p on. refl }; activity = refl; begun = refl };
       controls = refl;

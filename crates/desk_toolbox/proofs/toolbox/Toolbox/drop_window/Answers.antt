@@ -1,6 +1,6 @@
 use Rattle.std.proofs.Common.{ap}
-use Rattle.def_iface.specs.contracts.taken.TakenDefined.TheImpl as taken
-use Rattle.def_iface.specs.contracts.taken_menu.TakenMenuDefinedMenu.TheImpl as taken_menu
+use Rattle.def_iface.specs.contracts.taken_window.TakenWindowDefined.TheImpl as taken
+use Rattle.def_iface.specs.contracts.taken_menu.TakenMenuDefined.TheImpl as taken_menu
 use Rattle.menu_mgr.specs.MenuDesks.{MenusState}
 use Rattle.desk_toolbox.proofs.OutlineStands.{drags_now, outlining_tracks_none}
 use Rattle.desk_toolbox.proofs.OutlinesMade.{dropped_menus, outlined_updates, unshown}
@@ -21,7 +21,7 @@ returns-clause-whole g c =
       controls = whole.controls;
       trackable = outlining_tracks_none old.activity _ is;
       menus =
-          dropped_menus loan (taken_menu.menu_loan-value g.dyn-3).it old.windows new.windows old.menus new.menus _ _ _ _ old.activity same
+          dropped_menus loan (taken_menu.loan-value g.dyn-3).it old.windows new.windows old.menus new.menus _ _ _ _ old.activity same
           c.in-Err.ensures.aside.0 (ap (λ (m : MenusState). m.stock) refused.1.menus) c.requires.whole.managers.menus;
       lists = whole.lists;
     }

@@ -1,9 +1,9 @@
 use Rattle.std.proofs.Common.{◌≡◌, sym, ◌∙◌, subst}
 use Rattle.std.specs.Prelude.{slice_index_or}
-use Rattle.def_iface.specs.contracts.taken.TakenDefined.TheImpl as taken
-use Rattle.def_iface.specs.contracts.taken_control.TakenControlDefinedControl.TheImpl as taken_control
-use Rattle.def_iface.specs.contracts.taken_list.TakenListDefinedList.TheImpl as taken_list
-use Rattle.def_iface.specs.contracts.taken_menu.TakenMenuDefinedMenu.TheImpl as taken_menu
+use Rattle.def_iface.specs.contracts.taken_window.TakenWindowDefined.TheImpl as taken
+use Rattle.def_iface.specs.contracts.taken_control.TakenControlDefined.TheImpl as taken_control
+use Rattle.def_iface.specs.contracts.taken_list.TakenListDefined.TheImpl as taken_list
+use Rattle.def_iface.specs.contracts.taken_menu.TakenMenuDefined.TheImpl as taken_menu
 use Rattle.window_mgr.specs.Edits.{IsWindowAt}
 use Rattle.window_mgr.proofs.FindLemmas.{settled_at}
 use Rattle.desk_toolbox.proofs.UnderMenus.{found_under}
@@ -20,5 +20,5 @@ returns-in-Some g c stocks =
     let self = c.args.self.now in
     let x = c.at.result.now in
     let x_is : IsWindowAt self.windows.windows.records.items c.in-Some.at x = subst (λ l. x ≡ slice_index_or l.records.items c.in-Some.at x) c.list.ensures c.at.ensures in
-    found_under (taken.loan-value g.dyn-1).it (taken_menu.menu_loan-value g.dyn-3).it (taken_control.control_loan-value g.dyn-2).it (taken_list.list_loan-value g.dyn-4).it self c.requires.stocks.windows c.requires.whole.managers.windows c.args.asked c.in-Some.at c.in-Some.ensures x x_is
+    found_under (taken.loan-value g.dyn-1).it (taken_menu.loan-value g.dyn-3).it (taken_control.loan-value g.dyn-2).it (taken_list.loan-value g.dyn-4).it self c.requires.stocks.windows c.requires.whole.managers.windows c.args.asked c.in-Some.at c.in-Some.ensures x x_is
     c.has_point.result c.picture_place-pixel.result (sym c.is_in_range.ensures ∙ c.if-not-is_in_range.false) c.picture_place-pixel.ensures c.has_point.ensures stocks

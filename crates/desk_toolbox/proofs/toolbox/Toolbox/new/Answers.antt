@@ -1,9 +1,9 @@
 use Rattle.std.proofs.Common.{◌∙◌, rules, SFits, w32}
 use Rattle.std.proofs.lemmas.Int.{to_z-of_z}
 use Rattle.std.proofs.lemmas.Result.{IfOk-weaker}
-use Rattle.def_iface.specs.contracts.taken_control.TakenControlDefinedControl.TheImpl as taken_control
-use Rattle.def_iface.specs.contracts.taken_list.TakenListDefinedList.TheImpl as taken_list
-use Rattle.def_iface.specs.contracts.taken_menu.TakenMenuDefinedMenu.TheImpl as taken_menu
+use Rattle.def_iface.specs.contracts.taken_control.TakenControlDefined.TheImpl as taken_control
+use Rattle.def_iface.specs.contracts.taken_list.TakenListDefined.TheImpl as taken_list
+use Rattle.def_iface.specs.contracts.taken_menu.TakenMenuDefined.TheImpl as taken_menu
 use Rattle.desk_toolbox.proofs.Begun.{begins}
 use Rattle.desk_toolbox.proofs.toolbox.Toolbox.new.Goals as goal
 
@@ -21,7 +21,7 @@ returns-in-Ok-clause-just_begun g c =
     let fits_b : SFits w32 c.args.bar = search rules in
     let begun = simp to_z-of_z at c.with_parts.ensures.begun in
     let menus = simp to_z-of_z at c.in-Ok.ensures.menus in
-    begins _ (taken_menu.menu_loan-value g.dyn-3).it (taken_control.control_loan-value g.dyn-2).it (taken_list.list_loan-value g.dyn-4).it c.args.width c.args.height c.args.bar _ _ _ c.with_parts.result begun c.with_parts.ensures.idle c.with_parts.ensures.events c.with_parts.ensures.menus
+    begins _ (taken_menu.loan-value g.dyn-3).it (taken_control.loan-value g.dyn-2).it (taken_list.loan-value g.dyn-4).it c.args.width c.args.height c.args.bar _ _ _ c.with_parts.result begun c.with_parts.ensures.idle c.with_parts.ensures.events c.with_parts.ensures.menus
     c.with_parts.ensures.controls c.with_parts.ensures.lists c.in-Ok.ensures.events menus
 
 pub returns-in-Ok-clause-in_range : goal.returns-in-Ok-clause-in_range

@@ -1,8 +1,8 @@
 use Rattle.std.proofs.Common.{Ok, Err, [], inl, refl}
-use Rattle.def_iface.specs.contracts.taken.TakenDefined.TheImpl as taken
-use Rattle.def_iface.specs.contracts.taken_control.TakenControlDefinedControl.TheImpl as taken_control
-use Rattle.def_iface.specs.contracts.taken_list.TakenListDefinedList.TheImpl as taken_list
-use Rattle.def_iface.specs.contracts.taken_menu.TakenMenuDefinedMenu.TheImpl as taken_menu
+use Rattle.def_iface.specs.contracts.taken_window.TakenWindowDefined.TheImpl as taken
+use Rattle.def_iface.specs.contracts.taken_control.TakenControlDefined.TheImpl as taken_control
+use Rattle.def_iface.specs.contracts.taken_list.TakenListDefined.TheImpl as taken_list
+use Rattle.def_iface.specs.contracts.taken_menu.TakenMenuDefined.TheImpl as taken_menu
 use Rattle.window_mgr.specs.Records.{desk_of}
 use Rattle.control_mgr.specs.ControlDesks.{controls_show}
 use Rattle.control_mgr.specs.WholeControls.{records_of}
@@ -33,15 +33,15 @@ returns-in-Ok-clause-whole g c stocks whole =
 pub returns-in-Ok-clause-step : goal.returns-in-Ok-clause-step
 returns-in-Ok-clause-step g c stocks whole =
     let old = c.args.self.now in
-    let shows = controls_show (lists_show (lists.records_of (taken_list.list_loan-value g.dyn-4).it old.lists)) (records_of (taken_control.control_loan-value g.dyn-2).it old.controls) in
+    let shows = controls_show (lists_show (lists.records_of (taken_list.loan-value g.dyn-4).it old.lists)) (records_of (taken_control.loan-value g.dyn-2).it old.controls) in
     let step = outlining_showing shows stocks.windows (desk_of (taken.loan-value g.dyn-1).it old.windows []) c.args.call.now old.activity (Ok c.in-Ok.next) c.in-Ok.ensures.step in (
       (step.0, record { answer_is = step.1.0; leaves = record { windows = unchanged _; activity_is = step.1.1; begun = refl } }),
-      record { events = refl; controls = refl; lists = refl; menus = same_menus (taken_menu.menu_loan-value g.dyn-3).it old.menus c.show_outline.new.self stocks.menus c.show_outline.ensures.list },
+      record { events = refl; controls = refl; lists = refl; menus = same_menus (taken_menu.loan-value g.dyn-3).it old.menus c.show_outline.new.self stocks.menus c.show_outline.ensures.list },
     )
 
 pub returns-in-Err-clause-step : goal.returns-in-Err-clause-step
 returns-in-Err-clause-step g c stocks whole =
     let old = c.args.self.now in
-    let shows = controls_show (lists_show (lists.records_of (taken_list.list_loan-value g.dyn-4).it old.lists)) (records_of (taken_control.control_loan-value g.dyn-2).it old.controls) in
+    let shows = controls_show (lists_show (lists.records_of (taken_list.loan-value g.dyn-4).it old.lists)) (records_of (taken_control.loan-value g.dyn-2).it old.controls) in
     let why = outlining_showing shows stocks.windows (desk_of (taken.loan-value g.dyn-1).it old.windows []) c.args.call.now old.activity (Err c.in-Err.refusal) c.in-Err.ensures.step in
     ((inl why, record { windows = unchanged _; activity = refl; begun = refl }), record { events = refl; controls = refl; lists = refl; menus = refl })

@@ -1,9 +1,9 @@
 use Rattle.std.proofs.Common.{◌≡◌, false, None, Ok, Err, refl, subst}
 use Rattle.tb_geom.specs.Pixels.{holds}
 use Rattle.desk_call.specs.Gates.{gate, standing_of}
-use Rattle.def_iface.specs.contracts.taken.TakenDefined.TheImpl as taken
-use Rattle.def_iface.specs.contracts.taken_control.TakenControlDefinedControl.TheImpl as taken_control
-use Rattle.def_iface.specs.contracts.taken_list.TakenListDefinedList.TheImpl as taken_list
+use Rattle.def_iface.specs.contracts.taken_window.TakenWindowDefined.TheImpl as taken
+use Rattle.def_iface.specs.contracts.taken_control.TakenControlDefined.TheImpl as taken_control
+use Rattle.def_iface.specs.contracts.taken_list.TakenListDefined.TheImpl as taken_list
 use Rattle.window_mgr.specs.DeskStates.{Opened, desk_with}
 use Rattle.window_mgr.specs.Records.{state_of}
 use Rattle.window_frame.proofs.FramesShowing.{frame_step_showing}
@@ -56,7 +56,7 @@ returns-in-Ok-perform-clause-step g c =
       Ok c.in-Ok-perform.reply,
       refl,
       (
-        frame_step_showing (controls_show (lists_show (lists.records_of (taken_list.list_loan-value g.dyn-4).it c.args.self.now.lists)) (records_of (taken_control.control_loan-value g.dyn-2).it c.args.self.now.controls)) c.in-Frame.call (Ok c.in-Ok-perform.reply) (desk_with before (state_of (taken.loan-value g.dyn-1).it c.args.self.now.windows _)) (desk_with after (state_of (taken.loan-value g.dyn-1).it c.perform.new.windows _))
+        frame_step_showing (controls_show (lists_show (lists.records_of (taken_list.loan-value g.dyn-4).it c.args.self.now.lists)) (records_of (taken_control.loan-value g.dyn-2).it c.args.self.now.controls)) c.in-Frame.call (Ok c.in-Ok-perform.reply) (desk_with before (state_of (taken.loan-value g.dyn-1).it c.args.self.now.windows _)) (desk_with after (state_of (taken.loan-value g.dyn-1).it c.perform.new.windows _))
             c.requires.whole.managers.windows.sound.distinct done.1,
         record { events = refl; controls = refl; lists = refl; menus = refl },
       ),
@@ -87,7 +87,7 @@ returns-in-Err-perform-clause-step g c =
       Err c.in-Err-perform.refusal,
       refl,
       (
-        frame_step_showing (controls_show (lists_show (lists.records_of (taken_list.list_loan-value g.dyn-4).it c.args.self.now.lists)) (records_of (taken_control.control_loan-value g.dyn-2).it c.args.self.now.controls)) c.in-Frame.call (Err c.in-Err-perform.refusal) (desk_with before (state_of (taken.loan-value g.dyn-1).it c.args.self.now.windows _)) (desk_with after (state_of (taken.loan-value g.dyn-1).it c.perform.new.windows _))
+        frame_step_showing (controls_show (lists_show (lists.records_of (taken_list.loan-value g.dyn-4).it c.args.self.now.lists)) (records_of (taken_control.loan-value g.dyn-2).it c.args.self.now.controls)) c.in-Frame.call (Err c.in-Err-perform.refusal) (desk_with before (state_of (taken.loan-value g.dyn-1).it c.args.self.now.windows _)) (desk_with after (state_of (taken.loan-value g.dyn-1).it c.perform.new.windows _))
             c.requires.whole.managers.windows.sound.distinct done.1,
         record { events = refl; controls = refl; lists = refl; menus = refl },
       ),
@@ -115,7 +115,7 @@ returns-in-Ok-perform-2-clause-step g c =
       Ok c.in-Ok-perform-2.reply,
       refl,
       record {
-        step = menu_step_showing (controls_show (lists_show (lists.records_of (taken_list.list_loan-value g.dyn-4).it c.args.self.now.lists)) (records_of (taken_control.control_loan-value g.dyn-2).it c.args.self.now.controls)) _ _ c.requires.whole.managers.windows.sound.distinct c.in-Menu.call (Ok c.in-Ok-perform-2.reply) done.2;
+        step = menu_step_showing (controls_show (lists_show (lists.records_of (taken_list.loan-value g.dyn-4).it c.args.self.now.lists)) (records_of (taken_control.loan-value g.dyn-2).it c.args.self.now.controls)) _ _ c.requires.whole.managers.windows.sound.distinct c.in-Menu.call (Ok c.in-Ok-perform-2.reply) done.2;
         events = refl;
         controls = refl;
         lists = refl;
@@ -144,7 +144,7 @@ returns-in-Err-perform-2-clause-step g c =
       Err c.in-Err-perform-2.refusal,
       refl,
       record {
-        step = menu_step_showing (controls_show (lists_show (lists.records_of (taken_list.list_loan-value g.dyn-4).it c.args.self.now.lists)) (records_of (taken_control.control_loan-value g.dyn-2).it c.args.self.now.controls)) _ _ c.requires.whole.managers.windows.sound.distinct c.in-Menu.call (Err c.in-Err-perform-2.refusal) done.2;
+        step = menu_step_showing (controls_show (lists_show (lists.records_of (taken_list.loan-value g.dyn-4).it c.args.self.now.lists)) (records_of (taken_control.loan-value g.dyn-2).it c.args.self.now.controls)) _ _ c.requires.whole.managers.windows.sound.distinct c.in-Menu.call (Err c.in-Err-perform-2.refusal) done.2;
         events = refl;
         controls = refl;
         lists = refl;

@@ -1,10 +1,10 @@
 use Rattle.std.proofs.Common.{refl, sym, ◌∙◌}
 use Rattle.tb_geom.specs.Pixels.{holds}
-use Rattle.def_iface.specs.contracts.taken.TakenDefined.TheImpl as taken
-use Rattle.def_iface.specs.contracts.taken_control.TakenControlDefinedControl.TheImpl as taken_control
-use Rattle.def_iface.specs.contracts.taken_menu.TakenMenuDefinedMenu.TheImpl as taken_menu
-use Rattle.def_iface.specs.contracts.taken_list.TakenListDefinedList.TheImpl as taken_list
-use Rattle.def_iface.specs.contracts.window_stock.WindowStockStocked.TheImpl as stock
+use Rattle.def_iface.specs.contracts.taken_window.TakenWindowDefined.TheImpl as taken
+use Rattle.def_iface.specs.contracts.taken_control.TakenControlDefined.TheImpl as taken_control
+use Rattle.def_iface.specs.contracts.taken_menu.TakenMenuDefined.TheImpl as taken_menu
+use Rattle.def_iface.specs.contracts.taken_list.TakenListDefined.TheImpl as taken_list
+use Rattle.def_iface.specs.contracts.taken_window.WindowStockStocked.TheImpl as stock
 use Rattle.window_mgr.specs.Records.{state_of}
 use Rattle.window_mgr.proofs.Showing.{distinct_showing}
 use Rattle.window_update.specs.WholeUpdates.{opened}
@@ -25,23 +25,23 @@ returns-then-is_hidden_by_menu-clause-whole g c = c.requires.whole.managers
 pub returns-clause-whole : goal.returns-clause-whole
 returns-clause-whole g c =
     let self = c.args.self.now in
-    let done = c.perform.ensures.step (λ p. holds self.updates.begun p) (lists_show (lists.records_of (taken_list.list_loan-value g.dyn-4).it self.lists)) _ c.requires.whole.managers.windows c.requires.whole.managers.controls in
+    let done = c.perform.ensures.step (λ p. holds self.updates.begun p) (lists_show (lists.records_of (taken_list.loan-value g.dyn-4).it self.lists)) _ c.requires.whole.managers.windows c.requires.whole.managers.controls in
     let made = done.2 c.requires.whole.right in
     let first = opened self.activity self.updates in
     let last = opened c.perform.new.activity self.updates in
     record {
       windows = done.0;
-      updates = updates_after_control (taken.loan-value g.dyn-1).it (taken_menu.menu_loan-value g.dyn-3).it (taken_control.control_loan-value g.dyn-2).it (lists_show (lists.records_of (taken_list.list_loan-value g.dyn-4).it self.lists)) self.windows c.perform.new.windows _ _ first last self.controls c.perform.new.self _ _
+      updates = updates_after_control (taken.loan-value g.dyn-1).it (taken_menu.loan-value g.dyn-3).it (taken_control.loan-value g.dyn-2).it (lists_show (lists.records_of (taken_list.loan-value g.dyn-4).it self.lists)) self.windows c.perform.new.windows _ _ first last self.controls c.perform.new.self _ _
           c.args.call.now c.perform.result c.requires.admitted made self.updates c.requires.whole.managers.updates;
       controls = done.1;
       trackable = c.perform.ensures.trackable;
-      lists = control_leaves_lists c.args.call.now c.perform.result _ _ _ (distinct_showing (controls_show (lists_show (lists.records_of (taken_list.list_loan-value g.dyn-4).it self.lists)) (records_of (taken_control.control_loan-value g.dyn-2).it self.controls)) (state_of (taken.loan-value g.dyn-1).it self.windows ((stock.slots-value g.dyn-1).it c.args.stock.now.windows)).desk c.requires.whole.managers.windows.sound.distinct)
+      lists = control_leaves_lists c.args.call.now c.perform.result _ _ _ (distinct_showing (controls_show (lists_show (lists.records_of (taken_list.loan-value g.dyn-4).it self.lists)) (records_of (taken_control.loan-value g.dyn-2).it self.controls)) (state_of (taken.loan-value g.dyn-1).it self.windows ((stock.slots-value g.dyn-1).it c.args.stock.now.windows)).desk c.requires.whole.managers.windows.sound.distinct)
           c.requires.whole.managers.controls.apart made c.requires.whole.managers.lists;
-      menus = menus_after_control (taken.loan-value g.dyn-1).it (taken_menu.menu_loan-value g.dyn-3).it (taken_control.control_loan-value g.dyn-2).it (lists_show (lists.records_of (taken_list.list_loan-value g.dyn-4).it self.lists)) self.windows c.perform.new.windows _ _ first last self.controls c.perform.new.self _ _
+      menus = menus_after_control (taken.loan-value g.dyn-1).it (taken_menu.loan-value g.dyn-3).it (taken_control.loan-value g.dyn-2).it (lists_show (lists.records_of (taken_list.loan-value g.dyn-4).it self.lists)) self.windows c.perform.new.windows _ _ first last self.controls c.perform.new.self _ _
           c.args.call.now c.perform.result c.requires.admitted made self.menus _ c.requires.whole.managers.menus;
     }
 
 pub returns-clause-step : goal.returns-clause-step
 returns-clause-step g c =
-    let done = c.perform.ensures.step (λ p. holds c.args.self.now.updates.begun p) (lists_show (lists.records_of (taken_list.list_loan-value g.dyn-4).it c.args.self.now.lists)) _ c.requires.whole.managers.windows c.requires.whole.managers.controls in
+    let done = c.perform.ensures.step (λ p. holds c.args.self.now.updates.begun p) (lists_show (lists.records_of (taken_list.loan-value g.dyn-4).it c.args.self.now.lists)) _ c.requires.whole.managers.windows c.requires.whole.managers.controls in
     performed_is_told _ c.args.call.now c.perform.result _ _ (sym (c.is_hidden_by_menu.ensures _) ∙ c.if-is_hidden_by_menu.false) (record { step = done.2 c.requires.whole.right; events = refl; lists = refl; menus = refl })

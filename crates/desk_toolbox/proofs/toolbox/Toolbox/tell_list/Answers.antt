@@ -1,8 +1,8 @@
 use Rattle.std.proofs.Common.{refl}
-use Rattle.def_iface.specs.contracts.taken.TakenDefined.TheImpl as taken
-use Rattle.def_iface.specs.contracts.taken_control.TakenControlDefinedControl.TheImpl as taken_control
-use Rattle.def_iface.specs.contracts.taken_list.TakenListDefinedList.TheImpl as taken_list
-use Rattle.def_iface.specs.contracts.taken_menu.TakenMenuDefinedMenu.TheImpl as taken_menu
+use Rattle.def_iface.specs.contracts.taken_window.TakenWindowDefined.TheImpl as taken
+use Rattle.def_iface.specs.contracts.taken_control.TakenControlDefined.TheImpl as taken_control
+use Rattle.def_iface.specs.contracts.taken_list.TakenListDefined.TheImpl as taken_list
+use Rattle.def_iface.specs.contracts.taken_menu.TakenMenuDefined.TheImpl as taken_menu
 use Rattle.window_update.specs.WholeUpdates.{opened}
 use Rattle.desk_toolbox.proofs.ListsAside.{menus_after_list, trackable_after_list, updates_after_list}
 use Rattle.desk_toolbox.proofs.toolbox.Toolbox.tell_list.Goals as goal
@@ -11,9 +11,9 @@ pub returns-clause-whole : goal.returns-clause-whole
 returns-clause-whole g c =
     let self = c.args.self.now in
     let loan = (taken.loan-value g.dyn-1).it in
-    let control_loan = (taken_control.control_loan-value g.dyn-2).it in
-    let menu_loan = (taken_menu.menu_loan-value g.dyn-3).it in
-    let list_loan = (taken_list.list_loan-value g.dyn-4).it in
+    let control_loan = (taken_control.loan-value g.dyn-2).it in
+    let menu_loan = (taken_menu.loan-value g.dyn-3).it in
+    let list_loan = (taken_list.loan-value g.dyn-4).it in
     let began = opened self.activity self.updates in
     let done = c.perform.ensures began _ c.requires.whole.managers.windows c.requires.whole.managers.controls c.requires.whole.managers.lists in
     let made = done.3 c.requires.whole.right in

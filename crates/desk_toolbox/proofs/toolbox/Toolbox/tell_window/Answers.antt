@@ -1,13 +1,13 @@
 use Rattle.std.proofs.Common.{refl, ap, ◌∙◌, ◌≡◌, None, Ok, Err, sym, subst}
 use Rattle.std.proofs.lemmas.List.Elements.{All-weaker}
-use Rattle.def_iface.specs.contracts.control_stock.ControlStockStockedControls.TheImpl as control_stock
-use Rattle.def_iface.specs.contracts.list_stock.ListStockStockedLists.TheImpl as list_stock
+use Rattle.def_iface.specs.contracts.taken_control.ControlStockStocked.TheImpl as control_stock
+use Rattle.def_iface.specs.contracts.taken_list.ListStockStocked.TheImpl as list_stock
 use Rattle.def_iface.specs.contracts.stock.StockStockedAll.TheImpl as stock
-use Rattle.def_iface.specs.contracts.taken.TakenDefined.TheImpl as taken
-use Rattle.def_iface.specs.contracts.taken_control.TakenControlDefinedControl.TheImpl as taken_control
-use Rattle.def_iface.specs.contracts.taken_list.TakenListDefinedList.TheImpl as taken_list
-use Rattle.def_iface.specs.contracts.taken_menu.TakenMenuDefinedMenu.TheImpl as taken_menu
-use Rattle.def_iface.specs.contracts.window_stock.WindowStockStocked.TheImpl as window_stock
+use Rattle.def_iface.specs.contracts.taken_window.TakenWindowDefined.TheImpl as taken
+use Rattle.def_iface.specs.contracts.taken_control.TakenControlDefined.TheImpl as taken_control
+use Rattle.def_iface.specs.contracts.taken_list.TakenListDefined.TheImpl as taken_list
+use Rattle.def_iface.specs.contracts.taken_menu.TakenMenuDefined.TheImpl as taken_menu
+use Rattle.def_iface.specs.contracts.taken_window.WindowStockStocked.TheImpl as window_stock
 use Rattle.def_iface.specs.declared.window_def.Stage.TheVariants.{Live}
 use Rattle.desk_call.specs.Gates.{window_standing}
 use Rattle.window_mgr.specs.DeskStates.{desk_with}
@@ -53,7 +53,7 @@ returns-then-is_covered-clause-whole g c = c.requires.whole.managers
 pub returns-in-Some-clause-step : goal.returns-in-Some-clause-step
 returns-in-Some-clause-step g c =
     let state : ToolboxState =
-    toolbox_state (taken.loan-value g.dyn-1).it (taken_menu.menu_loan-value g.dyn-3).it (taken_control.control_loan-value g.dyn-2).it (taken_list.list_loan-value g.dyn-4).it
+    toolbox_state (taken.loan-value g.dyn-1).it (taken_menu.loan-value g.dyn-3).it (taken_control.loan-value g.dyn-2).it (taken_list.loan-value g.dyn-4).it
     c.args.self.now ((stock.all_slots-value g.dyn-1 g.dyn-2 g.dyn-4 g.dyn-3).it c.args.stock.now) in
     window_is_told _ c.args.call.now c.in-Some.answer _ _ (sym (c.is_covered.ensures _) ∙ c.if-is_covered.false)
     (narrowed_made c.args.call.now c.in-Some.answer state c.in-Some.ensures.0 c.in-Some.ensures.1 c.in-Some.ensures.2 refl)
@@ -69,18 +69,18 @@ returns-in-Some-clause-economy g c informed = economical_untouched _ c.args.call
 pub forget-requires-clause-live : goal.forget-requires-clause-live
 forget-requires-clause-live g c =
     All-weaker IsSettledControl (λ (k : ControlRecord). k.kept.definition.definition.stage ≡ Live) (λ k settled. settled.live)
-    (records_of (taken_control.control_loan-value g.dyn-2).it c.args.self.now.controls) c.requires.whole.managers.controls.settled
+    (records_of (taken_control.loan-value g.dyn-2).it c.args.self.now.controls) c.requires.whole.managers.controls.settled
 
 pub forget-requires-clause-live_lists : goal.forget-requires-clause-live_lists
 forget-requires-clause-live_lists g c =
     All-weaker IsSettledList (λ (k : KeptList). k.kept.definition.definition.stage ≡ Live) (λ k settled. settled.live)
-    (lists.records_of (taken_list.list_loan-value g.dyn-4).it c.args.self.now.lists) c.requires.whole.managers.lists.settled
+    (lists.records_of (taken_list.loan-value g.dyn-4).it c.args.self.now.lists) c.requires.whole.managers.lists.settled
 
 pub returns-in-Ok-clause-step : goal.returns-in-Ok-clause-step
 returns-in-Ok-clause-step g c =
     let old = c.args.self.now in
     let loan = (taken.loan-value g.dyn-1).it in
-    let shows = controls_show (lists_show (lists.records_of (taken_list.list_loan-value g.dyn-4).it old.lists)) (records_of (taken_control.control_loan-value g.dyn-2).it old.controls) in
+    let shows = controls_show (lists_show (lists.records_of (taken_list.loan-value g.dyn-4).it old.lists)) (records_of (taken_control.loan-value g.dyn-2).it old.controls) in
     let done = c.in-Ok.ensures in
     let caught = (caught_up_by_call _ c.perform.new.self c.follow.new.windows c.args.call.now c.outcome_of-outcome.result c.outcome_of-outcome.ensures c.follow.ensures.told _ done.whole).1 in
     window_is_told _ c.args.call.now (Ok c.in-Ok.reply) _ _ (sym (c.is_covered.ensures _) ∙ c.if-is_covered.false)
@@ -105,12 +105,12 @@ returns-in-Ok-clause-whole g c =
     let old = c.args.self.now in
     let mid = c.perform.new.self in
     let loan = (taken.loan-value g.dyn-1).it in
-    let menu_loan = (taken_menu.menu_loan-value g.dyn-3).it in
-    let control_loan = (taken_control.control_loan-value g.dyn-2).it in
-    let slots = (control_stock.control_slots-value g.dyn-2).it in
+    let menu_loan = (taken_menu.loan-value g.dyn-3).it in
+    let control_loan = (taken_control.loan-value g.dyn-2).it in
+    let slots = (control_stock.slots-value g.dyn-2).it in
     let window_slots = (window_stock.slots-value g.dyn-1).it in
-    let list_loan = (taken_list.list_loan-value g.dyn-4).it in
-    let list_slots = (list_stock.list_slots-value g.dyn-4).it in
+    let list_loan = (taken_list.loan-value g.dyn-4).it in
+    let list_slots = (list_stock.slots-value g.dyn-4).it in
     let done = c.in-Ok.ensures in
     let told = caught_up_by_call _ mid c.follow.new.windows c.args.call.now c.outcome_of-outcome.result c.outcome_of-outcome.ensures c.follow.ensures.told _ done.whole in
     let updates = updates_after_window _ old.windows mid old.updates _ _ old.activity c.args.call.now (Ok c.in-Ok.reply) c.requires.admitted done.step c.requires.whole.managers.updates in
@@ -147,7 +147,7 @@ returns-in-Ok-clause-economy g c informed =
 pub returns-in-Err-clause-step : goal.returns-in-Err-clause-step
 returns-in-Err-clause-step g c =
     let old = c.args.self.now in
-    let shows = controls_show (lists_show (lists.records_of (taken_list.list_loan-value g.dyn-4).it old.lists)) (records_of (taken_control.control_loan-value g.dyn-2).it old.controls) in
+    let shows = controls_show (lists_show (lists.records_of (taken_list.loan-value g.dyn-4).it old.lists)) (records_of (taken_control.loan-value g.dyn-2).it old.controls) in
     window_is_told _ c.args.call.now (Err c.in-Err.refusal) _ _ (sym (c.is_covered.ensures _) ∙ c.if-is_covered.false) (
       rw c.in_default.ensures (
         record { activity = refl; begun = refl },
@@ -160,8 +160,8 @@ pub returns-in-Err-clause-whole : goal.returns-in-Err-clause-whole
 returns-in-Err-clause-whole g c =
     let old = c.args.self.now in
     let loan = (taken.loan-value g.dyn-1).it in
-    let control_loan = (taken_control.control_loan-value g.dyn-2).it in
-    let list_loan = (taken_list.list_loan-value g.dyn-4).it in
+    let control_loan = (taken_control.loan-value g.dyn-2).it in
+    let list_loan = (taken_list.loan-value g.dyn-4).it in
     let done = c.in-Err.ensures in
     let o = opened old.activity old.updates in
     let same = refused_keeps_desk None c.args.call.now c.in-Err.refusal (desk_with o (state_of loan old.windows _)) (desk_with o (state_of loan c.perform.new.self _)) (record { activity = refl; begun = refl }, done.step) in
@@ -169,10 +169,10 @@ returns-in-Err-clause-whole g c =
     record {
       windows = done.whole;
       updates = updates_after_window _ old.windows c.perform.new.self old.updates _ _ old.activity c.args.call.now (Err c.in-Err.refusal) c.requires.admitted done.step c.requires.whole.managers.updates;
-      controls = subst (λ ws. AreWholeControls ws (controls_state control_loan old.controls ((control_stock.control_slots-value g.dyn-2).it c.args.stock.now.controls))) (sym windows) c.requires.whole.managers.controls;
+      controls = subst (λ ws. AreWholeControls ws (controls_state control_loan old.controls ((control_stock.slots-value g.dyn-2).it c.args.stock.now.controls))) (sym windows) c.requires.whole.managers.controls;
       trackable = c.requires.whole.managers.trackable;
       menus = window_whole _ _ old.windows c.perform.new.self _ _ _ _ old.activity c.args.call.now (Err c.in-Err.refusal) c.requires.admitted done.step c.requires.whole.managers.menus;
-      lists = subst (λ ws. AreWholeLists ws (lists_state list_loan old.lists ((list_stock.list_slots-value g.dyn-4).it c.args.stock.now.lists))) (sym windows) c.requires.whole.managers.lists;
+      lists = subst (λ ws. AreWholeLists ws (lists_state list_loan old.lists ((list_stock.slots-value g.dyn-4).it c.args.stock.now.lists))) (sym windows) c.requires.whole.managers.lists;
     }
 
 pub returns-in-Err-clause-economy : goal.returns-in-Err-clause-economy

@@ -1,7 +1,7 @@
 use Rattle.std.proofs.Common.{rules, SFits, w32, ap}
 use Rattle.std.proofs.lemmas.Int.{to_z-of_z}
-use Rattle.def_iface.specs.contracts.taken_control.TakenControlDefinedControl.TheImpl as taken_control
-use Rattle.def_iface.specs.contracts.taken_list.TakenListDefinedList.TheImpl as taken_list
+use Rattle.def_iface.specs.contracts.taken_control.TakenControlDefined.TheImpl as taken_control
+use Rattle.def_iface.specs.contracts.taken_list.TakenListDefined.TheImpl as taken_list
 use Rattle.control_mgr.specs.Seen.{all_seen}
 use Rattle.control_mgr.specs.ControlDesks.{controls_show}
 use Rattle.control_mgr.specs.WholeControls.{records_of}
@@ -32,7 +32,7 @@ returns-in-Ok-clause-whole g c stocks full =
     let fits_b : SFits w32 c.args.bar = search rules in
     let begun = simp to_z-of_z at c.in-Ok.ensures.begun in
     let empty = begun stocks.windows full.windows in
-    let shows = controls_show (lists_show (whole_lists.records_of (taken_list.list_loan-value g.dyn-4).it c.new-in-Ok-2.result)) (records_of (taken_control.control_loan-value g.dyn-3).it c.new-in-Ok.result) in
+    let shows = controls_show (lists_show (whole_lists.records_of (taken_list.loan-value g.dyn-4).it c.new-in-Ok-2.result)) (records_of (taken_control.loan-value g.dyn-3).it c.new-in-Ok.result) in
     record {
       managers = record {
         windows = empty.whole;

@@ -3,7 +3,7 @@ use Rattle.std.specs.Prelude.{unwrap_or}
 use Rattle.std.proofs.lemmas.Result.{err_from_is_err_and}
 use Rattle.tb_geom.specs.declared.refusal.Refusal.TheVariants.{NoMemory}
 use Rattle.tb_geom.specs.Refusals.{first_refusal}
-use Rattle.def_iface.specs.contracts.taken_list.TakenListDefinedList.TheImpl as list
+use Rattle.def_iface.specs.contracts.taken_list.TakenListDefined.TheImpl as list
 use Rattle.list_cells.specs.Grids.{content_of, data_refusals}
 use Rattle.list_mgr.specs.Seen.{seen}
 use Rattle.desk_call.specs.declared.list.ListCall.TheVariants as asks
@@ -32,19 +32,19 @@ returns-in_err-add_to_cell g c =
     let memory : e.0 ≡ NoMemory =
     e.2 ∙ c.in_err-add_to_cell.ensures.refused
     ∙ ap (λ o. unwrap_or o NoMemory) (subst (λ z. first_refusal (data_refusals z.kept.cells cell 0 (length c.as_slice-text.result.now)) ≡ None) same free) in
-    short_over_right _ (list.list_loan-value g.dyn-1).it c.args.windows.now c.args.self.now (with_cells_there _ (list.list_loan-value g.dyn-1).it set.cell.list c.args.windows.now c.args.self.now c.in_ok-spot.spot c.in_ok-spot.ensures y c.index_mut.ensures.value c.add_to_cell.new.self)
-    (kept_there _ (list.list_loan-value g.dyn-1).it set.cell.list c.args.windows.now c.args.self.now c.in_ok-spot.spot c.in_ok-spot.ensures y c.index_mut.ensures.value c.add_to_cell.new.self c.in_err-add_to_cell.ensures.cells)
+    short_over_right _ (list.loan-value g.dyn-1).it c.args.windows.now c.args.self.now (with_cells_there _ (list.loan-value g.dyn-1).it set.cell.list c.args.windows.now c.args.self.now c.in_ok-spot.spot c.in_ok-spot.ensures y c.index_mut.ensures.value c.add_to_cell.new.self)
+    (kept_there _ (list.loan-value g.dyn-1).it set.cell.list c.args.windows.now c.args.self.now c.in_ok-spot.spot c.in_ok-spot.ensures y c.index_mut.ensures.value c.add_to_cell.new.self c.in_err-add_to_cell.ensures.cells)
     refl (asks.AddToCell set) c.from_residual-in_err-add_to_cell.result e.0 e.1 memory (λ kept. refl)
     (λ o slots cs kept.
     its_reasons _ _ set.cell.list c.args.windows.now c.args.self.now c.in_ok-spot.spot c.in_ok-spot.ensures (λ z. data_refusals z.kept.cells cell 0 (length set.text))
-    (seen (list.list_loan-value g.dyn-1).it x) (list_read _ _ set.cell.list c.args.windows.now c.args.self.now c.in_ok-spot.spot c.in_ok-spot.ensures x c.index.ensures)
+    (seen (list.loan-value g.dyn-1).it x) (list_read _ _ set.cell.list c.args.windows.now c.args.self.now c.in_ok-spot.spot c.in_ok-spot.ensures x c.index.ensures)
     ∙ subst (λ (text : List ℕ). first_refusal (data_refusals x.kept.cells cell 0 (length text)) ≡ None) c.as_slice-text.ensures free)
 
 pub cell_rect-within-requires : goal.cell_rect-within-requires
 cell_rect-within-requires g c =
     let set = c.args.added.now in
     let x = c.index.result.now in
-    cell_of_list x.kept.cells set.cell.cell (read_grid _ (list.list_loan-value g.dyn-1).it set.cell.list c.args.windows.now c.args.self.now c.in_ok-spot.spot c.in_ok-spot.ensures x c.index.ensures c.requires.beside)
+    cell_of_list x.kept.cells set.cell.cell (read_grid _ (list.loan-value g.dyn-1).it set.cell.list c.args.windows.now c.args.self.now c.in_ok-spot.spot c.in_ok-spot.ensures x c.index.ensures c.requires.beside)
     (cell_of_allowed x.kept.cells set.cell.cell 0 (length c.as_slice-text.result.now) (sym c.in_default.ensures))
 
 pub show-requires-clause-beside : goal.show-requires-clause-beside
@@ -88,14 +88,14 @@ returns g c =
     subst (λ (text : List ℕ). first_refusal (data_refusals x.kept.cells cell 0 (length text)) ≡ None) c.as_slice-text.ensures c.in_ok-add_to_cell.ensures.allowed in
     let changes : not (length set.text == 0) ≡ not c.is_empty-changes.result =
     ap not (sym (c.is_empty-changes.ensures ∙ ap (λ (text : List ℕ). length text == 0) c.as_slice-text.ensures)) in
-    right_as _ (list.list_loan-value g.dyn-1).it t c.show.new.windows m (with_cells_there _ (list.list_loan-value g.dyn-1).it set.cell.list t m spot is x read c.add_to_cell.new.self) (IsListChanged set.cell.list (with_grid (appended cell set.text))) (IsListStep (asks.AddToCell set) (Ok reply.Done))
+    right_as _ (list.loan-value g.dyn-1).it t c.show.new.windows m (with_cells_there _ (list.loan-value g.dyn-1).it set.cell.list t m spot is x read c.add_to_cell.new.self) (IsListChanged set.cell.list (with_grid (appended cell set.text))) (IsListStep (asks.AddToCell set) (Ok reply.Done))
     (λ o slots cs kept done. (
-      its_reasons _ _ set.cell.list t m spot is (λ y. data_refusals y.kept.cells cell 0 (length set.text)) (seen (list.list_loan-value g.dyn-1).it x) (list_read _ _ set.cell.list t m spot is x read) ∙ allowed,
+      its_reasons _ _ set.cell.list t m spot is (λ y. data_refusals y.kept.cells cell 0 (length set.text)) (seen (list.loan-value g.dyn-1).it x) (list_read _ _ set.cell.list t m spot is x read) ∙ allowed,
       (refl, done),
     ))
-    (changed_so _ (list.list_loan-value g.dyn-1).it set.cell.list t m spot is x read (appended cell set.text) c.add_to_cell.new.self
-    (c.in_ok-add_to_cell.ensures.cells ∙ ap (λ (text : List ℕ). appended cell text x.kept.cells) c.as_slice-text.ensures) (λ good. added_grid x.kept.cells cell set.text good allowed) c.cell_rect-within.result (λ settled. bytes_outside c.cell_rect-within.result (seen (list.list_loan-value g.dyn-1).it x) cell ((content_of x.kept.cells cell).bytes ++ set.text)
+    (changed_so _ (list.loan-value g.dyn-1).it set.cell.list t m spot is x read (appended cell set.text) c.add_to_cell.new.self
+    (c.in_ok-add_to_cell.ensures.cells ∙ ap (λ (text : List ℕ). appended cell text x.kept.cells) c.as_slice-text.ensures) (λ good. added_grid x.kept.cells cell set.text good allowed) c.cell_rect-within.result (λ settled. bytes_outside c.cell_rect-within.result (seen (list.loan-value g.dyn-1).it x) cell ((content_of x.kept.cells cell).bytes ++ set.text)
     (c.cell_rect-within.ensures.sides ∙ ap (λ y. cell_rect y.kept.view cell) (one_item m.list.items.items spot.list c.index-2.result.now x is.low c.index-2.ensures read)) (cell_of_allowed x.kept.cells cell 0 (length set.text) allowed) settled) c.in_ok-mark.mark (not c.is_empty-changes.result) c.in_ok-mark.ensures
     (subst (λ b. IsSameOrNot b (appended cell set.text x.kept.cells) x.kept.cells) changes
-    (added_or_not x.kept.cells cell set.text (read_grid _ (list.list_loan-value g.dyn-1).it set.cell.list t m spot is x read c.requires.beside) (cell_of_allowed x.kept.cells cell 0 (length set.text) allowed)))
+    (added_or_not x.kept.cells cell set.text (read_grid _ (list.loan-value g.dyn-1).it set.cell.list t m spot is x read c.requires.beside) (cell_of_allowed x.kept.cells cell 0 (length set.text) allowed)))
     c.show.new.windows c.show.ensures)

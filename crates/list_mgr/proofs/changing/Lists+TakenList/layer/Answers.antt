@@ -1,6 +1,6 @@
 use Rattle.std.proofs.Common.{◌≡◌, Some, get_or, refl, sym, ap, ◌∙◌, subst}
 use Rattle.std.specs.Option.{IsSome}
-use Rattle.def_iface.specs.contracts.taken_list.TakenListDefinedList.TheImpl as list
+use Rattle.def_iface.specs.contracts.taken_list.TakenListDefined.TheImpl as list
 use Rattle.control_mgr.proofs.Lays.{one_item}
 use Rattle.list_mgr.specs.Changing.{IsItsLayer}
 use Rattle.list_mgr.proofs.Places.{found_its}
@@ -21,5 +21,5 @@ returns g c w lies =
     _ refl c.requires.beside.whole c.index.result.now c.index.ensures c.find.result c.find.ensures.first in
     let both : Some found.0 ≡ Some c.unwrap.result = sym found.1 ∙ c.unwrap.ensures in
     let same : found.0 ≡ c.unwrap.result = cc in
-    subst (λ x. IsItsLayer (list.list_loan-value g.dyn-1).it c.args.self.now c.args.spot x.layers.layers c.unwrap.result) (one_item c.args.windows.now.windows.records.items c.args.spot.window v w c.requires.spot.is.window.0 v_is lies)
-    (subst (λ n. IsItsLayer (list.list_loan-value g.dyn-1).it c.args.self.now c.args.spot v.layers.layers n) same found.2)
+    subst (λ x. IsItsLayer (list.loan-value g.dyn-1).it c.args.self.now c.args.spot x.layers.layers c.unwrap.result) (one_item c.args.windows.now.windows.records.items c.args.spot.window v w c.requires.spot.is.window.0 v_is lies)
+    (subst (λ n. IsItsLayer (list.loan-value g.dyn-1).it c.args.self.now c.args.spot v.layers.layers n) same found.2)

@@ -1,8 +1,8 @@
 use Rattle.std.proofs.Common.{false, get_or, sym, ap, ◌∙◌, subst}
 use Rattle.std.specs.Prelude.{MatchResult}
 use Rattle.std.proofs.lemmas.Result.{err_from_is_err_and}
-use Rattle.def_iface.specs.contracts.taken.TakenDefined.TheImpl as window
-use Rattle.def_iface.specs.contracts.taken_list.TakenListDefinedList.TheImpl as list
+use Rattle.def_iface.specs.contracts.taken_window.TakenWindowDefined.TheImpl as window
+use Rattle.def_iface.specs.contracts.taken_list.TakenListDefined.TheImpl as list
 use Rattle.list_mgr.specs.Seen.{seen}
 use Rattle.window_mgr.proofs.Contents.{layers_apart}
 use Rattle.window_mgr.proofs.Remarked.{area_there}
@@ -13,7 +13,7 @@ use Rattle.list_mgr.proofs.changing.Lists+TakenList.mark.Goals as goal
 
 pub returns-then-index : goal.returns-then-index
 returns-then-index g c = (
-  seen (list.list_loan-value g.dyn-1).it c.index.result.now,
+  seen (list.loan-value g.dyn-1).it c.index.result.now,
   list_read _ _ c.requires.spot.of c.args.windows.now c.args.self.now c.args.spot c.requires.spot.is c.index.result.now c.index.ensures,
   c.if-index.true,
 )
@@ -30,8 +30,8 @@ area-area-requires g c = area_there _ c.args.windows.now c.requires.kept c.args.
 pub returns-in_err-shown : goal.returns-in_err-shown
 returns-in_err-shown g c =
     let e = err_from_is_err_and c.from_residual.result c.from_residual.ensures.1 in
-    subst (λ r. MatchResult r (IsMark (list.list_loan-value g.dyn-1).it (window.loan-value g.dyn-2).it c.args.windows.now c.args.self.now c.args.spot) (λ _. IsDrawing (list.list_loan-value g.dyn-1).it false c.args.self.now c.args.spot)) (sym e.1) (
-      seen (list.list_loan-value g.dyn-1).it c.index.result.now,
+    subst (λ r. MatchResult r (IsMark (list.loan-value g.dyn-1).it (window.loan-value g.dyn-2).it c.args.windows.now c.args.self.now c.args.spot) (λ _. IsDrawing (list.loan-value g.dyn-1).it false c.args.self.now c.args.spot)) (sym e.1) (
+      seen (list.loan-value g.dyn-1).it c.index.result.now,
       list_read _ _ c.requires.spot.of c.args.windows.now c.args.self.now c.args.spot c.requires.spot.is c.index.result.now c.index.ensures,
       c.if-index.false,
     )
@@ -39,8 +39,8 @@ returns-in_err-shown g c =
 pub returns-in_err-update : goal.returns-in_err-update
 returns-in_err-update g c =
     let e = err_from_is_err_and c.from_residual-in_err-update.result c.from_residual-in_err-update.ensures.1 in
-    subst (λ r. MatchResult r (IsMark (list.list_loan-value g.dyn-1).it (window.loan-value g.dyn-2).it c.args.windows.now c.args.self.now c.args.spot) (λ _. IsDrawing (list.list_loan-value g.dyn-1).it false c.args.self.now c.args.spot)) (sym e.1) (
-      seen (list.list_loan-value g.dyn-1).it c.index.result.now,
+    subst (λ r. MatchResult r (IsMark (list.loan-value g.dyn-1).it (window.loan-value g.dyn-2).it c.args.windows.now c.args.self.now c.args.spot) (λ _. IsDrawing (list.loan-value g.dyn-1).it false c.args.self.now c.args.spot)) (sym e.1) (
+      seen (list.loan-value g.dyn-1).it c.index.result.now,
       list_read _ _ c.requires.spot.of c.args.windows.now c.args.self.now c.args.spot c.requires.spot.is c.index.result.now c.index.ensures,
       c.if-index.false,
     )
@@ -50,7 +50,7 @@ returns g c =
     let v = c.at.result.now in
     let v_is = c.at.ensures ∙ ap (λ ls. get_or ls.records.items c.args.spot.window v) c.list.ensures in (
       (
-        seen (list.list_loan-value g.dyn-1).it c.index.result.now,
+        seen (list.loan-value g.dyn-1).it c.index.result.now,
         list_read _ _ c.requires.spot.of c.args.windows.now c.args.self.now c.args.spot c.requires.spot.is c.index.result.now c.index.ensures,
         c.if-index.false,
       ),

@@ -4,7 +4,7 @@ use Rattle.std.specs.Str.{bytes_eq}
 use Rattle.std.proofs.lemmas.Result.{err_from_is_err_and}
 use Rattle.tb_geom.specs.declared.refusal.Refusal.TheVariants.{NoMemory}
 use Rattle.tb_geom.specs.Refusals.{first_refusal}
-use Rattle.def_iface.specs.contracts.taken_list.TakenListDefinedList.TheImpl as list
+use Rattle.def_iface.specs.contracts.taken_list.TakenListDefined.TheImpl as list
 use Rattle.list_cells.specs.Grids.{Grid, content_of, data_refusals, with_bytes}
 use Rattle.list_mgr.specs.Seen.{seen}
 use Rattle.desk_call.specs.declared.list.ListCall.TheVariants as asks
@@ -27,10 +27,10 @@ returns-in_err-cell g c =
     let cell = set.cell.cell in
     let x = c.index-2.result.now in
     let e = err_from_is_err_and c.from_residual-in_err-cell.result c.from_residual-in_err-cell.ensures.1 in
-    refused_over_right _ (list.list_loan-value g.dyn-1).it c.args.windows.now c.args.self.now c.args.self.now refl refl (asks.SetCell set) c.from_residual-in_err-cell.result e.0 e.1
+    refused_over_right _ (list.loan-value g.dyn-1).it c.args.windows.now c.args.self.now c.args.self.now refl refl (asks.SetCell set) c.from_residual-in_err-cell.result e.0 e.1
     (λ o slots cs kept.
     its_reasons _ _ set.cell.list c.args.windows.now c.args.self.now c.in_ok-spot.spot c.in_ok-spot.ensures (λ y. data_refusals y.kept.cells cell (length (content_of y.kept.cells cell).bytes) (length set.text))
-    (seen (list.list_loan-value g.dyn-1).it x) (list_read _ _ set.cell.list c.args.windows.now c.args.self.now c.in_ok-spot.spot c.in_ok-spot.ensures x c.index-2.ensures)
+    (seen (list.loan-value g.dyn-1).it x) (list_read _ _ set.cell.list c.args.windows.now c.args.self.now c.in_ok-spot.spot c.in_ok-spot.ensures x c.index-2.ensures)
     ∙ no_cell_refused x.kept.cells cell (length (content_of x.kept.cells cell).bytes) (length set.text) (sym c.in_err-cell.ensures.found)
     ∙ ap Some (sym (e.2 ∙ c.in_err-cell.ensures.refused)))
 
@@ -40,10 +40,10 @@ returns-in_err-mark g c =
     let cell = set.cell.cell in
     let x = c.index.result.now in
     let e = err_from_is_err_and c.from_residual-in_err-mark.result c.from_residual-in_err-mark.ensures.1 in
-    short_over_right _ (list.list_loan-value g.dyn-1).it c.args.windows.now c.args.self.now c.args.self.now refl refl (asks.SetCell set) c.from_residual-in_err-mark.result e.0 e.1 e.2 (λ kept. refl)
+    short_over_right _ (list.loan-value g.dyn-1).it c.args.windows.now c.args.self.now c.args.self.now refl refl (asks.SetCell set) c.from_residual-in_err-mark.result e.0 e.1 e.2 (λ kept. refl)
     (λ o slots cs kept.
     its_reasons _ _ set.cell.list c.args.windows.now c.args.self.now c.in_ok-spot.spot c.in_ok-spot.ensures (λ y. data_refusals y.kept.cells cell (length (content_of y.kept.cells cell).bytes) (length set.text))
-    (seen (list.list_loan-value g.dyn-1).it x) (list_read _ _ set.cell.list c.args.windows.now c.args.self.now c.in_ok-spot.spot c.in_ok-spot.ensures x c.index.ensures)
+    (seen (list.loan-value g.dyn-1).it x) (list_read _ _ set.cell.list c.args.windows.now c.args.self.now c.in_ok-spot.spot c.in_ok-spot.ensures x c.index.ensures)
     ∙ subst (λ (text : List ℕ). first_refusal (data_refusals x.kept.cells cell (length (content_of x.kept.cells cell).bytes) (length text)) ≡ None) c.as_slice-text.ensures (sym c.in_default.ensures))
 
 pub returns-in_err-set_cell : goal.returns-in_err-set_cell
@@ -58,19 +58,19 @@ returns-in_err-set_cell g c =
     let memory : e.0 ≡ NoMemory =
     e.2 ∙ c.in_err-set_cell.ensures.refused
     ∙ ap (λ o. unwrap_or o NoMemory) (subst (λ z. first_refusal (data_refusals z.kept.cells cell (length (content_of z.kept.cells cell).bytes) (length c.as_slice-text.result.now)) ≡ None) same free) in
-    short_over_right _ (list.list_loan-value g.dyn-1).it c.args.windows.now c.args.self.now (with_cells_there _ (list.list_loan-value g.dyn-1).it set.cell.list c.args.windows.now c.args.self.now c.in_ok-spot.spot c.in_ok-spot.ensures y c.index_mut.ensures.value c.set_cell.new.self)
-    (kept_there _ (list.list_loan-value g.dyn-1).it set.cell.list c.args.windows.now c.args.self.now c.in_ok-spot.spot c.in_ok-spot.ensures y c.index_mut.ensures.value c.set_cell.new.self c.in_err-set_cell.ensures.cells)
+    short_over_right _ (list.loan-value g.dyn-1).it c.args.windows.now c.args.self.now (with_cells_there _ (list.loan-value g.dyn-1).it set.cell.list c.args.windows.now c.args.self.now c.in_ok-spot.spot c.in_ok-spot.ensures y c.index_mut.ensures.value c.set_cell.new.self)
+    (kept_there _ (list.loan-value g.dyn-1).it set.cell.list c.args.windows.now c.args.self.now c.in_ok-spot.spot c.in_ok-spot.ensures y c.index_mut.ensures.value c.set_cell.new.self c.in_err-set_cell.ensures.cells)
     refl (asks.SetCell set) c.from_residual-in_err-set_cell.result e.0 e.1 memory (λ kept. refl)
     (λ o slots cs kept.
     its_reasons _ _ set.cell.list c.args.windows.now c.args.self.now c.in_ok-spot.spot c.in_ok-spot.ensures (λ z. data_refusals z.kept.cells cell (length (content_of z.kept.cells cell).bytes) (length set.text))
-    (seen (list.list_loan-value g.dyn-1).it x) (list_read _ _ set.cell.list c.args.windows.now c.args.self.now c.in_ok-spot.spot c.in_ok-spot.ensures x c.index.ensures)
+    (seen (list.loan-value g.dyn-1).it x) (list_read _ _ set.cell.list c.args.windows.now c.args.self.now c.in_ok-spot.spot c.in_ok-spot.ensures x c.index.ensures)
     ∙ subst (λ (text : List ℕ). first_refusal (data_refusals x.kept.cells cell (length (content_of x.kept.cells cell).bytes) (length text)) ≡ None) c.as_slice-text.ensures free)
 
 pub cell_rect-within-requires : goal.cell_rect-within-requires
 cell_rect-within-requires g c =
     let set = c.args.set.now in
     let x = c.index-2.result.now in
-    cell_of_list x.kept.cells set.cell.cell (read_grid _ (list.list_loan-value g.dyn-1).it set.cell.list c.args.windows.now c.args.self.now c.in_ok-spot.spot c.in_ok-spot.ensures x c.index-2.ensures c.requires.beside) (sym c.in_ok-cell.ensures.found)
+    cell_of_list x.kept.cells set.cell.cell (read_grid _ (list.loan-value g.dyn-1).it set.cell.list c.args.windows.now c.args.self.now c.in_ok-spot.spot c.in_ok-spot.ensures x c.index-2.ensures c.requires.beside) (sym c.in_ok-cell.ensures.found)
 
 pub show-requires-clause-beside : goal.show-requires-clause-beside
 show-requires-clause-beside g c =
@@ -115,14 +115,14 @@ returns g c =
     let changes : not (bytes_eq (content_of x.kept.cells cell).bytes set.text) ≡ c.differ-changes.result =
     sym (c.differ-changes.ensures ∙ ap (λ (old : List ℕ). not (bytes_eq old c.as_slice-text.result.now)) (c.in_ok-cell.ensures.bytes ∙ ap (λ y. (content_of y.kept.cells cell).bytes) same)
     ∙ ap (λ (text : List ℕ). not (bytes_eq (content_of x.kept.cells cell).bytes text)) c.as_slice-text.ensures) in
-    right_as _ (list.list_loan-value g.dyn-1).it t c.show.new.windows m (with_cells_there _ (list.list_loan-value g.dyn-1).it set.cell.list t m spot is x read c.set_cell.new.self) (IsListChanged set.cell.list (with_grid (λ (y : Grid). with_bytes y cell set.text))) (IsListStep (asks.SetCell set) (Ok reply.Done))
+    right_as _ (list.loan-value g.dyn-1).it t c.show.new.windows m (with_cells_there _ (list.loan-value g.dyn-1).it set.cell.list t m spot is x read c.set_cell.new.self) (IsListChanged set.cell.list (with_grid (λ (y : Grid). with_bytes y cell set.text))) (IsListStep (asks.SetCell set) (Ok reply.Done))
     (λ o slots cs kept done. (
-      its_reasons _ _ set.cell.list t m spot is (λ y. data_refusals y.kept.cells cell (length (content_of y.kept.cells cell).bytes) (length set.text)) (seen (list.list_loan-value g.dyn-1).it x) (list_read _ _ set.cell.list t m spot is x read) ∙ allowed,
+      its_reasons _ _ set.cell.list t m spot is (λ y. data_refusals y.kept.cells cell (length (content_of y.kept.cells cell).bytes) (length set.text)) (seen (list.loan-value g.dyn-1).it x) (list_read _ _ set.cell.list t m spot is x read) ∙ allowed,
       (refl, done),
     ))
-    (changed_so _ (list.list_loan-value g.dyn-1).it set.cell.list t m spot is x read (λ (y : Grid). with_bytes y cell set.text) c.set_cell.new.self
-    (c.in_ok-set_cell.ensures.cells ∙ ap (λ (text : List ℕ). with_bytes x.kept.cells cell text) c.as_slice-text.ensures) (λ good. set_grid x.kept.cells cell set.text good allowed) c.cell_rect-within.result (λ settled. bytes_outside c.cell_rect-within.result (seen (list.list_loan-value g.dyn-1).it x) cell set.text
+    (changed_so _ (list.loan-value g.dyn-1).it set.cell.list t m spot is x read (λ (y : Grid). with_bytes y cell set.text) c.set_cell.new.self
+    (c.in_ok-set_cell.ensures.cells ∙ ap (λ (text : List ℕ). with_bytes x.kept.cells cell text) c.as_slice-text.ensures) (λ good. set_grid x.kept.cells cell set.text good allowed) c.cell_rect-within.result (λ settled. bytes_outside c.cell_rect-within.result (seen (list.loan-value g.dyn-1).it x) cell set.text
     (c.cell_rect-within.ensures.sides ∙ ap (λ y. cell_rect y.kept.view cell) (one_item m.list.items.items spot.list c.index-3.result.now x is.low c.index-3.ensures read)) (cell_of_allowed x.kept.cells cell (length (content_of x.kept.cells cell).bytes) (length set.text) allowed) settled) c.in_ok-mark.mark c.differ-changes.result c.in_ok-mark.ensures
     (subst (λ b. IsSameOrNot b (with_bytes x.kept.cells cell set.text) x.kept.cells) changes
-    (set_or_not x.kept.cells cell set.text (read_grid _ (list.list_loan-value g.dyn-1).it set.cell.list t m spot is x read c.requires.beside) (cell_of_allowed x.kept.cells cell (length (content_of x.kept.cells cell).bytes) (length set.text) allowed)))
+    (set_or_not x.kept.cells cell set.text (read_grid _ (list.loan-value g.dyn-1).it set.cell.list t m spot is x read c.requires.beside) (cell_of_allowed x.kept.cells cell (length (content_of x.kept.cells cell).bytes) (length set.text) allowed)))
     c.show.new.windows c.show.ensures)

@@ -1,7 +1,7 @@
 use Rattle.std.proofs.Common.{Some, sym, subst}
-use Rattle.def_iface.specs.contracts.taken.TakenDefined.TheImpl as window
-use Rattle.def_iface.specs.contracts.taken_list.TakenListDefinedList.TheImpl as list
-use Rattle.def_iface.specs.declared.part.Part.TheVariants as part
+use Rattle.def_iface.specs.contracts.taken_window.TakenWindowDefined.TheImpl as window
+use Rattle.def_iface.specs.contracts.taken_list.TakenListDefined.TheImpl as list
+use Rattle.desk_layers.specs.declared.part.Part.TheVariants as part
 use Rattle.window_mgr.proofs.Remarked.{area_there}
 use Rattle.control_mgr.proofs.Places.{read_is, there_is}
 use Rattle.list_mgr.specs.Changing.{IsMark, IsShownOrMarked}
@@ -17,18 +17,18 @@ set_update-requires-clause-within g c a read p on =
     let w = there_is t.windows.records.items c.args.spot.window spot.is.window.0 in
     let lies = read_is t.windows.records.items c.args.spot.window w.item w.there in
     let x = list_there _ _ spot.of t c.args.self.now c.args.spot spot.is in
-    let mark = subst (IsMark (list.list_loan-value g.dyn-1).it (window.loan-value g.dyn-2).it t c.args.self.now c.args.spot) c.in-Some.is c.requires.mark in
+    let mark = subst (IsMark (list.loan-value g.dyn-1).it (window.loan-value g.dyn-2).it t c.args.self.now c.args.spot) c.in-Some.is c.requires.mark in
     region_within _ t c.args.spot.window spot.is.window.0 w.item lies a read (part.List x.item.serial) c.in-Some.update (mark.1 w.item a x.item lies read x.there) c.requires.kept p on
 
 pub returns-in-None : goal.returns-in-None
 returns-in-None g c =
-    subst (λ o. IsShownOrMarked (list.list_loan-value g.dyn-1).it (window.loan-value g.dyn-2).it c.args.within o c.args.changes c.args.spot c.args.self.now c.args.windows.now c.show_layer.new.self) (sym c.in-None.is)
+    subst (λ o. IsShownOrMarked (list.loan-value g.dyn-1).it (window.loan-value g.dyn-2).it c.args.within o c.args.changes c.args.spot c.args.self.now c.args.windows.now c.show_layer.new.self) (sym c.in-None.is)
     (λ x there. drawn_by _ _ c.args.windows.now c.args.self.now c.args.spot c.requires.spot x there c.args.within c.layer-layer.result c.layer-layer.ensures c.show_layer.new.self c.show_layer.ensures)
 
 pub returns-then-changes : goal.returns-then-changes
 returns-then-changes g c =
-    let mark = subst (IsMark (list.list_loan-value g.dyn-1).it (window.loan-value g.dyn-2).it c.args.windows.now c.args.self.now c.args.spot) c.in-Some.is c.requires.mark in
-    subst (λ o. IsShownOrMarked (list.list_loan-value g.dyn-1).it (window.loan-value g.dyn-2).it c.args.within o c.args.changes c.args.spot c.args.self.now c.args.windows.now c.set_update.new.self) (sym c.in-Some.is)
-    (subst (λ b. IsShownOrMarked (list.list_loan-value g.dyn-1).it (window.loan-value g.dyn-2).it c.args.within (Some c.in-Some.update) b c.args.spot c.args.self.now c.args.windows.now c.set_update.new.self) (sym c.if-changes.true)
+    let mark = subst (IsMark (list.loan-value g.dyn-1).it (window.loan-value g.dyn-2).it c.args.windows.now c.args.self.now c.args.spot) c.in-Some.is c.requires.mark in
+    subst (λ o. IsShownOrMarked (list.loan-value g.dyn-1).it (window.loan-value g.dyn-2).it c.args.within o c.args.changes c.args.spot c.args.self.now c.args.windows.now c.set_update.new.self) (sym c.in-Some.is)
+    (subst (λ b. IsShownOrMarked (list.loan-value g.dyn-1).it (window.loan-value g.dyn-2).it c.args.within (Some c.in-Some.update) b c.args.spot c.args.self.now c.args.windows.now c.set_update.new.self) (sym c.if-changes.true)
     (λ x there. marked_by _ _ c.args.windows.now c.args.self.now c.args.spot c.requires.spot x there c.in-Some.update mark.1
     (area_there _ c.args.windows.now c.requires.kept c.args.spot.window c.requires.spot.is.window.0) c.set_update.new.self c.set_update.ensures))

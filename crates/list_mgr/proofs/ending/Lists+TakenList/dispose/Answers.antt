@@ -1,6 +1,6 @@
 use Rattle.std.proofs.Common.{◌≡◌, rules, ap}
-use Rattle.def_iface.specs.contracts.taken_control.TakenControlDefinedControl.TheImpl as control
-use Rattle.def_iface.specs.contracts.taken_list.TakenListDefinedList.TheImpl as list
+use Rattle.def_iface.specs.contracts.taken_control.TakenControlDefined.TheImpl as control
+use Rattle.def_iface.specs.contracts.taken_list.TakenListDefined.TheImpl as list
 use Rattle.list_mgr.specs.declared.list_record.ListRecord.{ListRecord}
 use Rattle.window_mgr.specs.Edits.{IsWindowAt}
 use Rattle.window_mgr.proofs.Remarked.{area_there}
@@ -14,8 +14,8 @@ use Rattle.window_items.specs.declared.item.Item.{Item}
 
 pub without-requires-clause-apart : goal.without-requires-clause-apart
 without-requires-clause-apart g c =
-    let list_loan = (list.list_loan-value g.dyn-1).it in
-    let control_loan = (control.control_loan-value g.dyn-3).it in
+    let list_loan = (list.loan-value g.dyn-1).it in
+    let control_loan = (control.loan-value g.dyn-2).it in
     let l = c.args.list in
     let t = c.args.windows.now in
     let m = c.args.self.now in
@@ -31,8 +31,8 @@ area-requires g c = area_there _ c.args.windows.now c.requires.kept c.in_ok-spot
 
 pub plan_layers-requires-clause-apart : goal.plan_layers-requires-clause-apart
 plan_layers-requires-clause-apart g c =
-    let list_loan = (list.list_loan-value g.dyn-1).it in
-    let control_loan = (control.control_loan-value g.dyn-3).it in
+    let list_loan = (list.loan-value g.dyn-1).it in
+    let control_loan = (control.loan-value g.dyn-2).it in
     let l = c.args.list in
     let t = c.args.windows.now in
     let m = c.args.self.now in
@@ -46,8 +46,8 @@ plan_layers-requires-clause-apart g c =
 
 pub plan_bar-requires-clause-apart : goal.plan_bar-requires-clause-apart
 plan_bar-requires-clause-apart g c =
-    let list_loan = (list.list_loan-value g.dyn-1).it in
-    let control_loan = (control.control_loan-value g.dyn-3).it in
+    let list_loan = (list.loan-value g.dyn-1).it in
+    let control_loan = (control.loan-value g.dyn-2).it in
     let l = c.args.list in
     let t = c.args.windows.now in
     let m = c.args.self.now in
@@ -61,8 +61,8 @@ plan_bar-requires-clause-apart g c =
 
 pub plan_bar-requires-2-clause-apart : goal.plan_bar-requires-2-clause-apart
 plan_bar-requires-2-clause-apart g c =
-    let list_loan = (list.list_loan-value g.dyn-1).it in
-    let control_loan = (control.control_loan-value g.dyn-3).it in
+    let list_loan = (list.loan-value g.dyn-1).it in
+    let control_loan = (control.loan-value g.dyn-2).it in
     let l = c.args.list in
     let t = c.args.windows.now in
     let m = c.args.self.now in
@@ -76,8 +76,8 @@ plan_bar-requires-2-clause-apart g c =
 
 pub commit_layers-requires-clause-may : goal.commit_layers-requires-clause-may
 commit_layers-requires-clause-may g c =
-    let list_loan = (list.list_loan-value g.dyn-1).it in
-    let control_loan = (control.control_loan-value g.dyn-3).it in
+    let list_loan = (list.loan-value g.dyn-1).it in
+    let control_loan = (control.loan-value g.dyn-2).it in
     let l = c.args.list in
     let t = c.args.windows.now in
     let m = c.args.self.now in
@@ -91,8 +91,8 @@ commit_layers-requires-clause-may g c =
 
 pub commit_layers-requires-clause-planned : goal.commit_layers-requires-clause-planned
 commit_layers-requires-clause-planned g c =
-    let list_loan = (list.list_loan-value g.dyn-1).it in
-    let control_loan = (control.control_loan-value g.dyn-3).it in
+    let list_loan = (list.loan-value g.dyn-1).it in
+    let control_loan = (control.loan-value g.dyn-2).it in
     let l = c.args.list in
     let t = c.args.windows.now in
     let m = c.args.self.now in
@@ -105,18 +105,18 @@ commit_layers-requires-clause-planned g c =
     c.in_ok-relaid.relaid c.in_ok-relaid.ensures.layers c.area.result.now c.area.ensures c.in_ok-relaid.ensures.gained c.in_ok-relaying.relaying c.in_ok-relaying.ensures
 
 pub commit_layers-requires-clause-whole : goal.commit_layers-requires-clause-whole
-commit_layers-requires-clause-whole g c = settled_left (list.list_loan-value g.dyn-1).it c.args.self.now c.in_ok-spot.spot.list c.remove-ended.new.self.items.items c.remove-ended.ensures.items c.requires.lists.settled
+commit_layers-requires-clause-whole g c = settled_left (list.loan-value g.dyn-1).it c.args.self.now c.in_ok-spot.spot.list c.remove-ended.new.self.items.items c.remove-ended.ensures.items c.requires.lists.settled
 
 pub put_away-requires-clause-live : goal.put_away-requires-clause-live
-put_away-requires-clause-live g c = ended_live (list.list_loan-value g.dyn-1).it c.args.self.now c.in_ok-spot.spot.list c.remove-ended.result c.remove-ended.ensures.value c.requires.lists.settled
+put_away-requires-clause-live g c = ended_live (list.loan-value g.dyn-1).it c.args.self.now c.in_ok-spot.spot.list c.remove-ended.result c.remove-ended.ensures.value c.requires.lists.settled
 
 pub put_away-requires-clause-left : goal.put_away-requires-clause-left
-put_away-requires-clause-left g c = ended_left (list.list_loan-value g.dyn-1).it c.args.self.now c.in_ok-spot.spot.list c.remove-ended.result _ c.remove-ended.ensures.value c.requires.lists.stocked
+put_away-requires-clause-left g c = ended_left (list.loan-value g.dyn-1).it c.args.self.now c.in_ok-spot.spot.list c.remove-ended.result _ c.remove-ended.ensures.value c.requires.lists.stocked
 
 pub end_bar-requires-clause-kept : goal.end_bar-requires-clause-kept
 end_bar-requires-clause-kept g c =
-    let list_loan = (list.list_loan-value g.dyn-1).it in
-    let control_loan = (control.control_loan-value g.dyn-3).it in
+    let list_loan = (list.loan-value g.dyn-1).it in
+    let control_loan = (control.loan-value g.dyn-2).it in
     let l = c.args.list in
     let t = c.args.windows.now in
     let m = c.args.self.now in
@@ -131,8 +131,8 @@ end_bar-requires-clause-kept g c =
 
 pub end_bar-requires-clause-whole : goal.end_bar-requires-clause-whole
 end_bar-requires-clause-whole g c =
-    let list_loan = (list.list_loan-value g.dyn-1).it in
-    let control_loan = (control.control_loan-value g.dyn-3).it in
+    let list_loan = (list.loan-value g.dyn-1).it in
+    let control_loan = (control.loan-value g.dyn-2).it in
     let l = c.args.list in
     let t = c.args.windows.now in
     let m = c.args.self.now in
@@ -147,8 +147,8 @@ end_bar-requires-clause-whole g c =
 
 pub end_bar-requires-clause-planned : goal.end_bar-requires-clause-planned
 end_bar-requires-clause-planned g c =
-    let list_loan = (list.list_loan-value g.dyn-1).it in
-    let control_loan = (control.control_loan-value g.dyn-3).it in
+    let list_loan = (list.loan-value g.dyn-1).it in
+    let control_loan = (control.loan-value g.dyn-2).it in
     let l = c.args.list in
     let t = c.args.windows.now in
     let m = c.args.self.now in
@@ -164,8 +164,8 @@ end_bar-requires-clause-planned g c =
 
 pub end_bar-requires-2-clause-kept : goal.end_bar-requires-2-clause-kept
 end_bar-requires-2-clause-kept g c =
-    let list_loan = (list.list_loan-value g.dyn-1).it in
-    let control_loan = (control.control_loan-value g.dyn-3).it in
+    let list_loan = (list.loan-value g.dyn-1).it in
+    let control_loan = (control.loan-value g.dyn-2).it in
     let l = c.args.list in
     let t = c.args.windows.now in
     let m = c.args.self.now in
@@ -181,8 +181,8 @@ end_bar-requires-2-clause-kept g c =
 
 pub end_bar-requires-2-clause-whole : goal.end_bar-requires-2-clause-whole
 end_bar-requires-2-clause-whole g c =
-    let list_loan = (list.list_loan-value g.dyn-1).it in
-    let control_loan = (control.control_loan-value g.dyn-3).it in
+    let list_loan = (list.loan-value g.dyn-1).it in
+    let control_loan = (control.loan-value g.dyn-2).it in
     let l = c.args.list in
     let t = c.args.windows.now in
     let m = c.args.self.now in
@@ -198,8 +198,8 @@ end_bar-requires-2-clause-whole g c =
 
 pub end_bar-requires-2-clause-planned : goal.end_bar-requires-2-clause-planned
 end_bar-requires-2-clause-planned g c =
-    let list_loan = (list.list_loan-value g.dyn-1).it in
-    let control_loan = (control.control_loan-value g.dyn-3).it in
+    let list_loan = (list.loan-value g.dyn-1).it in
+    let control_loan = (control.loan-value g.dyn-2).it in
     let l = c.args.list in
     let t = c.args.windows.now in
     let m = c.args.self.now in
@@ -216,8 +216,8 @@ end_bar-requires-2-clause-planned g c =
 
 pub returns : goal.returns
 returns g c =
-    let list_loan = (list.list_loan-value g.dyn-1).it in
-    let control_loan = (control.control_loan-value g.dyn-3).it in
+    let list_loan = (list.loan-value g.dyn-1).it in
+    let control_loan = (control.loan-value g.dyn-2).it in
     let l = c.args.list in
     let t = c.args.windows.now in
     let m = c.args.self.now in

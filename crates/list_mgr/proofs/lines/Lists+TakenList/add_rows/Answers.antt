@@ -4,7 +4,7 @@ use Rattle.std.proofs.lemmas.Int.{ints, to_z-of_z}
 use Rattle.std.proofs.lemmas.Result.{err_from_is_err_and}
 use Rattle.tb_geom.specs.declared.refusal.Refusal.TheVariants.{NoMemory}
 use Rattle.tb_geom.specs.Refusals.{first_refusal}
-use Rattle.def_iface.specs.contracts.taken_list.TakenListDefinedList.TheImpl as list
+use Rattle.def_iface.specs.contracts.taken_list.TakenListDefined.TheImpl as list
 use Rattle.list_cells.specs.Runs.{add_refusals, place_to_add}
 use Rattle.desk_call.specs.declared.list.ListCall.TheVariants as asks
 use Rattle.desk_call.specs.declared.list.ListReply.TheVariants as reply
@@ -21,7 +21,7 @@ use Rattle.list_mgr.proofs.lines.Lists+TakenList.add_rows.Goals as goal
 
 pub returns-in-Some : goal.returns-in-Some
 returns-in-Some g c =
-    let list_loan = (list.list_loan-value g.dyn-1).it in
+    let list_loan = (list.loan-value g.dyn-1).it in
     let lines = c.args.lines in
     let count : SFits w32 lines.count = search rules in
     let at : SFits w32 lines.at = search rules in
@@ -35,7 +35,7 @@ returns-in-Some g c =
 
 pub returns-in_err-mark : goal.returns-in_err-mark
 returns-in_err-mark g c =
-    let list_loan = (list.list_loan-value g.dyn-1).it in
+    let list_loan = (list.loan-value g.dyn-1).it in
     let lines = c.args.lines in
     let count : SFits w32 lines.count = search rules in
     let at : SFits w32 lines.at = search rules in
@@ -50,7 +50,7 @@ returns-in_err-mark g c =
 
 pub returns-in_err-first : goal.returns-in_err-first
 returns-in_err-first g c =
-    let list_loan = (list.list_loan-value g.dyn-1).it in
+    let list_loan = (list.loan-value g.dyn-1).it in
     let lines = c.args.lines in
     let count : SFits w32 lines.count = search rules in
     let at : SFits w32 lines.at = search rules in
@@ -97,7 +97,7 @@ rows_from-within-requires-clause-most g c =
 
 pub show_with_bars-requires-clause-lists : goal.show_with_bars-requires-clause-lists
 show_with_bars-requires-clause-lists g c =
-    let list_loan = (list.list_loan-value g.dyn-1).it in
+    let list_loan = (list.loan-value g.dyn-1).it in
     let lines = c.args.lines in
     let count : SFits w32 lines.count = search rules in
     let at : SFits w32 lines.at = search rules in
@@ -114,7 +114,7 @@ show_with_bars-requires-clause-lists g c =
 
 pub show_with_bars-requires-clause-spot : goal.show_with_bars-requires-clause-spot
 show_with_bars-requires-clause-spot g c =
-    let list_loan = (list.list_loan-value g.dyn-1).it in
+    let list_loan = (list.loan-value g.dyn-1).it in
     let lines = c.args.lines in
     let count : SFits w32 lines.count = search rules in
     let at : SFits w32 lines.at = search rules in
@@ -131,7 +131,7 @@ show_with_bars-requires-clause-spot g c =
 
 pub show_with_bars-requires-clause-mark : goal.show_with_bars-requires-clause-mark
 show_with_bars-requires-clause-mark g c =
-    let list_loan = (list.list_loan-value g.dyn-1).it in
+    let list_loan = (list.loan-value g.dyn-1).it in
     let lines = c.args.lines in
     let count : SFits w32 lines.count = search rules in
     let at : SFits w32 lines.at = search rules in
@@ -148,7 +148,7 @@ show_with_bars-requires-clause-mark g c =
 
 pub returns : goal.returns
 returns g c =
-    let list_loan = (list.list_loan-value g.dyn-1).it in
+    let list_loan = (list.loan-value g.dyn-1).it in
     let lines = c.args.lines in
     let count : SFits w32 lines.count = search rules in
     let at : SFits w32 lines.at = search rules in

@@ -1,6 +1,6 @@
 use Rattle.std.proofs.Common.{rules, SFits, w32, refl}
 use Rattle.std.proofs.lemmas.Int.{to_z-of_z}
-use Rattle.def_iface.specs.contracts.taken_list.TakenListDefinedList.TheImpl as list
+use Rattle.def_iface.specs.contracts.taken_list.TakenListDefined.TheImpl as list
 use Rattle.desk_call.specs.declared.list.ListCall.TheVariants as asks
 use Rattle.desk_call.specs.declared.list.ListReply.TheVariants as reply
 use Rattle.list_mgr.specs.ListSteps.{with_scroll}
@@ -17,7 +17,7 @@ use Rattle.list_mgr.proofs.lines.Lists+TakenList.scroll.Goals as goal
 
 pub show_with_bars-requires-clause-lists : goal.show_with_bars-requires-clause-lists
 show_with_bars-requires-clause-lists g c =
-    let list_loan = (list.list_loan-value g.dyn-1).it in
+    let list_loan = (list.loan-value g.dyn-1).it in
     let scrolled = c.args.scrolled in
     let columns : SFits w32 scrolled.columns = search rules in
     let rows : SFits w32 scrolled.rows = search rules in
@@ -32,7 +32,7 @@ show_with_bars-requires-clause-lists g c =
 
 pub show_with_bars-requires-clause-spot : goal.show_with_bars-requires-clause-spot
 show_with_bars-requires-clause-spot g c =
-    let list_loan = (list.list_loan-value g.dyn-1).it in
+    let list_loan = (list.loan-value g.dyn-1).it in
     let scrolled = c.args.scrolled in
     let columns : SFits w32 scrolled.columns = search rules in
     let rows : SFits w32 scrolled.rows = search rules in
@@ -47,7 +47,7 @@ show_with_bars-requires-clause-spot g c =
 
 pub show_with_bars-requires-clause-mark : goal.show_with_bars-requires-clause-mark
 show_with_bars-requires-clause-mark g c =
-    let list_loan = (list.list_loan-value g.dyn-1).it in
+    let list_loan = (list.loan-value g.dyn-1).it in
     let scrolled = c.args.scrolled in
     let columns : SFits w32 scrolled.columns = search rules in
     let rows : SFits w32 scrolled.rows = search rules in
@@ -62,7 +62,7 @@ show_with_bars-requires-clause-mark g c =
 
 pub returns : goal.returns
 returns g c =
-    let list_loan = (list.list_loan-value g.dyn-1).it in
+    let list_loan = (list.loan-value g.dyn-1).it in
     let scrolled = c.args.scrolled in
     let columns : SFits w32 scrolled.columns = search rules in
     let rows : SFits w32 scrolled.rows = search rules in

@@ -1,7 +1,7 @@
 use Rattle.std.proofs.Common.{true, false, Some, None, refl, sym, subst}
-use Rattle.def_iface.specs.contracts.taken.TakenDefined.TheImpl as window
-use Rattle.def_iface.specs.contracts.taken_list.TakenListDefinedList.TheImpl as list
-use Rattle.def_iface.specs.declared.part.Part.TheVariants as part
+use Rattle.def_iface.specs.contracts.taken_window.TakenWindowDefined.TheImpl as window
+use Rattle.def_iface.specs.contracts.taken_list.TakenListDefined.TheImpl as list
+use Rattle.desk_layers.specs.declared.part.Part.TheVariants as part
 use Rattle.list_cells.specs.Selections.{IsChange, selected_by}
 use Rattle.list_cells.proofs.SelectionLemmas.{selecting_by}
 use Rattle.list_view.specs.Shown.{is_turned}
@@ -22,12 +22,12 @@ set_update-requires-clause-within g c a read p on =
     let w = there_is t.windows.records.items c.args.spot.window spot.is.window.0 in
     let lies = read_is t.windows.records.items c.args.spot.window w.item w.there in
     let x = list_there _ _ spot.of t c.args.self.now c.args.spot spot.is in
-    let mark = subst (IsMark (list.list_loan-value g.dyn-1).it (window.loan-value g.dyn-2).it t c.args.self.now c.args.spot) c.in-Some.is c.requires.mark in
+    let mark = subst (IsMark (list.loan-value g.dyn-1).it (window.loan-value g.dyn-2).it t c.args.self.now c.args.spot) c.in-Some.is c.requires.mark in
     region_within _ t c.args.spot.window spot.is.window.0 w.item lies a read (part.List x.item.serial) c.in-Some.update (mark.1 w.item a x.item lies read x.there) c.requires.kept p on
 
 pub returns-in-None : goal.returns-in-None
 returns-in-None g c =
-    let list_loan = (list.list_loan-value g.dyn-1).it in
+    let list_loan = (list.loan-value g.dyn-1).it in
     let loan = (window.loan-value g.dyn-2).it in
     let t = c.args.windows.now in
     let m = c.args.self.now in
@@ -41,7 +41,7 @@ returns-in-None g c =
 
 pub returns-then-changes_by : goal.returns-then-changes_by
 returns-then-changes_by g c =
-    let list_loan = (list.list_loan-value g.dyn-1).it in
+    let list_loan = (list.loan-value g.dyn-1).it in
     let loan = (window.loan-value g.dyn-2).it in
     let t = c.args.windows.now in
     let m = c.args.self.now in
@@ -59,7 +59,7 @@ returns-then-changes_by g c =
 
 pub returns-else-changes_by : goal.returns-else-changes_by
 returns-else-changes_by g c =
-    let list_loan = (list.list_loan-value g.dyn-1).it in
+    let list_loan = (list.loan-value g.dyn-1).it in
     let loan = (window.loan-value g.dyn-2).it in
     let t = c.args.windows.now in
     let m = c.args.self.now in

@@ -1,8 +1,8 @@
 use Rattle.std.proofs.Common.{SFits, w32, rules, sym, subst, [], None, ◌≡◌}
 use Rattle.std.specs.Prelude.{IfSome}
 use Rattle.std.proofs.lemmas.Int.{to_z-of_z}
-use Rattle.def_iface.specs.contracts.taken.TakenDefined.TheImpl as window
-use Rattle.def_iface.specs.contracts.taken_menu.TakenMenuDefinedMenu.TheImpl as definition
+use Rattle.def_iface.specs.contracts.taken_window.TakenWindowDefined.TheImpl as window
+use Rattle.def_iface.specs.contracts.taken_menu.TakenMenuDefined.TheImpl as definition
 use Rattle.menu_list.specs.Seen.{seen}
 use Rattle.menu_list.proofs.ListLemmas.{read_there}
 use Rattle.window_mgr.specs.Records.{desk_of}
@@ -21,8 +21,8 @@ returns-clause-pulled g c =
     let left : SFits w32 c.args.title.hit.left = search rules in
     let x = c.index-listed.result.now in
     let desk = desk_of (window.loan-value g.dyn-2).it c.args.windows.now [] in
-    let is = below_is desk c.args.title.hit (seen (definition.menu_loan-value g.dyn-1).it x) c.parts-width.result.font.now c.parts-width.result.width c.size.result c.shown_size-size.result c.pulled_place.result
+    let is = below_is desk c.args.title.hit (seen (definition.loan-value g.dyn-1).it x) c.parts-width.result.font.now c.parts-width.result.width c.size.result c.shown_size-size.result c.pulled_place.result
     c.parts-width.ensures.font c.parts-width.ensures.width c.size.ensures.value c.shown_size-size.ensures.value (simp to_z-of_z at c.pulled_place.ensures.value) in
     subst (λ o. IfSome o (λ l. record { menu = c.args.title.hit.menu; place = c.pulled_place.result; size = c.shown_size-size.result; item = None }
-    ≡ pulled_below desk (record { hit = c.args.title.hit; record_of = seen (definition.menu_loan-value g.dyn-1).it l })))
+    ≡ pulled_below desk (record { hit = c.args.title.hit; record_of = seen (definition.loan-value g.dyn-1).it l })))
     (sym (read_there c.args.self.now.list.menus.items c.args.title.at x c.requires.at c.index-listed.ensures)) is

@@ -1,10 +1,10 @@
 use Rattle.std.proofs.Common.{refl}
-use Rattle.def_iface.specs.contracts.taken_menu.TakenMenuDefinedMenu.TheImpl as taken
+use Rattle.def_iface.specs.contracts.taken_menu.TakenMenuDefined.TheImpl as taken
 use Rattle.menu_mgr.proofs.Steps.{edited_step, few_after, refused_edit}
 use Rattle.menu_mgr.proofs.menus.Menus.edit_and_show.Goals as goal
 
 pub show_titles-requires-clause-few : goal.show_titles-requires-clause-few
-show_titles-requires-clause-few g c = few_after (taken.menu_loan-value g.dyn-1).it c.args.call.now _ _ c.in-Ok.ensures.1.menus c.requires.few
+show_titles-requires-clause-few g c = few_after (taken.loan-value g.dyn-1).it c.args.call.now _ _ c.in-Ok.ensures.1.menus c.requires.few
 
 pub returns-in-Ok : goal.returns-in-Ok
 returns-in-Ok g c begun kept menus slots whole = edited_step _ _ c.args.call.now c.requires.edits slots _ _ begun _ _ kept menus refl refl c.in-Ok.reply c.in-Ok.ensures (c.show_titles.ensures slots whole)

@@ -1,6 +1,6 @@
 use Rattle.std.proofs.Common.{None, sym, ◌∙◌, subst, arith}
-use Rattle.def_iface.specs.contracts.taken.TakenDefined.TheImpl as window
-use Rattle.def_iface.specs.contracts.taken_menu.TakenMenuDefinedMenu.TheImpl as definition
+use Rattle.def_iface.specs.contracts.taken_window.TakenWindowDefined.TheImpl as window
+use Rattle.def_iface.specs.contracts.taken_menu.TakenMenuDefined.TheImpl as definition
 use Rattle.bit_map.specs.Bits.{Bits}
 use Rattle.desk_call.specs.declared.activity.Activity.TheVariants.{Pulling}
 use Rattle.overlay.specs.Overlays.{IsShown}
@@ -12,38 +12,38 @@ use Rattle.menu_mgr.proofs.menus.Menus.move_to.Goals as goal
 pub pull-requires-clause-few : goal.pull-requires-clause-few
 pull-requires-clause-few g c =
     let told = c.dim_pulled.ensures in
-    (still_hold (window.loan-value g.dyn-2).it (definition.menu_loan-value g.dyn-1).it c.args.windows.now c.args.activity.now c.args.pulled c.args.self.now c.dim_pulled.new.self
+    (still_hold (window.loan-value g.dyn-2).it (definition.loan-value g.dyn-1).it c.args.windows.now c.args.activity.now c.args.pulled c.args.self.now c.dim_pulled.new.self
     c.requires.menus c.requires.pulling (record { told = told.told; highlighted = told.highlighted; room = told.room }) told.overlay).few
 
 pub pull-requires-clause-at : goal.pull-requires-clause-at
 pull-requires-clause-at g c =
     let told = c.dim_pulled.ensures in
-    let many = (still_hold (window.loan-value g.dyn-2).it (definition.menu_loan-value g.dyn-1).it c.args.windows.now c.args.activity.now c.args.pulled c.args.self.now c.dim_pulled.new.self
+    let many = (still_hold (window.loan-value g.dyn-2).it (definition.loan-value g.dyn-1).it c.args.windows.now c.args.activity.now c.args.pulled c.args.self.now c.dim_pulled.new.self
     c.requires.menus c.requires.pulling (record { told = told.told; highlighted = told.highlighted; room = told.room }) told.overlay).many in
     omega (arith, many, c.in-Some.ensures.within)
 
 pub pull-requires-clause-live : goal.pull-requires-clause-live
 pull-requires-clause-live g c =
     let told = c.dim_pulled.ensures in
-    (still_hold (window.loan-value g.dyn-2).it (definition.menu_loan-value g.dyn-1).it c.args.windows.now c.args.activity.now c.args.pulled c.args.self.now c.dim_pulled.new.self
+    (still_hold (window.loan-value g.dyn-2).it (definition.loan-value g.dyn-1).it c.args.windows.now c.args.activity.now c.args.pulled c.args.self.now c.dim_pulled.new.self
     c.requires.menus c.requires.pulling (record { told = told.told; highlighted = told.highlighted; room = told.room }) told.overlay).live
 
 pub pull-requires-clause-width : goal.pull-requires-clause-width
 pull-requires-clause-width g c =
     let told = c.dim_pulled.ensures in
-    (still_hold (window.loan-value g.dyn-2).it (definition.menu_loan-value g.dyn-1).it c.args.windows.now c.args.activity.now c.args.pulled c.args.self.now c.dim_pulled.new.self
+    (still_hold (window.loan-value g.dyn-2).it (definition.loan-value g.dyn-1).it c.args.windows.now c.args.activity.now c.args.pulled c.args.self.now c.dim_pulled.new.self
     c.requires.menus c.requires.pulling (record { told = told.told; highlighted = told.highlighted; room = told.room }) told.overlay).width
 
 pub pull-requires-clause-height : goal.pull-requires-clause-height
 pull-requires-clause-height g c =
     let told = c.dim_pulled.ensures in
-    (still_hold (window.loan-value g.dyn-2).it (definition.menu_loan-value g.dyn-1).it c.args.windows.now c.args.activity.now c.args.pulled c.args.self.now c.dim_pulled.new.self
+    (still_hold (window.loan-value g.dyn-2).it (definition.loan-value g.dyn-1).it c.args.windows.now c.args.activity.now c.args.pulled c.args.self.now c.dim_pulled.new.self
     c.requires.menus c.requires.pulling (record { told = told.told; highlighted = told.highlighted; room = told.room }) told.overlay).height
 
 pub returns-in-Some : goal.returns-in-Some
 returns-in-Some g c begun =
     let windows = (window.loan-value g.dyn-2).it in
-    let menus = (definition.menu_loan-value g.dyn-1).it in
+    let menus = (definition.loan-value g.dyn-1).it in
     let told = c.dim_pulled.ensures in
     let pull = c.pull.ensures in
     let so : IsToldSo windows menus c.args.pulled None c.args.self.now c.dim_pulled.new.self =
@@ -57,7 +57,7 @@ returns-in-Some g c begun =
 pub returns-in-None : goal.returns-in-None
 returns-in-None g c begun =
     let windows = (window.loan-value g.dyn-2).it in
-    let menus = (definition.menu_loan-value g.dyn-1).it in
+    let menus = (definition.loan-value g.dyn-1).it in
     let told = c.tell.ensures in
     let m = c.args.self.now in
     let k = c.tell.new.self in

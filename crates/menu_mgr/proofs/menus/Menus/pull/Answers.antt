@@ -1,5 +1,5 @@
 use Rattle.std.proofs.Common.{sym, ◌∙◌}
-use Rattle.def_iface.specs.contracts.taken.TakenDefined.TheImpl as window
+use Rattle.def_iface.specs.contracts.taken_window.TakenWindowDefined.TheImpl as window
 use Rattle.menu_list.specs.Lists.{titles_of}
 use Rattle.menu_mgr.proofs.ShownBars.{as_large, same_titles}
 use Rattle.menu_mgr.proofs.menus.Menus.pull.Goals as goal

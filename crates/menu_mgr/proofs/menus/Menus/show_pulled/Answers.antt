@@ -1,6 +1,6 @@
 use Rattle.std.proofs.Common.{sym, subst, Some, None}
 use Rattle.std.specs.Prelude.{IfSome}
-use Rattle.def_iface.specs.contracts.taken_menu.TakenMenuDefinedMenu.TheImpl as definition
+use Rattle.def_iface.specs.contracts.taken_menu.TakenMenuDefined.TheImpl as definition
 use Rattle.menu_list.specs.Seen.{seen}
 use Rattle.menu_list.proofs.ListLemmas.{read_there}
 use Rattle.overlay.specs.Overlays.{IsShown}
@@ -10,11 +10,11 @@ use Rattle.menu_mgr.proofs.menus.Menus.show_pulled.Goals as goal
 
 pub pull-requires-clause-live : goal.pull-requires-clause-live
 pull-requires-clause-live g c =
-    live_there (definition.menu_loan-value g.dyn-1).it c.args.self.now.list.menus.items c.args.at c.index-listed.result.now c.requires.at c.index-listed.ensures c.requires.live
+    live_there (definition.loan-value g.dyn-1).it c.args.self.now.list.menus.items c.args.at c.index-listed.result.now c.requires.at c.index-listed.ensures c.requires.live
 
 pub returns-clause-front : goal.returns-clause-front
 returns-clause-front g c =
-    let loan = (definition.menu_loan-value g.dyn-1).it in
+    let loan = (definition.loan-value g.dyn-1).it in
     let x = c.index-listed.result.now in
     let base = c.args.windows.now.screen in
     let none = subst (λ b. IsShown c.parts.result.font.now None b c.show.new.self.front) c.screen.ensures (c.show.ensures c.parts.result.font.now) in

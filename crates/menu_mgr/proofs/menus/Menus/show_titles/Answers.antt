@@ -1,5 +1,5 @@
 use Rattle.std.proofs.Common.{sym, ◌∙◌}
-use Rattle.def_iface.specs.contracts.taken.TakenDefined.TheImpl as window
+use Rattle.def_iface.specs.contracts.taken_window.TakenWindowDefined.TheImpl as window
 use Rattle.menu_mgr.proofs.ShownBars.{same_titles, still_shown}
 use Rattle.menu_mgr.proofs.menus.Menus.show_titles.Goals as goal
 

@@ -1,20 +1,20 @@
 use Rattle.std.proofs.Common.{sym, ◌∙◌, pos}
-use Rattle.def_iface.specs.contracts.taken_menu.TakenMenuDefinedMenu.TheImpl as definition
+use Rattle.def_iface.specs.contracts.taken_menu.TakenMenuDefined.TheImpl as definition
 use Rattle.menu_list.proofs.SeenLemmas.{menu_index-seen}
 use Rattle.menu_mgr.proofs.ToldMenus.{told_at_index, told_nowhere, front_at_index}
 use Rattle.menu_mgr.proofs.menus.Menus.tell.Goals as goal
 
 pub returns-in-Some-clause-told : goal.returns-in-Some-clause-told
 returns-in-Some-clause-told g c =
-    let seen = menu_index-seen (definition.menu_loan-value g.dyn-1).it (pos c.args.pulled.menu) c.args.self.now.list.menus.items in
+    let seen = menu_index-seen (definition.loan-value g.dyn-1).it (pos c.args.pulled.menu) c.args.self.now.list.menus.items in
     told_at_index c.args.pulled c.args.item c.in-Some.at _ _ (seen ∙ sym c.in-Some.ensures.first) c.tell_at.ensures.told
 
 pub returns-in-Some-clause-front : goal.returns-in-Some-clause-front
 returns-in-Some-clause-front g c base shown =
-    let seen = menu_index-seen (definition.menu_loan-value g.dyn-1).it (pos c.args.pulled.menu) c.args.self.now.list.menus.items in
+    let seen = menu_index-seen (definition.loan-value g.dyn-1).it (pos c.args.pulled.menu) c.args.self.now.list.menus.items in
     front_at_index c.args.pulled c.args.item c.args.font.now c.in-Some.at _ _ base _ _ (seen ∙ sym c.in-Some.ensures.first) c.tell_at.ensures.told (c.tell_at.ensures.front base) shown
 
 pub returns-in_default-clause-told : goal.returns-in_default-clause-told
 returns-in_default-clause-told g c =
-    let seen = menu_index-seen (definition.menu_loan-value g.dyn-1).it (pos c.args.pulled.menu) c.args.self.now.list.menus.items in
+    let seen = menu_index-seen (definition.loan-value g.dyn-1).it (pos c.args.pulled.menu) c.args.self.now.list.menus.items in
     told_nowhere c.args.pulled c.args.item _ (seen ∙ sym c.in_default.ensures.first)

@@ -1,5 +1,5 @@
 use Rattle.std.proofs.Common.{[], refl}
-use Rattle.def_iface.specs.Keeping.{no_flags}
+use Rattle.def_iface.specs.WindowKeeping.{no_flags}
 use Rattle.def_iface.proofs.KeptLemmas.{kept_hears}
 use Rattle.looks.specs.Letters.{lettering}
 use Rattle.looks.specs.Marks.{look_bit}

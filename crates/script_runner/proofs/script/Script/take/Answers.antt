@@ -1,10 +1,10 @@
 use Rattle.std.proofs.Common.{sym, ◌∙◌, rules, SFits, w32}
 use Rattle.std.proofs.lemmas.Int.{to_z-of_z}
 use Rattle.def_iface.specs.contracts.stock.StockStockedAll.TheImpl as stock
-use Rattle.def_iface.specs.contracts.taken.TakenDefined.TheImpl as taken
-use Rattle.def_iface.specs.contracts.taken_control.TakenControlDefinedControl.TheImpl as taken_control
-use Rattle.def_iface.specs.contracts.taken_list.TakenListDefinedList.TheImpl as taken_list
-use Rattle.def_iface.specs.contracts.taken_menu.TakenMenuDefinedMenu.TheImpl as taken_menu
+use Rattle.def_iface.specs.contracts.taken_window.TakenWindowDefined.TheImpl as taken
+use Rattle.def_iface.specs.contracts.taken_control.TakenControlDefined.TheImpl as taken_control
+use Rattle.def_iface.specs.contracts.taken_list.TakenListDefined.TheImpl as taken_list
+use Rattle.def_iface.specs.contracts.taken_menu.TakenMenuDefined.TheImpl as taken_menu
 use Rattle.script_runner.specs.SessionViews.{script_of}
 use Rattle.script_runner.proofs.Taken.{asked_so, none_of}
 use Rattle.script_runner.proofs.script.Script.take.Goals as goal
@@ -12,9 +12,9 @@ use Rattle.script_runner.proofs.script.Script.take.Goals as goal
 pub returns-clause-ends : goal.returns-clause-ends
 returns-clause-ends g c =
     let loan = (taken.loan-value g.dyn-1).it in
-    let menu_loan = (taken_menu.menu_loan-value g.dyn-3).it in
-    let control_loan = (taken_control.control_loan-value g.dyn-2).it in
-    let list_loan = (taken_list.list_loan-value g.dyn-4).it in
+    let menu_loan = (taken_menu.loan-value g.dyn-3).it in
+    let control_loan = (taken_control.loan-value g.dyn-2).it in
+    let list_loan = (taken_list.loan-value g.dyn-4).it in
     let stocks = (stock.all_slots-value g.dyn-1 g.dyn-2 g.dyn-4 g.dyn-3).it in
     let fits : SFits w32 c.args.self.now.version = search rules in
     let why = simp to_z-of_z at c.why_unread-refusal.ensures in

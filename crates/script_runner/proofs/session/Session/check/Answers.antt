@@ -1,9 +1,9 @@
 use Rattle.std.proofs.Common.{sym, subst}
 use Rattle.std.specs.Result.{result_ok}
-use Rattle.def_iface.specs.contracts.taken.TakenDefined.TheImpl as taken
-use Rattle.def_iface.specs.contracts.taken_control.TakenControlDefinedControl.TheImpl as taken_control
-use Rattle.def_iface.specs.contracts.taken_list.TakenListDefinedList.TheImpl as taken_list
-use Rattle.def_iface.specs.contracts.taken_menu.TakenMenuDefinedMenu.TheImpl as taken_menu
+use Rattle.def_iface.specs.contracts.taken_window.TakenWindowDefined.TheImpl as taken
+use Rattle.def_iface.specs.contracts.taken_control.TakenControlDefined.TheImpl as taken_control
+use Rattle.def_iface.specs.contracts.taken_list.TakenListDefined.TheImpl as taken_list
+use Rattle.def_iface.specs.contracts.taken_menu.TakenMenuDefined.TheImpl as taken_menu
 use Rattle.script_runner.specs.Checks.{IsCheckLine, check_text}
 use Rattle.script_runner.specs.SessionViews.{session_of}
 use Rattle.script_runner.proofs.Checked.{line_of_desk, line_of_none}
@@ -16,9 +16,9 @@ differences-count-requires g c = c.requires.kept c.in-Some.desk c.in-Some.is
 pub returns : goal.returns
 returns g c = λ stocks.
     let loan = (taken.loan-value g.dyn-1).it in
-    let menu_loan = (taken_menu.menu_loan-value g.dyn-3).it in
-    let control_loan = (taken_control.control_loan-value g.dyn-2).it in
-    let list_loan = (taken_list.list_loan-value g.dyn-4).it in
+    let menu_loan = (taken_menu.loan-value g.dyn-3).it in
+    let control_loan = (taken_control.loan-value g.dyn-2).it in
+    let list_loan = (taken_list.loan-value g.dyn-4).it in
     let session = session_of loan menu_loan control_loan list_loan c.args.self.now stocks in
     let line : IsCheckLine session (check_text (result_ok c.match-self.count)) =
     elim c.match-self.branch [

@@ -1,0 +1,17 @@
+pub mod ControlLines
+pub mod ControlWords
+pub mod Drawings
+pub mod EventLines
+pub mod EventWords
+pub mod FrameWords
+pub mod ListLines
+pub mod ListWords
+pub mod MenuLines
+pub mod MenuWords
+pub mod Names
+pub mod OutlineWords
+pub mod Sizes
+pub mod UpdateWords
+pub mod Verbs
+pub mod WindowLines
+pub mod WindowWords

@@ -1,2 +1,0 @@
-pub mod ControlLines
-pub mod ControlWords

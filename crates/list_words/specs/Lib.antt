@@ -1,2 +1,0 @@
-pub mod ListLines
-pub mod ListWords

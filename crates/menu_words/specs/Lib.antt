@@ -1,2 +1,0 @@
-pub mod MenuLines
-pub mod MenuWords

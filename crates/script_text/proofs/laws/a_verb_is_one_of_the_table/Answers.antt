@@ -1,5 +1,0 @@
-use Rattle.script_text.proofs.TextLaws.{verb_is_of_the_table}
-use Rattle.script_text.proofs.laws.a_verb_is_one_of_the_table.Goals as goal
-
-pub returns : goal.returns
-returns c = verb_is_of_the_table
