@@ -5,11 +5,11 @@ use Rattle.def_iface.specs.ListMeaning.{ListDefinition}
 use Rattle.def_iface.specs.MenuMeaning.{MenuDefinition}
 use Rattle.def_iface.specs.Slots.{SlotOf}
 use Rattle.def_iface.specs.Slots as slots
-use Rattle.def_iface.specs.Stocked.{SlotView, IsFull}
+use Rattle.def_iface.specs.WindowSlots.{WindowSlot, IsFull}
 
 -- those of windows, of menus, of controls and of lists
 pub record AllSlots : Type 0 where
-  pub windows : List SlotView
+  pub windows : List WindowSlot
   pub menus : List (SlotOf MenuDefinition)
   pub controls : List (SlotOf ControlDefinition)
   pub lists : List (SlotOf ListDefinition)

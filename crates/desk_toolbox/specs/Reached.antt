@@ -5,7 +5,7 @@ use Rattle.def_iface.specs.declared.window_def.Stage.TheVariants.{Live}
 use Rattle.def_iface.specs.WindowMeaning.{WindowDefinition, WindowGoesBy}
 use Rattle.def_iface.specs.WindowNews.{AllWindowNews}
 use Rattle.def_iface.specs.MenuMeaning.{MenuGoesBy}
-use Rattle.def_iface.specs.Stocked.{IsFull}
+use Rattle.def_iface.specs.WindowSlots.{IsFull}
 use Rattle.event_queue.specs.Events.{is_posted}
 use Rattle.desk_call.specs.declared.activity.Activity.{Activity}
 use Rattle.desk_call.specs.declared.activity.Activity.TheVariants.{Idle, Updating, Tracking, Pulling, TrackingControl, Dragging, Growing}

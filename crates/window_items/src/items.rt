@@ -1,5 +1,6 @@
 //! The items of a desk, of one kind.
-ghost use Rattle.std.specs.Prelude.{◌≡◌, ◌<◌, ◌≤◌, ◌+◌, ◌++◌, [], ◌∷◌, None, Some, OnOk, IfSome, IsOk, vec_capacity, slice_get, length};
+ghost use Rattle.std.specs.Prelude.{◌≡◌, ◌<◌, ◌≤◌, ◌+◌, ◌++◌, [], ◌∷◌, None, Some, OnOk, IfSome, IsOk, vec_capacity};
+ghost use Rattle.std.specs.Prelude.{slice_get, length};
 ghost use Rattle.std.specs.Borrow.{sem};
 ghost use Rattle.std.specs.List.{remove};
 ghost use Rattle.window_items.specs.Items.{item_index, count_of, place_among, last_index_of, youngest_of, without_youngest, serial_after};
