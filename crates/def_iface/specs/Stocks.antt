@@ -14,9 +14,19 @@ pub record AllSlots : Type 0 where
   pub controls : List (SlotOf ControlDefinition)
   pub lists : List (SlotOf ListDefinition)
 
+-- a slot of each of the other three with a definition that no desk uses
+abbrev pub IsMenuFull : SlotOf MenuDefinition → Type 0
+IsMenuFull = slots.IsFull (λ (d : MenuDefinition). d.stage)
+
+abbrev pub IsControlFull : SlotOf ControlDefinition → Type 0
+IsControlFull = slots.IsFull (λ (d : ControlDefinition). d.stage)
+
+abbrev pub IsListFull : SlotOf ListDefinition → Type 0
+IsListFull = slots.IsFull (λ (d : ListDefinition). d.stage)
+
 -- every one of them has a definition that no desk uses
 pub record AreAllFull (s : AllSlots) : Type 0 where
   pub windows : All IsFull s.windows
-  pub menus : All (slots.IsFull (λ (d : MenuDefinition). d.stage)) s.menus
-  pub controls : All (slots.IsFull (λ (d : ControlDefinition). d.stage)) s.controls
-  pub lists : All (slots.IsFull (λ (d : ListDefinition). d.stage)) s.lists
+  pub menus : All IsMenuFull s.menus
+  pub controls : All IsControlFull s.controls
+  pub lists : All IsListFull s.lists
