@@ -1,4 +1,5 @@
 //! The menu that is pulled down.
+ghost use Rattle.std.specs.Prelude.{if◌then◌else◌};
 ghost use Rattle.std.specs.Prelude.{◌≡◌, ◌<◌, ◌≤◌, [], length, Some, None, IfSome, true, pos};
 ghost use Rattle.std.specs.Prelude.{◌≤ℤ◌, slice_get, is_none};
 ghost use Rattle.tb_geom.specs.Points.{PixelSet, minus};
