@@ -96,7 +96,8 @@ impl Source for BitImage<'_> {
 /// no memory.
 pub fn copy<S: Source>(map: &mut BitMap, region: &Region, source: &S, origin: Point, mode: Mode)
     ensures { DrawsOnce (holds region.now)
-        (λ p old. if S.has source.now (minus p origin) then mode_bit mode (S.bit_at source.now (minus p origin)) old else old)
+        (λ p old. if S.has source.now (minus p origin) then mode_bit mode (S.bit_at source.now (minus p origin)) old
+        else old)
         map.old map.new }
 {
     let copied = Copied {
@@ -116,7 +117,8 @@ pub struct Copied<'a, S> {
 }
 
 impl<S: Source> Rule for Copied<'_, S> {
-    ghost value = { λ r p old. if S.has r.source.now (minus p r.origin) then mode_bit r.mode (S.bit_at r.source.now (minus p r.origin)) old else old };
+    ghost value = { λ r p old. if S.has r.source.now (minus p r.origin)
+        then mode_bit r.mode (S.bit_at r.source.now (minus p r.origin)) old else old };
 
     fn value(&self, point: Point, old: bool) -> bool {
         let place = from_origin(point, self.origin);
@@ -154,7 +156,8 @@ fn source_word<S: Source>(source: &S, start: Point) -> u64
 fn from_origin(point: Point, origin: Point) -> Point
     ensures here { (s : PixelSet) → IsNearSource s → (s result ≡ s (minus point origin))
         × (s result ≡ true → result ≡ minus point origin) }
-    ensures row { (s : PixelSet) → IsNearSource s → (k : ℕ) → k < 64 → (s (right_of result k) ≡ s (minus (right_of point k) origin))
+    ensures row { (s : PixelSet) → IsNearSource s → (k : ℕ) → k < 64
+        → (s (right_of result k) ≡ s (minus (right_of point k) origin))
         × (s (right_of result k) ≡ true → right_of result k ≡ minus (right_of point k) origin) }
 {
     Point {

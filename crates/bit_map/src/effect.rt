@@ -78,7 +78,8 @@ impl Effects {
     /// Gives each word of a run its new bits: eight at a time, and then one by one.
     pub fn lay(self, run: &mut [u64])
         ensures all { length run.new ≡ length run.old }
-        ensures each { (n : ℕ) → n < 64 * length run.old → place_bit run.new n ≡ effects_bit self (n % 64) (place_bit run.old n) }
+        ensures each { (n : ℕ) → n < 64 * length run.old
+            → place_bit run.new n ≡ effects_bit self (n % 64) (place_bit run.old n) }
     {
         let eights = run.len() / 8;
         self.lay_eights(run, eights);
@@ -108,7 +109,8 @@ impl Effects {
     fn of_eight(self, words: &[u64]) -> u64x8
         requires { length words.now ≡ 8 }
         ensures all { length result ≡ 8 }
-        ensures each { (j k : ℕ) → j < 8 → k < 64 → bit_in (slice_index result j) k ≡ effects_bit self k (bit_in (slice_index words.now j) k) }
+        ensures each { (j k : ℕ) → j < 8 → k < 64 → bit_in (slice_index result j) k
+            ≡ effects_bit self k (bit_in (slice_index words.now j) k) }
     {
         u64x8::splat(self.turns) ^ (u64x8::from_slice(words) & u64x8::splat(self.keeps))
     }

@@ -88,7 +88,8 @@ impl<'a> BitImage<'a> {
     /// image has not may be any.
     pub fn word(&self, start: Point) -> u64
         requires { pos 0 ≤ℤ start.h }
-        ensures { (k : ℕ) → k < 64 → image_holds self.now (right_of start k) ≡ true → bit_in result k ≡ image_bit self.now (right_of start k) }
+        ensures { (k : ℕ) → k < 64 → image_holds self.now (right_of start k) ≡ true
+            → bit_in result k ≡ image_bit self.now (right_of start k) }
     {
         if is_below(self.height, start.v) {
             let column = start.h.unsigned_abs() as usize;

@@ -1,5 +1,6 @@
 //! Bitmaps.
-ghost use Rattle.std.specs.Prelude.{◌≡◌, ◌<◌, ◌≤◌, ◌≤ℤ◌, ◌<ℤ◌, ◌-ℤ◌, ◌+◌, ◌*◌, ◌&&◌, pos, true, false, nat_abs, length, IfOk, IfErr, ℕ, if◌then◌else◌};
+ghost use Rattle.std.specs.Prelude.{◌≡◌, ◌<◌, ◌≤◌, ◌≤ℤ◌, ◌<ℤ◌, ◌-ℤ◌, ◌+◌, ◌*◌, ◌&&◌, pos, true, false, nat_abs, length};
+ghost use Rattle.std.specs.Prelude.{IfOk, IfErr, ℕ, if◌then◌else◌};
 ghost use Rattle.tb_geom.specs.declared.point.Point.{Point};
 ghost use Rattle.tb_geom.specs.Points.{minus};
 ghost use Rattle.tb_geom.specs.Rects.{rect_holds};
@@ -37,7 +38,12 @@ impl Model for BitMap {
 
     ghost Value = { Bits };
 
-    ghost view = { λ m. record { width = m.width; height = m.height; black = black_of m.width m.height m.words.items; counts = counts_of m.width m.height m.writes.tag.numbers } };
+    ghost view = { λ m. record {
+      width = m.width;
+      height = m.height;
+      black = black_of m.width m.height m.words.items;
+      counts = counts_of m.width m.height m.writes.tag.numbers;
+    } };
 
     ghost invariant = { λ m. IsWholeMap m.width m.height m.words.items };
 }
@@ -138,7 +144,8 @@ impl BitMap {
     /// may be any.
     pub fn word(&self, start: Point) -> u64
         requires { pos 0 ≤ℤ start.h }
-        ensures { (k : ℕ) → k < 64 → on_map self.now (right_of start k) ≡ true → bit_in result k ≡ bit self.now (right_of start k) }
+        ensures { (k : ℕ) → k < 64 → on_map self.now (right_of start k) ≡ true
+            → bit_in result k ≡ bit self.now (right_of start k) }
     {
         if is_below(self.height, start.v) {
             let row = natural(start.v) * (64 * words_across(self.width));
@@ -153,7 +160,8 @@ impl BitMap {
     pub fn row(&self, v: u16) -> &[u64]
         requires { v < self.now.height }
         ensures words { length result.now ≡ words_across self.now.width }
-        ensures bits { (h : ℕ) → h < self.now.width → place_bit result.now h ≡ bit self.now (record { h = pos h; v = pos v }) }
+        ensures bits { (h : ℕ) → h < self.now.width → place_bit result.now h
+            ≡ bit self.now (record { h = pos h; v = pos v }) }
     {
         let across = words_across(self.width);
         let first = usize::from(v) * across;
@@ -164,7 +172,8 @@ impl BitMap {
     pub fn set(&mut self, point: Point, value: bool)
         requires { on_map self.old point ≡ true }
         ensures bits { (p : Point) → bit self.new p ≡ (if is_point point p then value else bit self.old p) }
-        ensures counts { (p : Point) → count self.new p ≡ (if is_point point p then count self.old p + 1 else count self.old p) }
+        ensures counts { (p : Point) → count self.new p ≡ (if is_point point p then count self.old p + 1
+            else count self.old p) }
         ensures width { self.new.width ≡ self.old.width }
         ensures height { self.new.height ≡ self.old.height }
     {
@@ -185,7 +194,8 @@ impl BitMap {
         requires { (p : Point) → in_row v left right p ≡ true → on_map self.old p ≡ true }
         ensures bits { (p : Point) → bit self.new p
             ≡ (if in_row v left right p then R.value rule.now p (bit self.old p) else bit self.old p) }
-        ensures counts { (p : Point) → count self.new p ≡ (if in_row v left right p then count self.old p + 1 else count self.old p) }
+        ensures counts { (p : Point) → count self.new p ≡ (if in_row v left right p then count self.old p + 1
+            else count self.old p) }
         ensures width { self.new.width ≡ self.old.width }
         ensures height { self.new.height ≡ self.old.height }
     {
@@ -207,10 +217,12 @@ impl BitMap {
     /// Gives each pixel of the row `v` from the column `left` up to the column `right`, all in map
     /// coordinates, the old bit of the pixel that lies `distance` before it. Every other bit stays.
     pub fn shift_run(&mut self, v: i32, left: i32, right: i32, distance: Point)
-        requires { (p : Point) → in_row v left right p ≡ true → (on_map self.old p && on_map self.old (minus p distance)) ≡ true }
+        requires { (p : Point) → in_row v left right p ≡ true
+            → (on_map self.old p && on_map self.old (minus p distance)) ≡ true }
         ensures bits { (p : Point) → bit self.new p
             ≡ (if in_row v left right p then bit self.old (minus p distance) else bit self.old p) }
-        ensures counts { (p : Point) → count self.new p ≡ (if in_row v left right p then count self.old p + 1 else count self.old p) }
+        ensures counts { (p : Point) → count self.new p ≡ (if in_row v left right p then count self.old p + 1
+            else count self.old p) }
         ensures width { self.new.width ≡ self.old.width }
         ensures height { self.new.height ≡ self.old.height }
     {

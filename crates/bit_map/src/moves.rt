@@ -1,5 +1,6 @@
 //! Runs of bits, moved within words.
-ghost use Rattle.std.specs.Prelude.{◌≡◌, ◌+◌, ◌-◌, ◌*◌, ◌%◌, ◌^◌, ◌<◌, ◌≤◌, ℕ, length, slice_index, nat_lt, if◌then◌else◌};
+ghost use Rattle.std.specs.Prelude.{◌≡◌, ◌+◌, ◌-◌, ◌*◌, ◌%◌, ◌^◌, ◌<◌, ◌≤◌, ℕ, length, slice_index, nat_lt};
+ghost use Rattle.std.specs.Prelude.{if◌then◌else◌};
 ghost use Rattle.bit_map.specs.Words.{bit_in, place_bit, IsMoved, IsRestored};
 
 use crate::run::head_of;
@@ -30,7 +31,8 @@ fn joined_lanes(words: &[u64], bit: u64) -> u64x4
     requires long { length words.now ≡ 5 }
     requires bit_in { bit < 64 }
     ensures all { length result ≡ 4 }
-    ensures each { (j k : ℕ) → j < 4 → k < 64 → bit_in (slice_index result j) k ≡ place_bit words.now (64 * j + bit + k) }
+    ensures each { (j k : ℕ) → j < 4 → k < 64 → bit_in (slice_index result j) k
+        ≡ place_bit words.now (64 * j + bit + k) }
 {
     let near = u64x4::from_slice(&words[0..4]) << u64x4::splat(bit);
     let far = (u64x4::from_slice(&words[1..5]) >> u64x4::splat(1)) >> u64x4::splat(63 - bit);
@@ -80,7 +82,8 @@ fn four_of(words: &[u64], near: usize, bit: usize) -> u64x4
     requires source { near + 4 ≤ length words.now }
     requires far { 0 < bit → near + 4 < length words.now }
     ensures all { length result ≡ 4 }
-    ensures each { (j k : ℕ) → j < 4 → k < 64 → bit_in (slice_index result j) k ≡ place_bit words.now (64 * (near + j) + bit + k) }
+    ensures each { (j k : ℕ) → j < 4 → k < 64 → bit_in (slice_index result j) k
+        ≡ place_bit words.now (64 * (near + j) + bit + k) }
 {
     if bit == 0 {
         return u64x4::from_slice(&words[near..near + 4]);

@@ -48,7 +48,8 @@ impl Pattern {
     /// What putting the pattern down by the mode makes of the bits of a row, as it repeats word after
     /// word. The first of them lies at `start`, as seen from the pattern's origin.
     pub fn effects(self, mode: Mode, start: Point) -> Effects
-        ensures { (k : ℕ) (old : Bool) → effects_bit result (k % 64) old ≡ mode_bit mode (pattern_bit self (right_of start k)) old }
+        ensures { (k : ℕ) (old : Bool) → effects_bit result (k % 64) old
+            ≡ mode_bit mode (pattern_bit self (right_of start k)) old }
     {
         let row = turned(self.rows[eighth(start.v) as usize], eighth(start.h));
         mode.effects(repeated(row))

@@ -37,7 +37,8 @@ struct Addition<'a> {
 struct Adding;
 
 impl Names<Addition<'_>> for Adding {
-    ghost numbers = { λ a. raised a.written.width a.written.height (in_row a.written.v a.written.left (a.written.left +ℤ pos a.written.count)) a.before.now.numbers };
+    ghost numbers = { λ a. raised a.written.width a.written.height
+        (in_row a.written.v a.written.left (a.written.left +ℤ pos a.written.count)) a.before.now.numbers };
 }
 
 impl Writes {

@@ -15,7 +15,7 @@ use Rattle.def_iface.specs.declared.window_def.Stage.TheVariants.{Live}
 use Rattle.def_iface.specs.ControlMeaning.{ControlDefinition, ControlLoan}
 use Rattle.def_iface.specs.WindowMeaning.{WindowLoan}
 use Rattle.def_iface.specs.Slots.{is_left, TakenBox}
-use Rattle.def_iface.specs.Stocked.{SlotView}
+use Rattle.def_iface.specs.WindowSlots.{WindowSlot}
 use Rattle.window_list.specs.declared.layer.Layer.{Layer}
 use Rattle.window_list.specs.Holders.{PlacedLayers}
 use Rattle.desk_call.specs.declared.control.ControlCall.TheVariants.{Dispose}
@@ -147,7 +147,7 @@ module _ {V : Type 0} {H : V → Type 0} (loan : TakenBox V H → WindowLoan) {W
   -- what commit_layers leaves of the window manager, where nothing is drawn afresh
   abbrev pub AreLeftFor : ℕ → List Layer → (List ℕ → Part → PixelSet) → WindowManager V H → WindowManager V H → Type 0
   AreLeftFor at ls shows t u = (w : Window V H) → IsWindowAt t.windows.records.items at w → (afresh : Option Part) → IsPartAt ls None afresh
-      → (was : List ℕ → Part → PixelSet) (slots : List SlotView) → IsWholeManager loan t slots
+      → (was : List ℕ → Part → PixelSet) (slots : List WindowSlot) → IsWholeManager loan t slots
       → IsWholeManager loan u slots × AreLayersSet w.serial ls afresh (state_showing was (state_of loan t slots)) (state_showing shows (state_of loan u slots))
 
   -- the control was disposed of

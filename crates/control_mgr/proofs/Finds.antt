@@ -24,7 +24,7 @@ use Rattle.desk_layers.specs.Desk.{LayeredDesk, on_screen}
 use Rattle.def_iface.specs.WindowMeaning.{WindowLoan}
 use Rattle.desk_layers.specs.Owner.{Owner, owner}
 use Rattle.desk_layers.specs.Owner.Owner.{Desktop, Bar, Frame, Content}
-use Rattle.def_iface.specs.Stocked.{SlotView}
+use Rattle.def_iface.specs.WindowSlots.{WindowSlot}
 use Rattle.desk_layers.proofs.Owning.{same_number}
 use Rattle.window_list.specs.Holders.{part_at}
 use Rattle.desk_call.specs.declared.control.ControlCall.TheVariants as asks
@@ -231,7 +231,7 @@ module _ {V : Type 0} {H : V → Type 0} (loan : TakenBox V H → WindowLoan) {W
         w : Window V H
         w = window.0
 
-        here : (others : List ℕ → Part → PixelSet) (slots : List SlotView) → found_control (desk_seen loan control_loan others t slots m) cs asked.window asked.point ≡ found_from (desk_of loan t []) cs w.serial w.place asked.point
+        here : (others : List ℕ → Part → PixelSet) (slots : List WindowSlot) → found_control (desk_seen loan control_loan others t slots m) cs asked.window asked.point ≡ found_from (desk_of loan t []) cs w.serial w.place asked.point
         here others slots =
             ap (λ r. option_map_or (λ v. found_from (desk_seen loan control_loan others t slots m) cs asked.window v.place asked.point) r None) its_record
             ∙ ap (λ n. found_from (desk_seen loan control_loan others t slots m) cs n w.place asked.point) (sym (stands.1 w window.1))

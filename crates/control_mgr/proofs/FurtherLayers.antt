@@ -8,7 +8,7 @@ use Rattle.window_items.specs.Items.{items_of}
 use Rattle.desk_layers.specs.declared.part.Part.{Part}
 use Rattle.def_iface.specs.Slots.{TakenBox}
 use Rattle.def_iface.specs.WindowMeaning.{WindowLoan}
-use Rattle.def_iface.specs.Stocked.{SlotView}
+use Rattle.def_iface.specs.WindowSlots.{WindowSlot}
 use Rattle.window_list.specs.declared.layer.Layer.{Layer}
 use Rattle.desk_call.specs.declared.update.LayerKind.TheVariants.{Controls}
 use Rattle.vis_update.specs.Records.{WindowRecord}
@@ -57,7 +57,7 @@ whole_relayered window ls ws state whole joined = record {
 }
 
 -- so where the window manager was given these layers
-pub whole_set : {V : Type 0} {H : V → Type 0} (loan : TakenBox V H → WindowLoan) (window : ℕ) (ls : List Layer) (afresh : Option Part) (was shows : List ℕ → Part → PixelSet) (t u : WindowManager V H) (slots : List SlotView) (state : ControlsState)
+pub whole_set : {V : Type 0} {H : V → Type 0} (loan : TakenBox V H → WindowLoan) (window : ℕ) (ls : List Layer) (afresh : Option Part) (was shows : List ℕ → Part → PixelSet) (t u : WindowManager V H) (slots : List WindowSlot) (state : ControlsState)
     → AreLayersSet window ls afresh (state_showing was (state_of loan t slots)) (state_showing shows (state_of loan u slots)) → AreWholeControls (desk_of loan t []).windows state
     → AreLayersOf (items_of window state.controls) ls → AreWholeControls (desk_of loan u []).windows state
 whole_set loan window ls afresh was shows t u slots state set whole joined =

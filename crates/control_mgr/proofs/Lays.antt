@@ -18,7 +18,7 @@ use Rattle.desk_layers.specs.declared.part.Part.TheVariants as part
 use Rattle.def_iface.specs.Slots.{TakenBox}
 use Rattle.def_iface.specs.ControlMeaning.{ControlDefinition, ControlLoan, SameControlRegions, is_control_size}
 use Rattle.def_iface.specs.WindowMeaning.{WindowLoan}
-use Rattle.def_iface.specs.Stocked.{SlotView}
+use Rattle.def_iface.specs.WindowSlots.{WindowSlot}
 use Rattle.window_list.specs.declared.layer.Layer.{Layer}
 use Rattle.window_list.specs.declared.layer.LayerShape.{LayerShape}
 use Rattle.window_list.specs.declared.layers.Relaid.{Relaid}
@@ -148,7 +148,7 @@ module _ {V : Type 0} {H : V → Type 0} (loan : TakenBox V H → WindowLoan) {W
     pub may_at : MayLieAt control.kept.definition.definition l w.place
     may_at = lie_parts control.kept.definition.definition l w.place (may control w (record_there loan control_loan c t m s is).there lies)
 
-    module _ (slots : List SlotView) (whole : IsWholeManager loan t slots) (joined : AreJoined (records_of control_loan m) (desk_of loan t []).windows) where
+    module _ (slots : List WindowSlot) (whole : IsWholeManager loan t slots) (joined : AreJoined (records_of control_loan m) (desk_of loan t []).windows) where
       abbrev its : ItsLayer loan control_loan c t m s is w
       its = layer_there loan control_loan c t m s is w lies joined
 
@@ -244,7 +244,7 @@ module _ {V : Type 0} {H : V → Type 0} (loan : TakenBox V H → WindowLoan) {W
   -- what commit_layers leaves of the window manager
   abbrev pub AreSetFor : ℕ → List Layer → ℕ → (List ℕ → Part → PixelSet) → WindowManager V H → WindowManager V H → Type 0
   AreSetFor at ls index shows t u = (w : Window V H) → IsWindowAt t.windows.records.items at w → (afresh : Option Part) → IsPartAt ls (Some index) afresh
-      → (was : List ℕ → Part → PixelSet) (slots : List SlotView) → IsWholeManager loan t slots
+      → (was : List ℕ → Part → PixelSet) (slots : List WindowSlot) → IsWholeManager loan t slots
       → IsWholeManager loan u slots × AreLayersSet w.serial ls afresh (state_showing was (state_of loan t slots)) (state_showing shows (state_of loan u slots))
 
   pub laid : (c : ControlOf) (t u : WindowManager V H) (m n : Controls (TakenBox W K)) (s : ControlAt) → (is : IsSpotOf loan control_loan c t m s) → (l : Lie) → MayLie control_loan t m s l

@@ -14,7 +14,7 @@ use Rattle.def_iface.specs.declared.size.Size.{Size}
 use Rattle.def_iface.specs.Slots.{TakenBox}
 use Rattle.def_iface.specs.ControlMeaning.{ControlLoan, is_control_size}
 use Rattle.def_iface.specs.WindowMeaning.{WindowLoan}
-use Rattle.def_iface.specs.Stocked.{SlotView}
+use Rattle.def_iface.specs.WindowSlots.{WindowSlot}
 use Rattle.window_list.specs.declared.layer.Layer.{Layer}
 use Rattle.window_list.specs.Holders.{fits_at}
 use Rattle.desk_call.specs.declared.control.ControlCall.{ControlCall}
@@ -138,7 +138,7 @@ module _ {V : Type 0} {H : V → Type 0} (loan : TakenBox V H → WindowLoan) {W
 
     -- a call that lays a control so, where nothing but memory refuses it
     pub laid_step : (call : ControlCall) (f g : ControlRecord → ControlRecord) (result : Result ControlReply Refusal) (u : WindowManager V H) (n : Controls (TakenBox W K)) (o : Opened) → may_control_grow call ≡ true
-        → ((others : List ℕ → Part → PixelSet) (slots : List SlotView) (kept : List ControlSlot) → first_refusal (control_refusals call (desk_seen loan control_loan others t slots m) (controls_state control_loan m kept)) ≡ None)
+        → ((others : List ℕ → Part → PixelSet) (slots : List WindowSlot) (kept : List ControlSlot) → first_refusal (control_refusals call (desk_seen loan control_loan others t slots m) (controls_state control_loan m kept)) ≡ None)
         → ((x : ControlRecord) → slice_get (records_of control_loan m) s.control ≡ Some x → f x ≡ g x)
         → ((answer : ControlReply) (before after : ControlDesk) → answer ≡ Done → IsControlLaid c g before after → IsControlEffect call answer before after)
         → LeavesControls control_loan loan (IsLaidOrShort c f result) t o m u o n → LeavesControls control_loan loan (IsControlStep call result) t o m u o n

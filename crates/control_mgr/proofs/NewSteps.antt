@@ -12,7 +12,7 @@ use Rattle.def_iface.specs.declared.window_def.Stage.{Stage}
 use Rattle.def_iface.specs.ControlMeaning.{ControlDefinition, ControlLoan}
 use Rattle.def_iface.specs.WindowMeaning.{WindowLoan}
 use Rattle.def_iface.specs.Slots.{IsNotTaken, IsPutBack, IsTaken, LoanOf, SlotOf, has_kind, holding, is_kind, offered, TakenBox}
-use Rattle.def_iface.specs.Stocked.{SlotView}
+use Rattle.def_iface.specs.WindowSlots.{WindowSlot}
 use Rattle.desk_call.specs.declared.control.ControlCall.TheVariants.{New}
 use Rattle.desk_call.specs.declared.control.ControlReply.TheVariants as reply
 use Rattle.desk_call.specs.declared.control.NewControl.{NewControl}
@@ -101,7 +101,7 @@ module _ {V : Type 0} {H : V → Type 0} (loan : TakenBox V H → WindowLoan) {W
   pub state_same : (m planned : Controls (TakenBox W K)) → IsRoomier m planned → (kept left : List ControlSlot) → left ≡ kept → controls_state control_loan planned left ≡ controls_state control_loan m kept
   state_same m planned same kept left e = λ i. record { controls = all_seen control_loan (same.controls i); next = same.next i; stock = e i }
 
-  pub desk_same : (others : List ℕ → Part → PixelSet) (t : WindowManager V H) (o : Opened) (slots : List SlotView) (m planned : Controls (TakenBox W K)) → IsRoomier m planned → (kept left : List ControlSlot) → left ≡ kept
+  pub desk_same : (others : List ℕ → Part → PixelSet) (t : WindowManager V H) (o : Opened) (slots : List WindowSlot) (m planned : Controls (TakenBox W K)) → IsRoomier m planned → (kept left : List ControlSlot) → left ≡ kept
       → control_desk control_loan loan others t o slots planned left ≡ control_desk control_loan loan others t o slots m kept
   desk_same others t o slots m planned same kept left e = λ i. record {
     desk = desk_with o (state_showing (controls_show others (all_seen control_loan (same.controls i))) (state_of loan t slots));

@@ -13,7 +13,7 @@ use Rattle.window_items.proofs.WindowLemmas.{found_in, position_there, slice_get
 use Rattle.def_iface.specs.Slots.{TakenBox}
 use Rattle.def_iface.specs.ControlMeaning.{ControlLoan}
 use Rattle.def_iface.specs.WindowMeaning.{WindowLoan}
-use Rattle.def_iface.specs.Stocked.{SlotView}
+use Rattle.def_iface.specs.WindowSlots.{WindowSlot}
 use Rattle.window_list.specs.declared.layer.Layer.{Layer}
 use Rattle.desk_call.specs.declared.control.ControlOf.{ControlOf}
 use Rattle.vis_update.specs.Records.{WindowRecord, record_of}
@@ -69,7 +69,7 @@ module _ {V : Type 0} {H : V → Type 0} (loan : TakenBox V H → WindowLoan) wh
   at_window P (v ∷ vs) (suc i) w low e h = at_window P vs i w (omega arith) e (All-tail P (record_of loan v) (map (record_of loan) vs) h)
 
   -- and what holds of the layers of the window at a place holds of those of the window that has its serial
-  pub layers_named : (t : WindowManager V H) (slots : List SlotView) → IsWholeManager loan t slots → (at serial : ℕ) (w : Window V H) → at < length t.windows.records.items
+  pub layers_named : (t : WindowManager V H) (slots : List WindowSlot) → IsWholeManager loan t slots → (at serial : ℕ) (w : Window V H) → at < length t.windows.records.items
       → IsWindowAt t.windows.records.items at w → w.serial ≡ serial → (P : List Layer → Type 0) → P w.layers.layers
       → (r : WindowRecord) → record_with serial (desk_of loan t slots).windows ≡ Some r → P r.layers
   layers_named t slots whole at serial w low lies named P h r is =

@@ -13,7 +13,7 @@ use Rattle.desk_layers.specs.declared.part.Part.TheVariants as part
 use Rattle.def_iface.specs.Slots.{TakenBox}
 use Rattle.def_iface.specs.ControlMeaning.{ControlLoan, IsControlBegun}
 use Rattle.def_iface.specs.WindowMeaning.{WindowLoan}
-use Rattle.def_iface.specs.Stocked.{SlotView}
+use Rattle.def_iface.specs.WindowSlots.{WindowSlot}
 use Rattle.desk_layers.proofs.Owning.{same_number}
 use Rattle.window_list.specs.declared.layer.Layer.{Layer}
 use Rattle.desk_call.specs.declared.control.ControlOf.{ControlOf}
@@ -123,7 +123,7 @@ module _ {W : Type 0} {K : W → Type 0} (control_loan : TakenBox W K → Contro
     -- what show_layer leaves of the window manager
     abbrev pub IsDrawnFor : Rect → ℕ → ℕ → (List ℕ → Part → PixelSet) → WindowManager V H → WindowManager V H → Type 0
     IsDrawnFor damage at index shows t u = (w : Window V H) → IsWindowAt t.windows.records.items at w → (l : Layer) → l ≡ get_or w.layers.layers index l
-        → (was : List ℕ → Part → PixelSet) (slots : List SlotView) → IsWholeManager loan t slots
+        → (was : List ℕ → Part → PixelSet) (slots : List WindowSlot) → IsWholeManager loan t slots
         → IsWholeManager loan u slots × IsLayerDrawnWithin damage w.serial l (state_showing was (state_of loan t slots)) (state_showing shows (state_of loan u slots))
 
     pub put_shown : (c : ControlOf) (s : State) → MayHave s → (t u : WindowManager V H) (m n : Controls (TakenBox W K)) (spot : ControlAt) → IsSpotOf loan control_loan c t m spot

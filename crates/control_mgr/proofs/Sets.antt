@@ -11,7 +11,7 @@ use Rattle.desk_layers.specs.declared.part.Part.{Part}
 use Rattle.def_iface.specs.Slots.{TakenBox}
 use Rattle.def_iface.specs.ControlMeaning.{ControlLoan}
 use Rattle.def_iface.specs.WindowMeaning.{WindowLoan}
-use Rattle.def_iface.specs.Stocked.{SlotView}
+use Rattle.def_iface.specs.WindowSlots.{WindowSlot}
 use Rattle.desk_call.specs.declared.control.ControlCall.{ControlCall}
 use Rattle.desk_call.specs.declared.control.ControlOf.{ControlOf}
 use Rattle.desk_call.specs.declared.control.ControlReply.TheVariants.{Done}
@@ -97,7 +97,7 @@ module _ {V : Type 0} {H : V → Type 0} (loan : TakenBox V H → WindowLoan) {W
 
   -- a control that was given a state was set so, where the state agrees
   pub set_done : (u : WindowManager V H) (n : Controls (TakenBox W K)) (call : ControlCall) (f g : ControlRecord → ControlRecord) (o : Opened)
-      → ((others : List ℕ → Part → PixelSet) (slots : List SlotView) (kept : List ControlSlot) → first_refusal (control_refusals call (desk_seen loan control_loan others t slots m) (controls_state control_loan m kept)) ≡ None)
+      → ((others : List ℕ → Part → PixelSet) (slots : List WindowSlot) (kept : List ControlSlot) → first_refusal (control_refusals call (desk_seen loan control_loan others t slots m) (controls_state control_loan m kept)) ≡ None)
       → ((x : ControlRecord) → slice_get (records_of control_loan m) s.control ≡ Some x → f x ≡ g x)
       → ((before after : ControlDesk) → IsSet c g Done before after → IsControlEffect call Done before after)
       → LeavesControls control_loan loan (IsPut c f) t o m u o n → LeavesControls control_loan loan (IsWhereRight (IsControlStep call (Ok Done))) t o m u o n

@@ -9,7 +9,7 @@ use Rattle.desk_layers.specs.declared.part.Part.{Part}
 use Rattle.def_iface.specs.Slots.{TakenBox}
 use Rattle.def_iface.specs.ControlMeaning.{ControlLoan}
 use Rattle.def_iface.specs.WindowMeaning.{WindowLoan}
-use Rattle.def_iface.specs.Stocked.{SlotView}
+use Rattle.def_iface.specs.WindowSlots.{WindowSlot}
 use Rattle.desk_call.specs.declared.control.ControlCall.{ControlCall}
 use Rattle.desk_call.specs.declared.control.ControlOf.{ControlOf}
 use Rattle.desk_call.specs.declared.control.ControlReply.{ControlReply}
@@ -67,10 +67,10 @@ none_missing c desk cs gone none e f = first_fails gone NoSuchWindow ((none, NoS
 
 module _ {V : Type 0} {H : V → Type 0} (loan : TakenBox V H → WindowLoan) {W : Type 0} {K : W → Type 0} (control_loan : TakenBox W K → ControlLoan) where
   -- the desk of windows and controls, as refusals and steps see it, where other layers show this
-  abbrev pub desk_seen : (List ℕ → Part → PixelSet) → WindowManager V H → List SlotView → Controls (TakenBox W K) → FullDesk
+  abbrev pub desk_seen : (List ℕ → Part → PixelSet) → WindowManager V H → List WindowSlot → Controls (TakenBox W K) → FullDesk
   desk_seen others t slots m = desk_showing (controls_show others (records_of control_loan m)) (desk_of loan t slots)
 
-  pub unchanged : (others : List ℕ → Part → PixelSet) (t : WindowManager V H) (o : Opened) (slots : List SlotView) (m : Controls (TakenBox W K)) (kept : List ControlSlot)
+  pub unchanged : (others : List ℕ → Part → PixelSet) (t : WindowManager V H) (o : Opened) (slots : List WindowSlot) (m : Controls (TakenBox W K)) (kept : List ControlSlot)
       → IsControlDeskUnchanged (control_desk control_loan loan others t o slots m kept) (control_desk control_loan loan others t o slots m kept)
   unchanged others t o slots m kept = record {
     desk = record { windows = record { desk = refl; stale = λ p on. refl; image = λ p on. refl }; activity = refl; begun = refl };
@@ -80,12 +80,12 @@ module _ {V : Type 0} {H : V → Type 0} (loan : TakenBox V H → WindowLoan) {W
 
   -- a refused call changes nothing
   pub refused : (call : ControlCall) (e : Refusal) (t : WindowManager V H) (o : Opened) (m : Controls (TakenBox W K))
-      → ((others : List ℕ → Part → PixelSet) (slots : List SlotView) (kept : List ControlSlot) → first_refusal (control_refusals call (desk_seen others t slots m) (controls_state control_loan m kept)) ≡ Some e)
+      → ((others : List ℕ → Part → PixelSet) (slots : List WindowSlot) (kept : List ControlSlot) → first_refusal (control_refusals call (desk_seen others t slots m) (controls_state control_loan m kept)) ≡ Some e)
       → LeavesControls control_loan loan (IsControlStep call (Err e)) t o m t o m
   refused call e t o m why kept others slots windows controls = (windows, controls, (inl (why others slots kept), unchanged others t o slots m kept))
 
   pub refused_by : (call : ControlCall) (result : Result ControlReply Refusal) (e : Refusal) (t : WindowManager V H) (o : Opened) (m : Controls (TakenBox W K)) → result ≡ Err e
-      → ((others : List ℕ → Part → PixelSet) (slots : List SlotView) (kept : List ControlSlot) → first_refusal (control_refusals call (desk_seen others t slots m) (controls_state control_loan m kept)) ≡ Some e)
+      → ((others : List ℕ → Part → PixelSet) (slots : List WindowSlot) (kept : List ControlSlot) → first_refusal (control_refusals call (desk_seen others t slots m) (controls_state control_loan m kept)) ≡ Some e)
       → LeavesControls control_loan loan (IsControlStep call result) t o m t o m
   refused_by call result e t o m is why = subst (λ r. LeavesControls control_loan loan (IsControlStep call r) t o m t o m) (sym is) (refused call e t o m why)
 
@@ -95,20 +95,20 @@ module _ {V : Type 0} {H : V → Type 0} (loan : TakenBox V H → WindowLoan) {W
   where_right step kept left t u m n o r leaves others slots windows controls = let l = leaves others slots windows controls in (l.0, l.1, λ right. l.2)
 
   pub refused_where : (call : ControlCall) (result : Result ControlReply Refusal) (e : Refusal) (t : WindowManager V H) (o : Opened) (m : Controls (TakenBox W K)) → result ≡ Err e
-      → ((others : List ℕ → Part → PixelSet) (slots : List SlotView) (kept : List ControlSlot) → first_refusal (control_refusals call (desk_seen others t slots m) (controls_state control_loan m kept)) ≡ Some e)
+      → ((others : List ℕ → Part → PixelSet) (slots : List WindowSlot) (kept : List ControlSlot) → first_refusal (control_refusals call (desk_seen others t slots m) (controls_state control_loan m kept)) ≡ Some e)
       → LeavesControls control_loan loan (IsWhereRight (IsControlStep call result)) t o m t o m
   refused_where call result e t o m is why kept = where_right (IsControlStep call result) kept kept t t m m o o (refused_by call result e t o m is why kept)
 
   -- so is one for which there was no memory
   pub short : (call : ControlCall) (e : Refusal) (t : WindowManager V H) (o : Opened) (m : Controls (TakenBox W K)) → may_control_grow call ≡ true → e ≡ NoMemory
-      → ((others : List ℕ → Part → PixelSet) (slots : List SlotView) (kept : List ControlSlot) → first_refusal (control_refusals call (desk_seen others t slots m) (controls_state control_loan m kept)) ≡ None)
+      → ((others : List ℕ → Part → PixelSet) (slots : List WindowSlot) (kept : List ControlSlot) → first_refusal (control_refusals call (desk_seen others t slots m) (controls_state control_loan m kept)) ≡ None)
       → LeavesControls control_loan loan (IsControlStep call (Err e)) t o m t o m
   short call e t o m grows is why kept others slots windows controls = (windows, controls, (inr (why others slots kept, (grows, is)), unchanged others t o slots m kept))
 
   -- a call that tells something
   pub told : (call : ControlCall) (answer : ControlReply) (t : WindowManager V H) (o : Opened) (m : Controls (TakenBox W K))
-      → ((others : List ℕ → Part → PixelSet) (slots : List SlotView) (kept : List ControlSlot) → first_refusal (control_refusals call (desk_seen others t slots m) (controls_state control_loan m kept)) ≡ None)
-      → ((others : List ℕ → Part → PixelSet) (slots : List SlotView) (kept : List ControlSlot) → IsControlEffect call answer (control_desk control_loan loan others t o slots m kept) (control_desk control_loan loan others t o slots m kept))
+      → ((others : List ℕ → Part → PixelSet) (slots : List WindowSlot) (kept : List ControlSlot) → first_refusal (control_refusals call (desk_seen others t slots m) (controls_state control_loan m kept)) ≡ None)
+      → ((others : List ℕ → Part → PixelSet) (slots : List WindowSlot) (kept : List ControlSlot) → IsControlEffect call answer (control_desk control_loan loan others t o slots m kept) (control_desk control_loan loan others t o slots m kept))
       → LeavesControls control_loan loan (IsControlStep call (Ok answer)) t o m t o m
   told call answer t o m why effect kept others slots windows controls = (windows, controls, (why others slots kept, effect others slots kept))
 

@@ -2,7 +2,6 @@
 use Rattle.std.specs.Prelude.{ℕ, List}
 use Rattle.def_iface.specs.declared.window_def.Stage.{Stage}
 use Rattle.def_iface.specs.ControlMeaning.{ControlDefinition, ControlLoan, SameControlLook}
-use Rattle.def_iface.specs.Slots.{IsFull}
 use Rattle.control_mgr.specs.declared.control.Control.{Control}
 use Rattle.control_mgr.specs.ControlDesks.{ControlRecord, ControlSlot, ControlsState}
 use Rattle.control_mgr.specs.ItemsClosing as closing
@@ -14,10 +13,6 @@ stage_of d = d.stage
 -- the definition that a control has out of its slot
 abbrev pub loan_of : Control ControlLoan → ControlLoan
 loan_of c = c.definition
-
--- a slot with a definition that no desk uses
-abbrev pub IsControlFull : ControlSlot → Type 0
-IsControlFull s = IsFull stage_of s
 
 -- the desk's controls, which are these, were disposed of: every slot has a definition that no desk uses
 abbrev pub AreAllControlsClosed : List ControlRecord → List ControlSlot → List ControlSlot → Type 0

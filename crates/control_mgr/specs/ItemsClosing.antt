@@ -32,7 +32,7 @@ module _ {D K : Type 0} (loan : K → LoanOf D) where
       abbrev pub IsClosedAt : List (SlotOf D) → Item K → Type 0
       IsClosedAt = closing.IsClosedAt stage IsAlike (λ (item : Item K). loan item.kept)
 
-      -- the definitions of these items were closed and put into their slots, and every other slot is as it was
+      -- the definitions of these items were closed and put into their slots, and every other slot that had one is as it was
       abbrev pub AreClosed : List (Item K) → List (SlotOf D) → List (SlotOf D) → Type 0
       AreClosed = closing.AreClosed stage IsAlike (λ (item : Item K). loan item.kept)
 

@@ -9,7 +9,7 @@ use Rattle.def_iface.specs.Slots.{TakenBox}
 use Rattle.def_iface.specs.declared.window_def.Stage.TheVariants.{Live}
 use Rattle.def_iface.specs.ControlMeaning.{ControlDefinition, ControlLoan}
 use Rattle.def_iface.specs.WindowMeaning.{WindowLoan}
-use Rattle.def_iface.specs.Stocked.{SlotView}
+use Rattle.def_iface.specs.WindowSlots.{WindowSlot}
 use Rattle.desk_call.specs.declared.activity.Activity.{Activity}
 use Rattle.desk_call.specs.declared.activity.Activity.TheVariants.{TrackingControl}
 use Rattle.vis_update.specs.Records.{WindowRecord}
@@ -65,7 +65,7 @@ module _ {W : Type 0} {K : W → Type 0} (control_loan : TakenBox W K → Contro
   -- `loan` says what a window's definition that was taken means
   module _ {V : Type 0} {H : V → Type 0} (loan : TakenBox V H → WindowLoan) where
     -- windows and controls with what is open, as a desk where other layers show this
-    abbrev pub control_desk : (List ℕ → Part → PixelSet) → WindowManager V H → Opened → List SlotView → Controls (TakenBox W K)
+    abbrev pub control_desk : (List ℕ → Part → PixelSet) → WindowManager V H → Opened → List WindowSlot → Controls (TakenBox W K)
         → List ControlSlot → ControlDesk
     control_desk others t o slots m kept = record {
       desk = desk_with o (state_showing (controls_show others (records_of m)) (state_of loan t slots));
@@ -77,7 +77,7 @@ module _ {W : Type 0} {K : W → Type 0} (control_loan : TakenBox W K → Contro
     -- are whole afterwards, and together they are one step of the desk
     abbrev pub LeavesOver : List ControlSlot → List ControlSlot → (ControlDesk → ControlDesk → Type 0)
         → WindowManager V H → Opened → Controls (TakenBox W K) → WindowManager V H → Opened → Controls (TakenBox W K) → Type 0
-    LeavesOver kept left step old before m new after n = (others : List ℕ → Part → PixelSet) (slots : List SlotView)
+    LeavesOver kept left step old before m new after n = (others : List ℕ → Part → PixelSet) (slots : List WindowSlot)
         → IsWholeManager loan old slots
         → AreWholeControls (desk_of loan old []).windows (controls_state m kept)
         → IsWholeManager loan new slots × AreWholeControls (desk_of loan new []).windows (controls_state n left)

@@ -1,10 +1,8 @@
 //! Controls, drawn where a canvas lets them.
-ghost use Rattle.std.specs.Prelude.{◌≡◌, ◌<◌, true, length, slice_get, IfSome};
-ghost use Rattle.std.specs.List.{position};
+ghost use Rattle.std.specs.Prelude.{◌≡◌, ◌<◌, true, length, slice_get};
 ghost use Rattle.tb_geom.specs.Rects.{in_plane};
 ghost use Rattle.bit_blit.specs.Draws.{Draws};
 ghost use Rattle.draw_port.specs.Canvases.{canvas_holds, canvas_point, SameFrame};
-ghost use Rattle.window_items.specs.Items.{has_serial};
 ghost use Rattle.control_mgr.specs.Seen.{all_seen};
 ghost use Rattle.def_iface.specs.ControlMeaning.{ControlLoan, is_fitting_control};
 ghost use Rattle.def_iface.specs.ControlNews.{no_control_news};
@@ -54,25 +52,12 @@ impl<D: DrawnControl> Showing for Controls<D> {
 
     fn draw(&self, part: Part, canvas: &mut Canvas<'_>) {
         match part {
-            Part::Control(serial) => match self.with_serial(serial) {
+            Part::Control(serial) => match self.list.with_serial(serial) {
                 Some(at) => self.draw_at(at, canvas),
                 None => canvas.fill_all(Pattern::WHITE, Mode::Copy),
             },
             _ => canvas.fill_all(Pattern::WHITE, Mode::Copy),
         }
-    }
-}
-
-impl<D> Controls<D> {
-    /// Where the control of this serial stands in the list, if there is one.
-    fn with_serial(&self, serial: u64) -> Option<usize>
-        ensures first { result ≡ position (has_serial serial) self.now.list.items.items }
-        ensures within { IfSome result (λ at. at < length self.now.list.items.items) }
-    {
-        self.list
-            .items
-            .iter()
-            .position(|control| control.serial == serial)
     }
 }
 

@@ -36,8 +36,8 @@ module _ {V : Type 0} {H : V → Type 0} (window : (b : DynBox V Global H) → w
     {W : Type 0} {K : W → Type 0} (menu : (b : DynBox W Global K) → menu_def.Ghosts (K b.vtable))
     {U : Type 0} {J : U → Type 0} (control : (b : DynBox U Global J) → control_def.Ghosts (J b.vtable))
     {X : Type 0} {L : X → Type 0} (list : (b : DynBox X Global L) → list_def.Ghosts (L b.vtable)) where
-  abbrev pub slots_by : Stock V U X W H J L K → AllSlots
-  slots_by s = record {
+  abbrev pub all_slots_by : Stock V U X W H J L K → AllSlots
+  all_slots_by s = record {
     windows = slots.slots_by (λ (b : DynBox V Global H). (window b).meaning b.value) s.windows;
     menus = slots.slots_by (λ (b : DynBox W Global K). (menu b).menu_meaning b.value) s.menus;
     controls = slots.slots_by (λ (b : DynBox U Global J). (control b).control_meaning b.value) s.controls;

@@ -8,6 +8,7 @@ use Rattle.def_iface.specs.Slots.{SlotOf, LoanOf, IsFull, IsPutBack, is_left}
 module _ {D : Type 0} (stage : D → Stage) (IsAlike : D → D → Type 0) where
   -- the definition was closed and put into its slot, which was empty, and every other slot is as it was
   pub record IsShut (loan : LoanOf D) (old new : List (SlotOf D)) : Type 0 where
+    -- the definition, once it is closed
     pub definition : D
     pub closed : stage definition ≡ Closed
     pub look : IsAlike loan.definition definition
@@ -24,7 +25,7 @@ module _ {D : Type 0} (stage : D → Stage) (IsAlike : D → D → Type 0) where
     abbrev pub IsClosedAt : List (SlotOf D) → X → Type 0
     IsClosedAt slots x = (s : SlotOf D) × (slice_get slots (loan x).slot ≡ Some s) × IsClosedSlot (loan x).definition s
 
-    -- the definitions of these were closed and put into their slots, and every other slot is as it was
+    -- the definitions of these were closed and put into their slots, and every other slot that had one is as it was
     pub record AreClosed (xs : List X) (old new : List (SlotOf D)) : Type 0 where
       -- the same slots, for the same kinds
       pub kinds : map (λ s. s.kind) new ≡ map (λ s. s.kind) old

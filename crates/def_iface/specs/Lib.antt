@@ -12,6 +12,6 @@ pub mod ControlMeaning
 pub mod ControlKeeping
 pub mod MenuMeaning
 pub mod ListMeaning
-pub mod Stocked
+pub mod WindowSlots
 pub mod Stocks
 pub mod Boxed

@@ -74,7 +74,7 @@ module _ {B D : Type 0} (meaning : B → D) where
   abbrev pub slots_by : Slots B → List (SlotOf D)
   slots_by s = seen_slots (slot_views s.slots.items)
 
--- a definition in a box that was taken, whichever trait the box is of
+-- what was taken, where it is a definition in a box, whichever trait the box is of
 abbrev pub TakenBox : (V : Type 0) → (V → Type 0) → Type 0
 TakenBox V H = Taken (DynBox V Global H)
 

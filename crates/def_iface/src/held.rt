@@ -3,16 +3,20 @@ ghost use Rattle.std.specs.Prelude.{◌≡◌};
 
 use crate::Stage;
 
-/// What holds of a definition of whichever kind: what it means is a value, of which its life is a part.
+/// What holds of a definition of whichever kind: it means a value, of which its stage is a part.
 pub trait Held: Drop {
     ghost use Rattle.def_iface.specs.declared.window_def.Stage.{Stage};
 
+    /// What a definition of this kind is, as a value.
     ghost Meaning: { Type 0 };
 
+    /// What it is.
     ghost meaning: { Self → Meaning };
 
+    /// Where one stands in its life.
     ghost stage_of: { Meaning → Stage };
 
+    /// The second answers as the first did.
     ghost IsAlike: { Meaning → Meaning → Type 0 };
 
     /// Where the definition stands in its life.

@@ -1,4 +1,4 @@
-//! What a definition shows, by what it was told.
+//! What a window's definition shows, by what it was told.
 ghost use Rattle.std.specs.Prelude.{◌≡◌, List, ℕ};
 ghost use Rattle.tb_geom.specs.declared.point.Point.{Point};
 ghost use Rattle.def_iface.specs.declared.window_def.WindowChange.{WindowChange};

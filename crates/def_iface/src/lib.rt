@@ -34,10 +34,10 @@
 //! the desk shows the frame's pixels alone, so such a definition may fill all of the canvas and put the rest on top, whatever
 //! that gives to pixels outside its frame.
 //!
-//! One law says what being told is for: once a definition is told all there is to tell, what it shows is a function of that
-//! alone, whatever it was told before.
+//! One law says what being told is for: once a window's definition is told all there is to tell, what it shows is a function of
+//! that alone, whatever it was told before.
 //!
-//! Modules: `size` has the sizes of windows, `lines` the lines of their outlines; `window_def`, `control_def`, `menu_def` and
+//! Modules: `size` has sizes, `lines` the lines of windows' outlines; `window_def`, `control_def`, `menu_def` and
 //! `list_def` the traits; `keeping` and `control_keeping` what most definitions keep of what they are told; `held` what holds
 //! of all definitions, `slots` and `stock` the slots; `taken` the definition out of its slot, and `taken_..` what one of each
 //! trait answers there; `closing` the end of its use; `laws` the law.

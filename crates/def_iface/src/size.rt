@@ -1,10 +1,10 @@
-//! Sizes of windows.
+//! Sizes: of windows, and of controls, lists and menus.
 ghost use Rattle.std.specs.Prelude.{◌≡◌};
 ghost use Rattle.def_iface.specs.Sizes.{is_extent, is_size, rect_of};
 
 use tb_geom::Rect;
 
-/// The size of a window's content rectangle, in pixels.
+/// A size in pixels: of a window that of its content rectangle.
 #[derive(Clone, Copy, Debug, PartialEq, Eq)]
 pub struct Size {
     /// In columns.

@@ -1,5 +1,6 @@
 //! The stock of one kind of thing: slots of definitions, taken for use and put back.
-ghost use Rattle.std.specs.Prelude.{◌≡◌, ◌++◌, ◌∷◌, [], List, Some, None, IfOk, IfErr, OnOk, OnErr, IfSome, IsSome, IsSomeAnd, All, true, slice_get};
+ghost use Rattle.std.specs.Prelude.{◌≡◌, ◌++◌, ◌∷◌, [], List, Some, None, IfOk, IfErr, OnOk, OnErr, IfSome, IsSome};
+ghost use Rattle.std.specs.Prelude.{IsSomeAnd, All, true, slice_get};
 ghost use Rattle.def_iface.specs.Slots.{SlotOf, slot_view, slot_views, loan_by, slots_by, is_kind, has_kind, offers, first_offer, is_left};
 ghost use Rattle.def_iface.specs.Slots.{IsTaken, IsNotTaken, IsPutBack, IsIdle, IsFull};
 
@@ -24,8 +25,10 @@ pub struct Slots<T> {
 
 /// Such slots as contracts see them: a list, each with its definition as a value.
 pub trait Stocked {
+    /// What a definition of their kind is, as a value.
     ghost Meaning: { Type 0 };
 
+    /// The slots, in the order in which they were added.
     ghost slots: { Self → List (SlotOf Meaning) };
 }
 

@@ -2,7 +2,7 @@
 ghost use Rattle.std.specs.Prelude.{◌≡◌, All, []};
 ghost use Rattle.def_iface.specs.WindowMeaning.{WindowDefinition};
 ghost use Rattle.def_iface.specs.Slots.{slots_by};
-ghost use Rattle.def_iface.specs.Stocked.{IsFull};
+ghost use Rattle.def_iface.specs.WindowSlots.{IsFull};
 ghost use Rattle.def_iface.specs.Stocks.{AllSlots, AreAllFull};
 
 use crate::{ControlStock, ListStock, MenuStock, Stocked, WindowStock};
@@ -27,6 +27,7 @@ impl Stocked for Stock {
 
 /// The slots of all four as contracts see them together.
 pub trait StockedAll {
+    /// The slots, of each of the four in the order in which they were added.
     ghost all_slots: { Self → AllSlots };
 }
 

@@ -14,8 +14,10 @@ pub struct Taken<T> {
 
 /// What was taken, as contracts see it: the definition as a value, and its slot.
 pub trait Defined {
+    /// What a definition of its kind is, as a value.
     ghost Meaning: { Type 0 };
 
+    /// What was taken.
     ghost loan: { Self → LoanOf Meaning };
 }
 

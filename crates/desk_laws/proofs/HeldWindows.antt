@@ -6,7 +6,7 @@ use Rattle.tb_geom.specs.Points.{PixelSet, plus}
 use Rattle.def_iface.specs.declared.window_def.Stage.{Stage}
 use Rattle.def_iface.specs.WindowMeaning.{WindowDefinition}
 use Rattle.def_iface.specs.WindowNews.{WindowNews, told_highlighted, told_title, told_tracked}
-use Rattle.def_iface.specs.Stocked.{SlotView}
+use Rattle.def_iface.specs.WindowSlots.{WindowSlot}
 use Rattle.desk_call.specs.declared.call.Call.{Call}
 use Rattle.desk_call.specs.declared.call.Reply.{Reply}
 use Rattle.desk_call.specs.declared.frame.FrameReply.TheVariants.{Done}
@@ -130,7 +130,7 @@ module _ (k : ℕ) where
   takes_behind_new false active ws = refl
 
 -- windows that take the same slots are stocked as well
-alike : (xs ys : List ℕ) (slots : List SlotView) → ((k : ℕ) → uses k ys ≡ uses k xs) → AreStocked stage_of xs slots → AreStocked stage_of ys slots
+alike : (xs ys : List ℕ) (slots : List WindowSlot) → ((k : ℕ) → uses k ys ≡ uses k xs) → AreStocked stage_of xs slots → AreStocked stage_of ys slots
 alike xs ys slots same h k = subst (λ n. IsUsedBy stage_of n (slice_get slots k)) (sym (same k)) (h k)
 
 -- the stock is the same, and the windows take the same slots

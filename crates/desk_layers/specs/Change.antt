@@ -6,23 +6,24 @@ use Rattle.desk_layers.specs.Desk.{LayeredDesk, IsDesk, on_screen}
 use Rattle.desk_layers.specs.Owner.{Owner, owner, own_bit, same_owner, is_content}
 use Rattle.desk_layers.specs.Scratch.{scratch}
 
--- a desk, the pixels of its update sets, and the image on its screen
+-- a desk, its stale pixels, and the image on its screen
 pub record State : Type 0 where
   pub desk : LayeredDesk
-  -- a pixel can be in the update set of its own owner's window alone, so one set serves all windows
+  -- the pixels that have to be drawn later: those of all update regions, since each is one of its own owner's window
   pub stale : PixelSet
   pub image : PixelSet
 
+-- what a call does to the pixels of each owner
 pub record Change : Type 0 where
   -- where the pixel that a content layer now shows at a point came from
   pub source : Owner → Point → Point
   -- drawn afresh
   pub afresh : Owner → Point → Bool
-  -- taken out of the update set, being right
+  -- stale no longer, being right
   pub taken : Owner → Point → Bool
-  -- put into the update set
+  -- stale from now on
   pub added : Owner → Point → Bool
-  -- shown anew wherever it is in no update set, and left alone where it is in one
+  -- shown anew wherever it is not stale, and left alone where it is
   pub redrawn : Owner → Bool
   -- what is made of a value that stays, where the owner is not shown anew
   pub drawn : Owner → Point → Bool → Bool
@@ -42,7 +43,7 @@ no_change = record {
 abbrev pub had : Change → LayeredDesk → Owner → Point → Bool
 had c before o p = on_screen before (c.source o p) && same_owner (owner before (c.source o p)) o
 
--- whether a pixel of this owner is in an update set after the change
+-- whether a pixel of this owner is stale after the change
 abbrev pub stale_by : Change → State → Owner → Point → Bool
 stale_by c before o p =
     if not (is_content o) then false
@@ -65,8 +66,8 @@ pub record IsChanged (c : Change) (before after : State) : Type 0 where
   pub stale : (p : Point) → on_screen after.desk p ≡ true → after.stale p ≡ stale_by c before (owner after.desk p) p
   pub image : (p : Point) → on_screen after.desk p ≡ true → after.image p ≡ image_by c before after.desk (owner after.desk p) p
 
--- the desks go with the change: what a layer keeps, and the change neither draws afresh nor takes out or puts in, it
--- shows as drawn on, and what is taken out is right
+-- the desks go with the change: a pixel that a layer keeps shows in the desk after what is drawn on its value in the one before,
+-- and a pixel that is stale no longer is right
 pub record IsSound (c : Change) (before : State) (after : LayeredDesk) : Type 0 where
   pub desk : IsDesk after
   pub kept : (p : Point) → let o = owner after p in
@@ -77,7 +78,7 @@ pub record IsSound (c : Change) (before : State) (after : LayeredDesk) : Type 0 
       on_screen after p ≡ true → c.taken o p ≡ true
       → image_by c before after o p ≡ scratch after p
 
--- each pixel in no update set has the value that painting from nothing gives; those in one are content
+-- each pixel that is not stale has the value that painting from nothing gives; those that are stale are content
 pub record IsRight (state : State) : Type 0 where
   pub desk : IsDesk state.desk
   pub right : (p : Point) → on_screen state.desk p ≡ true → state.stale p ≡ false → state.image p ≡ scratch state.desk p

@@ -12,7 +12,7 @@ pub record ContentLayer : Type 0 where
   pub extent : PixelSet
   pub picture : PixelSet
 
--- a window: its content layers from front to back, over its frame; what is not its place is in its own coordinates
+-- a window: its content layers from front to back, over its frame; all but its place is in its own coordinates
 pub record LayeredWindow : Type 0 where
   pub serial : ℕ
   -- where its own 0 0 lies on the screen
@@ -22,6 +22,7 @@ pub record LayeredWindow : Type 0 where
   pub frame : PixelSet
   pub layers : List ContentLayer
 
+-- a desk: the desktop, the windows over it, and the menu bar in front of all
 pub record LayeredDesk : Type 0 where
   pub width : ℤ
   pub height : ℤ
@@ -65,15 +66,16 @@ abbrev pub layer_of : Part → List ContentLayer → Option ContentLayer
 layer_of part [] = None
 layer_of part (l ∷ ls) = if same_part l.part part then Some l else layer_of part ls
 
--- each layer is another part
+-- no two layers are one part
 abbrev pub AreParts : List ContentLayer → Type 0
 AreParts [] = Unit {0}
 AreParts (l ∷ ls) = (layer_of l.part ls ≡ None) × AreParts ls
 
--- each window has another serial, and each of its layers is another part
+-- no two windows have one serial, and no two layers of a window are one part
 abbrev pub AreWindows : List LayeredWindow → Type 0
 AreWindows [] = Unit {0}
 AreWindows (w ∷ ws) = (window_of w.serial ws ≡ None) × (AreParts w.layers × AreWindows ws)
 
+-- its windows and their layers can be told from each other
 abbrev pub IsDesk : LayeredDesk → Type 0
 IsDesk desk = AreWindows desk.windows

@@ -5,6 +5,7 @@ use Rattle.tb_geom.specs.Points.{PixelSet}
 use Rattle.desk_layers.specs.declared.part.Part.{Part}
 use Rattle.desk_layers.specs.Desk.{ContentLayer, LayeredWindow, LayeredDesk, local, in_bar, in_structure, window_of, layer_of, same_part}
 
+-- what a pixel belongs to: the desktop, the menu bar, or the frame or a content layer of a window
 pub data Owner : Type 0 where
   Desktop : Owner
   Bar : Owner
@@ -25,6 +26,7 @@ owner_among (w ∷ ws) p = if in_structure w p then owner_within w w.layers p el
 abbrev pub owner : LayeredDesk → Point → Owner
 owner desk p = if in_bar desk p then Bar else owner_among desk.windows p
 
+-- the owners are one
 abbrev pub same_owner : Owner → Owner → Bool
 same_owner Desktop Desktop = true
 same_owner Bar Bar = true

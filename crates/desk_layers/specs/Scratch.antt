@@ -9,7 +9,7 @@ pub record Layer : Type 0 where
   pub extent : PixelSet
   pub picture : PixelSet
 
--- of content layers from front to back, those of the screen from back to front, cut to the structure
+-- what a window paints of these content layers, which are from front to back: from back to front, cut to its structure
 abbrev pub content_layers : LayeredWindow → List ContentLayer → List Layer
 content_layers w [] = []
 content_layers w (l ∷ ls) =

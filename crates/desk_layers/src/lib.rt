@@ -6,7 +6,7 @@
 //!
 //! Each pixel has an owner, the one layer to which it belongs (`owner` in specs). The desk painted from nothing, back to
 //! front, is the yardstick for a screen (`scratch`). A call says as a `Change` what it does to pixels: which it draws, which it
-//! moves, which have to be drawn later and which no longer have to. A pixel of the last kind but one is stale, and nothing is
+//! moves, which have to be drawn later and which no longer have to. A pixel that has to be drawn later is stale, and nothing is
 //! promised of its value.
 //!
 //! Two laws say what all of this is for. Painting from nothing gives each pixel the value of its owner. And a sound change

@@ -18,7 +18,7 @@ use Rattle.vis_update.specs.Records.{layered_window}
 use Rattle.window_mgr.specs.Records.{state_of, state_showing}
 use Rattle.def_iface.specs.WindowMeaning.{WindowLoan}
 use Rattle.def_iface.specs.MenuMeaning.{MenuLoan}
-use Rattle.def_iface.specs.Stocked.{SlotView, IsFull}
+use Rattle.def_iface.specs.WindowSlots.{WindowSlot, IsFull}
 use Rattle.def_iface.specs.Stocks.{AllSlots, AreAllFull}
 use Rattle.window_mgr.specs.Begin.{IsEmptyDesk}
 use Rattle.window_mgr.specs.FullDesk.{FullDesk, FullState, IsRightState, layered_desk, layered_state, look_of}
@@ -68,7 +68,7 @@ module _ {V : Type 0} {H : V → Type 0} (loan : TakenBox V H → WindowLoan) {W
         events = events;
       }
 
-  pub begins : {E : Type 0} (events : Events) (menus : Menus W K) (r : Result (Toolbox V U W X H J K L) E) → IfOk r (λ t. (slots : List SlotView) → All IsFull slots → IsEmptyDesk loan width height bar font t.windows slots)
+  pub begins : {E : Type 0} (events : Events) (menus : Menus W K) (r : Result (Toolbox V U W X H J K L) E) → IfOk r (λ t. (slots : List WindowSlot) → All IsFull slots → IsEmptyDesk loan width height bar font t.windows slots)
       → IfOk r (λ t. t.activity ≡ Idle) → IfOk r (λ t. t.events ≡ events) → IfOk r (λ t. t.menus ≡ menus) → IfOk r (λ t. (t.controls.list.items.items ≡ []) × (t.controls.list.next ≡ Some 1))
       → IfOk r (λ t. (t.lists.list.items.items ≡ []) × (t.lists.list.next ≡ Some 1)) → events ≡ first_events → AreNoMenus width height menus
       → IfOk r (λ t. (stocks : AllSlots) → AreAllFull stocks → IsJustBegun (toolbox_state loan menu_loan control_loan list_loan t stocks))

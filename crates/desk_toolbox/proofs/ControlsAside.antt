@@ -8,7 +8,7 @@ use Rattle.def_iface.specs.Slots.{TakenBox}
 use Rattle.def_iface.specs.ControlMeaning.{ControlLoan}
 use Rattle.def_iface.specs.WindowMeaning.{WindowLoan}
 use Rattle.def_iface.specs.MenuMeaning.{MenuLoan}
-use Rattle.def_iface.specs.Stocked.{SlotView}
+use Rattle.def_iface.specs.WindowSlots.{WindowSlot}
 use Rattle.desk_call.specs.declared.activity.Activity.{Activity}
 use Rattle.desk_call.specs.declared.control.ControlCall.{ControlCall}
 use Rattle.desk_call.specs.declared.control.ControlReply.{ControlReply}
@@ -49,7 +49,7 @@ not_updating : (a : Activity) → AtMostControl a → UpdatesNone a
 not_updating a most = ⊎_elim (λ idle. subst UpdatesNone (sym idle) tt) (λ (k, is). subst UpdatesNone (sym is) tt) most
 
 module _ {V : Type 0} {H : V → Type 0} (loan : TakenBox V H → WindowLoan) {W : Type 0} {K : W → Type 0} (menu_loan : TakenBox W K → MenuLoan) {U : Type 0} {J : U → Type 0} (control_loan : TakenBox U J → ControlLoan) (others : List ℕ → Part → PixelSet)
-    (t new : WindowManager V H) (before after : List SlotView) (o n : Opened) (cs now : Controls (TakenBox U J)) (held left : List ControlSlot) where
+    (t new : WindowManager V H) (before after : List WindowSlot) (o n : Opened) (cs now : Controls (TakenBox U J)) (held left : List ControlSlot) where
   abbrev first : ControlDesk
   first = control_desk control_loan loan others t o before cs held
 

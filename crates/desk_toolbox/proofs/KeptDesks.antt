@@ -3,7 +3,7 @@ use Rattle.std.proofs.Common.{◌≡◌, ℕ, List, Option, None, Some, Result, 
 use Rattle.tb_geom.specs.declared.refusal.Refusal.{Refusal}
 use Rattle.tb_geom.specs.Points.{PixelSet}
 use Rattle.desk_layers.specs.declared.part.Part.{Part}
-use Rattle.def_iface.specs.Stocked.{SlotView}
+use Rattle.def_iface.specs.WindowSlots.{WindowSlot}
 use Rattle.desk_call.specs.declared.window.WindowCall.{WindowCall}
 use Rattle.desk_call.specs.declared.window.WindowReply.{WindowReply}
 use Rattle.desk_call.specs.Gates.{window_standing}
@@ -18,7 +18,7 @@ use Rattle.window_frame.specs.Followers.{IsCaughtUpBy}
 use Rattle.desk_toolbox.specs.Run.{IsWindowAnswer, IsWindowAnswered, IsWindowMade}
 use Rattle.desk_toolbox.specs.ToolboxStates.{ToolboxState}
 
-module _ {A : Type 0} (f : FullDesk → A) (apart : (d : FullDesk) (ws : List WindowRecord) (active next : Option ℕ) (stock : List SlotView) → f (record d { windows = ws; active = active; next = next; stock = stock }) ≡ f d) where
+module _ {A : Type 0} (f : FullDesk → A) (apart : (d : FullDesk) (ws : List WindowRecord) (active next : Option ℕ) (stock : List WindowSlot) → f (record d { windows = ws; active = active; next = next; stock = stock }) ≡ f d) where
   effect_keeps : (effect : Effect) (answer : WindowReply) (before after : FullState) → IsEffect effect answer before after → f after.desk ≡ f before.desk
   effect_keeps (Makes floating w) answer before after (n, is, new) = ap f new.desk ∙ apart before.desk _ _ _ _
   effect_keeps (Draws d) answer before after (is, drawn) = ap f drawn.desk ∙ apart before.desk _ _ _ _

@@ -6,7 +6,7 @@ use Rattle.def_iface.specs.ControlMeaning.{ControlLoan}
 use Rattle.def_iface.specs.ListMeaning.{ListLoan}
 use Rattle.def_iface.specs.WindowMeaning.{WindowLoan}
 use Rattle.def_iface.specs.MenuMeaning.{MenuLoan}
-use Rattle.def_iface.specs.Stocked.{SlotView}
+use Rattle.def_iface.specs.WindowSlots.{WindowSlot}
 use Rattle.desk_call.specs.declared.activity.Activity.TheVariants.{Idle}
 use Rattle.desk_call.specs.declared.list.ListCall.{ListCall}
 use Rattle.desk_call.specs.declared.list.ListReply.{ListReply}
@@ -36,7 +36,7 @@ use Rattle.desk_toolbox.proofs.MenusBeside as menus
 use Rattle.desk_toolbox.proofs.UpdatesBeside as updates
 
 module _ {V : Type 0} {H : V → Type 0} (loan : TakenBox V H → WindowLoan) {W : Type 0} {K : W → Type 0} (menu_loan : TakenBox W K → MenuLoan) {U : Type 0} {J : U → Type 0} (control_loan : TakenBox U J → ControlLoan) {X : Type 0} {L : X → Type 0} (list_loan : TakenBox X L → ListLoan)
-    (t new : WindowManager V H) (before after : List SlotView) (o : Opened) (cs now : Controls (TakenBox U J)) (held left : List ControlSlot) (ls rest : Lists (TakenBox X L)) (kept put : List ListSlot) where
+    (t new : WindowManager V H) (before after : List WindowSlot) (o : Opened) (cs now : Controls (TakenBox U J)) (held left : List ControlSlot) (ls rest : Lists (TakenBox X L)) (kept put : List ListSlot) where
   abbrev first : ListDesk
   first = list_desk list_loan loan t o before (controls_state control_loan cs held) ls kept
 

@@ -13,7 +13,7 @@ use Rattle.def_iface.specs.Slots.{TakenBox}
 use Rattle.desk_layers.specs.Desk.{on_screen}
 use Rattle.def_iface.specs.WindowMeaning.{WindowLoan}
 use Rattle.def_iface.specs.MenuMeaning.{MenuLoan}
-use Rattle.def_iface.specs.Stocked.{SlotView}
+use Rattle.def_iface.specs.WindowSlots.{WindowSlot}
 use Rattle.overlay.specs.Overlays.{Pulled, pulled_bit, pulled_rect, shown_bit}
 use Rattle.overlay.specs.Outlines.{IsOutlined, outline_holds, outlined}
 use Rattle.bit_map.specs.Modes.{xor_bit}
@@ -189,7 +189,7 @@ outlined_on bar other lines a b p same e = λ i. if outline_holds (sym same i) l
 -- `loan` says what a window's definition that was taken means, and `menu_loan` what a menu's
 module _ {V : Type 0} {H : V → Type 0} (loan : TakenBox V H → WindowLoan) {W : Type 0} {K : W → Type 0} (menu_loan : TakenBox W K → MenuLoan) where
   -- the menus that a desk begins with
-  pub menus_begin : (width height bar : ℤ) (font : List ℕ) (t : WindowManager V H) (m : Menus W K) (slots : List SlotView) (kept : List MenuSlot) → AreNoMenus width height m → IsEmptyDesk loan width height bar font t slots → AreMenusStocked [] kept → IsWholeMenus menu_loan t Idle m kept
+  pub menus_begin : (width height bar : ℤ) (font : List ℕ) (t : WindowManager V H) (m : Menus W K) (slots : List WindowSlot) (kept : List MenuSlot) → AreNoMenus width height m → IsEmptyDesk loan width height bar font t slots → AreMenusStocked [] kept → IsWholeMenus menu_loan t Idle m kept
   menus_begin width height bar font t m slots kept none empty stocked = record {
     few = subst (λ items. length items ≤ 16) (sym none.none) (omega arith);
     room = none.room;
@@ -201,7 +201,7 @@ module _ {V : Type 0} {H : V → Type 0} (loan : TakenBox V H → WindowLoan) {W
     front = tt;
   }
 
-  module _ (t new : WindowManager V H) (m : Menus W K) (kept : List MenuSlot) (before after : List SlotView) where
+  module _ (t new : WindowManager V H) (m : Menus W K) (kept : List MenuSlot) (before after : List WindowSlot) where
     abbrev was : FullState
     was = state_of loan t before
 

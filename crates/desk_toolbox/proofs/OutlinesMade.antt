@@ -6,7 +6,7 @@ use Rattle.desk_layers.specs.declared.part.Part.{Part}
 use Rattle.def_iface.specs.Slots.{TakenBox}
 use Rattle.def_iface.specs.MenuMeaning.{MenuLoan}
 use Rattle.def_iface.specs.WindowMeaning.{WindowLoan}
-use Rattle.def_iface.specs.Stocked.{SlotView}
+use Rattle.def_iface.specs.WindowSlots.{WindowSlot}
 use Rattle.desk_call.specs.declared.activity.Activity.{Activity}
 use Rattle.desk_call.specs.declared.activity.Activity.TheVariants.{Idle, Updating, Tracking, Pulling, TrackingControl, Dragging, Growing}
 use Rattle.desk_call.specs.declared.activity.Standing.TheVariants.{Drags}
@@ -92,7 +92,7 @@ refused_drop move e before after activity (answered, rest) = record {
 }
 
 -- where what the windows show did not change, they did not
-pub unshown : {V : Type 0} {H : V → Type 0} (loan : TakenBox V H → WindowLoan) (t new : WindowManager V H) (before after : List SlotView) (old_shows shows : Part → PixelSet)
+pub unshown : {V : Type 0} {H : V → Type 0} (loan : TakenBox V H → WindowLoan) (t new : WindowManager V H) (before after : List WindowSlot) (old_shows shows : Part → PixelSet)
     → IsUnchanged (record (state_of loan t before) { desk = record (desk_of loan t before) { shows = old_shows } }) (record (state_of loan new after) { desk = record (desk_of loan new after) { shows = shows } })
     → IsUnchanged (state_of loan t before) (state_of loan new after)
 unshown loan t new before after old_shows shows same = record {
@@ -101,7 +101,7 @@ unshown loan t new before after old_shows shows same = record {
   image = same.image;
 }
 
-pub dropped_menus : {V : Type 0} {H : V → Type 0} (loan : TakenBox V H → WindowLoan) {W : Type 0} {K : W → Type 0} (menu_loan : TakenBox W K → MenuLoan) (t new : WindowManager V H) (m other : Menus W K) (kept left : List MenuSlot) (before after : List SlotView) (a : Activity)
+pub dropped_menus : {V : Type 0} {H : V → Type 0} (loan : TakenBox V H → WindowLoan) {W : Type 0} {K : W → Type 0} (menu_loan : TakenBox W K → MenuLoan) (t new : WindowManager V H) (m other : Menus W K) (kept left : List MenuSlot) (before after : List WindowSlot) (a : Activity)
     → IsUnchanged (state_of loan t before) (state_of loan new after) → other ≡ m → left ≡ kept → IsWholeMenus menu_loan t a m kept → IsWholeMenus menu_loan new a other left
 dropped_menus loan menu_loan t new m other kept left before after a same menus slots whole =
     subst (λ (x : List MenuSlot). IsWholeMenus menu_loan new a other x) (sym slots)

@@ -13,6 +13,7 @@ use Rattle.window_items.proofs.WindowLemmas.{item_index-edit_at}
 use Rattle.def_iface.specs.declared.window_def.Stage.{Stage}
 use Rattle.def_iface.specs.ControlMeaning.{ControlDefinition}
 use Rattle.def_iface.specs.Slots.{IsFull, SlotOf}
+use Rattle.def_iface.specs.Stocks.{IsControlFull}
 use Rattle.desk_call.specs.declared.activity.Activity.{Activity}
 use Rattle.desk_call.specs.declared.activity.Activity.TheVariants.{Idle, Updating, Tracking, Pulling, TrackingControl, Dragging, Growing}
 use Rattle.desk_call.specs.declared.activity.Standing.TheVariants.{TracksControl}
@@ -37,7 +38,6 @@ use Rattle.window_update.specs.UpdateSteps.{IsUpdateEffect, IsUpdateStep}
 use Rattle.window_frame.specs.Followers.{AreInformed, Knows}
 use Rattle.window_frame.specs.Followers.Flag.{Highlighting, Zooming}
 use Rattle.window_frame.specs.FrameSteps.{IsBegunAt, IsFrameEffect, IsFrameStep}
-use Rattle.control_mgr.specs.ControlClosing.{IsControlFull}
 use Rattle.control_mgr.specs.ControlDesks.{ControlDesk, ControlRecord, ControlsState, IsControlDeskUnchanged, index_of}
 use Rattle.control_mgr.specs.ControlRefusals.{control_refusals, most_controls}
 use Rattle.control_mgr.specs.ControlSteps.{AreLayersOf, IsControlEffect, IsControlStep, IsHighlighted, IsControlReleased, IsShownAnew, IsStepped, IsTracked, highlight_of, is_thumb, tested}

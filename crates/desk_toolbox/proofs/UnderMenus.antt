@@ -11,7 +11,7 @@ use Rattle.def_iface.specs.ControlMeaning.{ControlLoan}
 use Rattle.def_iface.specs.ListMeaning.{ListLoan}
 use Rattle.def_iface.specs.WindowMeaning.{WindowLoan}
 use Rattle.def_iface.specs.MenuMeaning.{MenuLoan}
-use Rattle.def_iface.specs.Stocked.{SlotView}
+use Rattle.def_iface.specs.WindowSlots.{WindowSlot}
 use Rattle.def_iface.specs.Stocks.{AllSlots}
 use Rattle.desk_call.specs.declared.control.PointInWindow.{PointInWindow}
 use Rattle.window_list.specs.declared.window.Window.{Window}
@@ -30,7 +30,7 @@ use Rattle.desk_toolbox.specs.ToolboxStates.{ToolboxState}
 use Rattle.desk_toolbox.specs.WholeToolbox.{toolbox_state}
 
 module _ {V : Type 0} {H : V → Type 0} (loan : TakenBox V H → WindowLoan) {W : Type 0} {K : W → Type 0} (menu_loan : TakenBox W K → MenuLoan) {U : Type 0} {J : U → Type 0} (control_loan : TakenBox U J → ControlLoan) {X : Type 0} {L : X → Type 0} (list_loan : TakenBox X L → ListLoan)
-    (t : Toolbox V U W X H J K L) (full : List SlotView) (whole : IsWholeManager loan t.windows full) (asked : PointInWindow) (at : ℕ) (stands : StandsAt t.windows.windows.records.items asked.window at)
+    (t : Toolbox V U W X H J K L) (full : List WindowSlot) (whole : IsWholeManager loan t.windows full) (asked : PointInWindow) (at : ℕ) (stands : StandsAt t.windows.windows.records.items asked.window at)
     (x : Window V H) (read : IsWindowAt t.windows.windows.records.items at x) where
   its_record : record_with asked.window (map (record_of loan) t.windows.windows.records.items) ≡ Some (record_of loan x)
   its_record =

@@ -8,7 +8,7 @@ use Rattle.def_iface.specs.Slots.{TakenBox}
 use Rattle.desk_layers.specs.Desk.{LayeredDesk, on_screen}
 use Rattle.def_iface.specs.WindowMeaning.{WindowLoan}
 use Rattle.desk_layers.specs.Owner.{owner}
-use Rattle.def_iface.specs.Stocked.{SlotView}
+use Rattle.def_iface.specs.WindowSlots.{WindowSlot}
 use Rattle.desk_call.specs.declared.activity.Activity.{Activity}
 use Rattle.desk_call.specs.declared.activity.Activity.TheVariants.{Idle, Updating, Tracking, Pulling, TrackingControl, Dragging, Growing}
 use Rattle.desk_call.specs.declared.activity.PulledMenu.{PulledMenu}
@@ -183,14 +183,14 @@ module _ (s : ℕ) (desk : LayeredDesk) (old new : PixelSet) (c : Choices) (stal
 -- `loan` says what a window's definition that was taken means
 module _ {V : Type 0} {H : V → Type 0} (loan : TakenBox V H → WindowLoan) where
   -- where a desk begins
-  pub updates_begin : (width height bar : ℤ) (font : List ℕ) (t : WindowManager V H) (u : Updates) (slots : List SlotView) → pos u.buffer.width ≡ width → pos u.buffer.height ≡ height → IsEmptyDesk loan width height bar font t slots → IsWholeUpdates loan Idle t u
+  pub updates_begin : (width height bar : ℤ) (font : List ℕ) (t : WindowManager V H) (u : Updates) (slots : List WindowSlot) → pos u.buffer.width ≡ width → pos u.buffer.height ≡ height → IsEmptyDesk loan width height bar font t slots → IsWholeUpdates loan Idle t u
   updates_begin width height bar font t u slots wide high empty = record {
     width = ap nat_abs (wide ∙ sym (ap (λ (d : FullDesk). d.width) empty.desk));
     height = ap nat_abs (high ∙ sym (ap (λ (d : FullDesk). d.height) empty.desk));
     choices = λ s e. absurd (subst UpdatesNone e tt);
   }
 
-  module _ (t new : WindowManager V H) (u : Updates) (before after : List SlotView) where
+  module _ (t new : WindowManager V H) (u : Updates) (before after : List WindowSlot) where
     abbrev was : FullState
     was = state_of loan t before
 

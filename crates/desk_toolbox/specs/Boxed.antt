@@ -7,7 +7,7 @@ use Rattle.def_iface.specs.declared.list_def.ListDef as list_def
 use Rattle.def_iface.specs.declared.menu_def.MenuDef as menu_def
 use Rattle.def_iface.specs.declared.stock.Stock.{Stock}
 use Rattle.def_iface.specs.declared.window_def.WindowDef as window_def
-use Rattle.def_iface.specs.Boxed.{control_loan_by, list_loan_by, menu_loan_by, slots_by, window_loan_by}
+use Rattle.def_iface.specs.Boxed.{all_slots_by, control_loan_by, list_loan_by, menu_loan_by, window_loan_by}
 use Rattle.def_iface.specs.Stocks.{AllSlots}
 use Rattle.desk_toolbox.specs.declared.toolbox.Toolbox.{Toolbox}
 use Rattle.desk_toolbox.specs.ToolboxStates.{ToolboxState}
@@ -42,10 +42,10 @@ module _ {V : Type 0} {H : V → Type 0} (window : (b : DynBox V Global H) → w
 
   -- the same three over a stock
   abbrev pub state : Toolbox V U W X H J K L → Stock V U X W H J L K → ToolboxState
-  state t stock = state_over t (slots_by window menu control list stock)
+  state t stock = state_over t (all_slots_by window menu control list stock)
 
   abbrev pub IsWhole : Toolbox V U W X H J K L → Stock V U X W H J L K → Type 0
-  IsWhole t stock = IsWholeOver t (slots_by window menu control list stock)
+  IsWhole t stock = IsWholeOver t (all_slots_by window menu control list stock)
 
   abbrev pub HasWholeManagers : Toolbox V U W X H J K L → Stock V U X W H J L K → Type 0
-  HasWholeManagers t stock = HasWholeManagersOver t (slots_by window menu control list stock)
+  HasWholeManagers t stock = HasWholeManagersOver t (all_slots_by window menu control list stock)

@@ -5,7 +5,8 @@ use Rattle.def_iface.specs.declared.window_def.Stage.TheVariants.{Live}
 use Rattle.def_iface.specs.WindowMeaning.{WindowDefinition, WindowGoesBy}
 use Rattle.def_iface.specs.WindowNews.{AllWindowNews}
 use Rattle.def_iface.specs.MenuMeaning.{MenuGoesBy}
-use Rattle.def_iface.specs.Stocked.{IsFull}
+use Rattle.def_iface.specs.WindowSlots.{IsFull}
+use Rattle.def_iface.specs.Stocks.{IsMenuFull, IsControlFull, IsListFull}
 use Rattle.event_queue.specs.Events.{is_posted}
 use Rattle.desk_call.specs.declared.activity.Activity.{Activity}
 use Rattle.desk_call.specs.declared.activity.Activity.TheVariants.{Idle, Updating, Tracking, Pulling, TrackingControl, Dragging, Growing}
@@ -13,15 +14,13 @@ use Rattle.vis_update.specs.Records.{WindowRecord, news_of}
 use Rattle.window_mgr.specs.FullDesk.{FullDesk, IsRightState}
 use Rattle.window_mgr.specs.Refused.{is_missing}
 use Rattle.window_frame.specs.Followers.{AreInformed}
-use Rattle.control_mgr.specs.ControlClosing.{IsControlFull}
 use Rattle.control_mgr.specs.ControlDesks.{ShowsControls}
 use Rattle.control_mgr.specs.InUse.{AreStocked}
 use Rattle.control_mgr.specs.WholeControls.{AreWholeControls, IsTrackable}
 use Rattle.list_mgr.specs.GivenBars.{AreBarsGiven}
-use Rattle.list_mgr.specs.ListClosing.{IsListFull}
 use Rattle.list_mgr.specs.WholeLists.{AreWholeLists}
 use Rattle.menu_list.specs.Lists.{has_number, is_in_bar}
-use Rattle.menu_mgr.specs.MenuDesks.{IsBarOf, IsMenuFull, MenuRecord, MenusState}
+use Rattle.menu_mgr.specs.MenuDesks.{IsBarOf, MenuRecord, MenusState}
 use Rattle.menu_mgr.specs.WholeMenus.{AreMenusStocked}
 use Rattle.desk_toolbox.specs.Classes.{AreClassed, IsOrdinary}
 use Rattle.desk_toolbox.specs.EventSteps.{first_events}

@@ -1,7 +1,7 @@
 //! A Toolbox, and its calls one by one and in a row.
 ghost use Rattle.std.specs.Prelude.{◌≡◌, pos, true, false, None, [], if◌then◌else◌, List, All, IfOk, IfErr, OnErr, MatchResult};
 ghost use Rattle.tb_geom.specs.Rects.{rect_holds};
-ghost use Rattle.def_iface.specs.Stocked.{SlotView, IsFull};
+ghost use Rattle.def_iface.specs.WindowSlots.{WindowSlot, IsFull};
 ghost use Rattle.def_iface.specs.Stocks.{AllSlots, AreAllFull};
 ghost use Rattle.desk_ground.specs.Screens as screens;
 ghost use Rattle.window_mgr.specs.Begin.{IsEmptyDesk};
@@ -96,7 +96,7 @@ impl Toolbox {
         bar: i32,
         font: Font,
     ) -> Result<Toolbox, NotBegun>
-        ensures begun { IfOk result (λ t. (slots : List SlotView) → All IsFull slots
+        ensures begun { IfOk result (λ t. (slots : List WindowSlot) → All IsFull slots
             → IsEmptyDesk ⟦<TakenWindow as Defined>⟧.loan width height bar font t.windows slots) }
         ensures idle { IfOk result (λ t. t.activity ≡ Idle) }
         ensures events { IfOk result (λ t. t.events ≡ first_events) }
@@ -135,7 +135,7 @@ impl Toolbox {
         requires width { pos parts.updates.buffer.width ≡ width }
         requires height { pos parts.updates.buffer.height ≡ height }
         requires menus { AreNoMenus width height parts.menus }
-        ensures begun { IfOk result (λ t. (slots : List SlotView) → All IsFull slots
+        ensures begun { IfOk result (λ t. (slots : List WindowSlot) → All IsFull slots
             → IsEmptyDesk ⟦<TakenWindow as Defined>⟧.loan width height bar font t.windows slots) }
         ensures idle { IfOk result (λ t. t.activity ≡ Idle) }
         ensures events { IfOk result (λ t. t.events ≡ parts.events) }

@@ -9,7 +9,8 @@ use tb_geom::{Point, Rect};
 
 /// The rectangle of this many columns and rows from a point on, as far as numbers of 32 bits go.
 pub fn rect_from(start: Point, width: u16, height: u16) -> Rect
-    ensures { HasNear result (λ p. between start.h p.h (start.h +ℤ pos width) && between start.v p.v (start.v +ℤ pos height)) }
+    ensures { HasNear result (λ p. between start.h p.h (start.h +ℤ pos width)
+        && between start.v p.v (start.v +ℤ pos height)) }
 {
     Rect {
         left: start.h,

@@ -21,7 +21,9 @@ impl Canvas<'_> {
         ensures same_map { self.new.map.ghost_name ≡ self.old.map.ghost_name }
         ensures same_frame { SameFrame self.old self.new }
         ensures limits { (self.old.map.now.width ≤ 32767) × (self.old.map.now.height ≤ 32767) }
-        ensures drawn { Draws (λ p. canvas_holds self.old p && (clip_holds clip.now (canvas_point self.old p) && rect_holds rect (canvas_point self.old p)))
+        ensures drawn { Draws
+            (λ p. canvas_holds self.old p && (clip_holds clip.now (canvas_point self.old p)
+            && rect_holds rect (canvas_point self.old p)))
             (λ p old. R.value rule.now (canvas_point self.old p) old)
             self.old.map.now self.new.map.now }
     {
@@ -37,7 +39,9 @@ impl Canvas<'_> {
         ensures same_map { self.new.map.ghost_name ≡ self.old.map.ghost_name }
         ensures same_frame { SameFrame self.old self.new }
         ensures limits { (self.old.map.now.width ≤ 32767) × (self.old.map.now.height ≤ 32767) }
-        ensures drawn { Draws (λ p. canvas_holds self.old p && (cut_holds cut.now (canvas_point self.old p) && rect_holds rect (canvas_point self.old p)))
+        ensures drawn { Draws
+            (λ p. canvas_holds self.old p && (cut_holds cut.now (canvas_point self.old p)
+            && rect_holds rect (canvas_point self.old p)))
             (λ p old. R.value rule.now (canvas_point self.old p) old)
             self.old.map.now self.new.map.now }
     {
@@ -47,7 +51,8 @@ impl Canvas<'_> {
 
     /// A rectangle around all pixels that the canvas has on its map, in its own coordinates.
     pub(crate) fn reach(&self) -> Rect
-        ensures around { (p : Point) → on_map self.now.map.now p ≡ true → canvas_holds self.now p ≡ true → rect_holds result (canvas_point self.now p) ≡ true }
+        ensures around { (p : Point) → on_map self.now.map.now p ≡ true → canvas_holds self.now p ≡ true
+            → rect_holds result (canvas_point self.now p) ≡ true }
         ensures limits { (self.now.map.now.width ≤ 32767) × (self.now.map.now.height ≤ 32767) }
     {
         let back = Point {
@@ -62,7 +67,9 @@ impl Canvas<'_> {
     fn draw_spans<R: Rule>(&mut self, cut: &Cut, rect: Rect, rule: &R)
         ensures same_map { self.new.map.ghost_name ≡ self.old.map.ghost_name }
         ensures same_frame { SameFrame self.old self.new }
-        ensures drawn { Draws (λ p. canvas_holds self.old p && (rect_holds rect (canvas_point self.old p) && cut_holds cut.now (canvas_point self.old p)))
+        ensures drawn { Draws
+            (λ p. canvas_holds self.old p && (rect_holds rect (canvas_point self.old p)
+            && cut_holds cut.now (canvas_point self.old p)))
             (λ p old. R.value rule.now (canvas_point self.old p) old)
             self.old.map.now self.new.map.now }
     {
@@ -94,7 +101,12 @@ fn is_below(block: Rect, span: Span) -> bool
 /// The block with one row more.
 fn grown(block: Rect) -> Rect
     requires { (block.bottom +ℤ pos 1) ≤ℤ pos 2147483647 }
-    ensures { result ≡ record { left = block.left; top = block.top; right = block.right; bottom = block.bottom +ℤ pos 1 } }
+    ensures { result ≡ record {
+      left = block.left;
+      top = block.top;
+      right = block.right;
+      bottom = block.bottom +ℤ pos 1;
+    } }
 {
     Rect {
         bottom: block.bottom + 1,

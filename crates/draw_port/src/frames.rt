@@ -17,7 +17,9 @@ impl Canvas<'_> {
     pub(crate) fn draw_frame(&mut self, clip: &Option<Region>, rect: Rect, shade: &Shade)
         ensures same_map { self.new.map.ghost_name ≡ self.old.map.ghost_name }
         ensures same_frame { SameFrame self.old self.new }
-        ensures drawn { Draws (λ p. canvas_holds self.old p && (clip_holds clip.now (canvas_point self.old p) && frame_holds rect (canvas_point self.old p)))
+        ensures drawn { Draws
+            (λ p. canvas_holds self.old p && (clip_holds clip.now (canvas_point self.old p)
+            && frame_holds rect (canvas_point self.old p)))
             (λ p old. shade_value shade.now (canvas_point self.old p) old)
             self.old.map.now self.new.map.now }
     {

@@ -85,7 +85,8 @@ impl Canvas<'_> {
         requires { length text.now ≤ 65535 }
         ensures same_map { self.new.map.ghost_name ≡ self.old.map.ghost_name }
         ensures same_frame { SameFrame self.old self.new }
-        ensures drawn { Draws (λ p. canvas_holds self.old p && text_holds self.old.font.now text.now pen (canvas_point self.old p))
+        ensures drawn { Draws (λ p. canvas_holds self.old p && text_holds self.old.font.now text.now pen
+            (canvas_point self.old p))
             (λ p old. mode_bit mode true old)
             self.old.map.now self.new.map.now }
     {
@@ -119,7 +120,8 @@ impl Canvas<'_> {
     pub fn paint_all(&mut self, picture: &Picture)
         ensures same_map { self.new.map.ghost_name ≡ self.old.map.ghost_name }
         ensures same_frame { SameFrame self.old self.new }
-        ensures drawn { Draws (canvas_holds self.old) (painted_all self.old picture.now) self.old.map.now self.new.map.now }
+        ensures drawn { Draws (canvas_holds self.old) (painted_all self.old picture.now) self.old.map.now
+            self.new.map.now }
     {
         for op in picture.ops() {
             self.paint(op);
@@ -130,7 +132,8 @@ impl Canvas<'_> {
     pub fn paint_picture(&mut self, picture: &Picture)
         ensures same_map { self.new.map.ghost_name ≡ self.old.map.ghost_name }
         ensures same_frame { SameFrame self.old self.new }
-        ensures drawn { Draws (canvas_holds self.old) (pictured self.old picture.now) self.old.map.now self.new.map.now }
+        ensures drawn { Draws (canvas_holds self.old) (pictured self.old picture.now) self.old.map.now
+            self.new.map.now }
     {
         self.draw_within(self.clip, &White);
         self.paint_all(picture);
@@ -140,8 +143,11 @@ impl Canvas<'_> {
     fn draw_rows(&mut self, clip: &Option<Region>, rows: &RowsOfBits)
         ensures same_map { self.new.map.ghost_name ≡ self.old.map.ghost_name }
         ensures same_frame { SameFrame self.old self.new }
-        ensures drawn { Draws (λ p. canvas_holds self.old p && (clip_holds clip.now (canvas_point self.old p) && image_holds (image_of rows.now) (minus (canvas_point self.old p) rows.now.place)))
-            (λ p old. mode_bit rows.now.mode (image_bit (image_of rows.now) (minus (canvas_point self.old p) rows.now.place)) old)
+        ensures drawn { Draws
+            (λ p. canvas_holds self.old p && (clip_holds clip.now (canvas_point self.old p)
+            && image_holds (image_of rows.now) (minus (canvas_point self.old p) rows.now.place)))
+            (λ p old. mode_bit rows.now.mode (image_bit (image_of rows.now)
+            (minus (canvas_point self.old p) rows.now.place)) old)
             self.old.map.now self.new.map.now }
     {
         let image = BitImage::new(rows.width, rows.height, rows.rows.as_slice());
@@ -158,7 +164,9 @@ impl Canvas<'_> {
     fn draw_region<'r>(&mut self, clip: &'r Option<Region>, region: &'r Region, shade: &Shade)
         ensures same_map { self.new.map.ghost_name ≡ self.old.map.ghost_name }
         ensures same_frame { SameFrame self.old self.new }
-        ensures drawn { Draws (λ p. canvas_holds self.old p && (clip_holds clip.now (canvas_point self.old p) && holds region.now (canvas_point self.old p)))
+        ensures drawn { Draws
+            (λ p. canvas_holds self.old p && (clip_holds clip.now (canvas_point self.old p)
+            && holds region.now (canvas_point self.old p)))
             (λ p old. shade_value shade.now (canvas_point self.old p) old)
             self.old.map.now self.new.map.now }
     {

@@ -1,5 +1,6 @@
 //! Drawing texts, by tiles of 512 columns and 16 rows.
-ghost use Rattle.std.specs.Prelude.{◌≡◌, false, ℕ, ℤ, List, ◌≤◌, ◌≤ℤ◌, ◌<ℤ◌, ◌-ℤ◌, ◌+ℤ◌, pos, true, ◌&&◌, ◌*◌, length, if◌then◌else◌};
+ghost use Rattle.std.specs.Prelude.{◌≡◌, false, ℕ, ℤ, List, ◌≤◌, ◌≤ℤ◌, ◌<ℤ◌, ◌-ℤ◌, ◌+ℤ◌, pos, true, ◌&&◌, ◌*◌, length};
+ghost use Rattle.std.specs.Prelude.{if◌then◌else◌};
 ghost use Rattle.tb_geom.specs.declared.point.Point.{Point};
 ghost use Rattle.tb_geom.specs.Rects.{rect_holds};
 ghost use Rattle.bit_map.specs.Modes.{mode_bit};
@@ -51,7 +52,8 @@ impl Canvas<'_> {
         ensures same_map { self.new.map.ghost_name ≡ self.old.map.ghost_name }
         ensures same_frame { SameFrame self.old self.new }
         ensures drawn { Draws (λ p. canvas_holds self.old p && rect_holds rect (canvas_point self.old p))
-            (λ p old. put_value self.old.font.now put.now.clip.now put.now.text.now put.now.pen put.now.mode (canvas_point self.old p) old)
+            (λ p old. put_value self.old.font.now put.now.clip.now put.now.text.now put.now.pen put.now.mode
+            (canvas_point self.old p) old)
             self.old.map.now self.new.map.now }
     {
         let mut top = rect.top;
@@ -75,7 +77,8 @@ impl Canvas<'_> {
         ensures same_map { self.new.map.ghost_name ≡ self.old.map.ghost_name }
         ensures same_frame { SameFrame self.old self.new }
         ensures drawn { Draws (λ p. canvas_holds self.old p && rect_holds rect (canvas_point self.old p))
-            (λ p old. put_value self.old.font.now put.now.clip.now put.now.text.now put.now.pen put.now.mode (canvas_point self.old p) old)
+            (λ p old. put_value self.old.font.now put.now.clip.now put.now.text.now put.now.pen put.now.mode
+            (canvas_point self.old p) old)
             self.old.map.now self.new.map.now }
     {
         let mut left = rect.left;
@@ -100,7 +103,8 @@ impl Canvas<'_> {
         ensures same_map { self.new.map.ghost_name ≡ self.old.map.ghost_name }
         ensures same_frame { SameFrame self.old self.new }
         ensures drawn { Draws (λ p. canvas_holds self.old p && rect_holds rect (canvas_point self.old p))
-            (λ p old. put_value self.old.font.now put.now.clip.now put.now.text.now put.now.pen put.now.mode (canvas_point self.old p) old)
+            (λ p old. put_value self.old.font.now put.now.clip.now put.now.text.now put.now.pen put.now.mode
+            (canvas_point self.old p) old)
             self.old.map.now self.new.map.now }
     {
         let place = Point {
@@ -136,7 +140,8 @@ fn around(font: &Font, text: &[u8], pen: Point, end: i32) -> Rect
 
 /// The rows of any text whose pen starts at `pen`, from the first column on in which it may have a pixel.
 fn band(font: &Font, pen: Point) -> Rect
-    ensures { (text : List ℕ) (p : Point) → is_far p ≡ false → text_holds font.now text pen p ≡ true → rect_holds result p ≡ true }
+    ensures { (text : List ℕ) (p : Point) → is_far p ≡ false → text_holds font.now text pen p ≡ true
+        → rect_holds result p ≡ true }
 {
     let top = pen.v.saturating_sub(i32::from(font.ascent()));
     Rect {
@@ -174,7 +179,8 @@ struct PutTile<'a> {
 }
 
 impl Rule for PutTile<'_> {
-    ghost value = { λ t p old. if tile_bit t.tile.now (p.h -ℤ t.place.h) (p.v -ℤ t.place.v) then mode_bit t.mode true old else old };
+    ghost value = { λ t p old. if tile_bit t.tile.now (p.h -ℤ t.place.h) (p.v -ℤ t.place.v)
+        then mode_bit t.mode true old else old };
 
     fn value(&self, point: Point, old: bool) -> bool {
         let x = difference(point.h, self.place.h);

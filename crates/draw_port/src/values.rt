@@ -4,7 +4,8 @@ ghost use Rattle.tb_geom.specs.Points.{minus};
 ghost use Rattle.tb_geom.specs.Rects.{between, rect_holds};
 ghost use Rattle.bit_map.specs.Images.{image_holds, image_bit};
 ghost use Rattle.bit_map.specs.Modes.{mode_bit};
-ghost use Rattle.draw_port.specs.Ops.{is_end, frame_holds, row_holds, column_holds, run_holds, image_of, text_mode, shade_value, shape_holds, shape_value, clip_holds, op_value};
+ghost use Rattle.draw_port.specs.Ops.{is_end, frame_holds, row_holds, column_holds, run_holds, image_of, text_mode};
+ghost use Rattle.draw_port.specs.Ops.{shade_value, shape_holds, shape_value, clip_holds, op_value};
 
 use crate::shapes::{Line, Op, RowsOfBits, Shade, Shape, TextMode, TextRun};
 use bit_blit::{Copied, Rule};

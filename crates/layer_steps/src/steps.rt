@@ -1,6 +1,6 @@
 //! Calls, carried out by the library and by the model, and what both then have.
 ghost use Rattle.std.specs.Prelude.{◌<◌, All, IfOk, length};
-ghost use Rattle.def_iface.specs.Stocked.{IsFull};
+ghost use Rattle.def_iface.specs.WindowSlots.{IsFull};
 ghost use Rattle.window_mgr.specs.Whole.{IsWholeManager};
 ghost use Rattle.window_update.specs.WholeUpdates.{IsWholeUpdates};
 

@@ -1,7 +1,7 @@
 //! The tests: steps in a row, after each of which the library and the model agree.
 
 ghost use Rattle.std.specs.Prelude.{All, IfOk};
-ghost use Rattle.def_iface.specs.Stocked.{IsFull};
+ghost use Rattle.def_iface.specs.WindowSlots.{IsFull};
 
 use def_iface::{Size, Stocked, WindowDef, WindowStock};
 use desk_layers::Part;

@@ -94,7 +94,14 @@ impl BitsRef<'_> {
     fn to_rows(&self, alloc: Global) -> Result<RowsOfBits, AllocError>
         requires wide { (pos 0 ≤ℤ self.now.width) × (self.now.width ≤ℤ pos 256) }
         requires high { (pos 0 ≤ℤ self.now.height) × (self.now.height ≤ℤ pos 256) }
-        ensures { IfOk result (λ rows. rows ≡ record { place = self.now.place; width = nat_abs self.now.width; height = nat_abs self.now.height; mode = self.now.mode; rows = self.now.rows }) }
+        ensures { IfOk result
+            (λ rows. rows ≡ record {
+              place = self.now.place;
+              width = nat_abs self.now.width;
+              height = nat_abs self.now.height;
+              mode = self.now.mode;
+              rows = self.now.rows;
+            }) }
     {
         Ok(RowsOfBits {
             place: self.place,

@@ -1,5 +1,6 @@
 //! What a cell holds, and rows of it.
-ghost use Rattle.std.specs.Prelude.{◌≡◌, ◌≤◌, ◌<◌, ◌^◌, ◌+◌, ◌*◌, ◌++◌, [], is_ok, if◌then◌else◌, min, IfSome, replicate, length, vec_len, vec_capacity};
+ghost use Rattle.std.specs.Prelude.{◌≡◌, ◌≤◌, ◌<◌, ◌^◌, ◌+◌, ◌*◌, ◌++◌, [], is_ok, if◌then◌else◌, min, IfSome};
+ghost use Rattle.std.specs.Prelude.{replicate, length, vec_len, vec_capacity};
 ghost use Rattle.std.specs.List.{position_from};
 ghost use Rattle.std.specs.Str.{bytes_eq};
 ghost use Rattle.list_cells.specs.Contents.{empty_content, passed, opened, closed, in_rows, bytes_held};

@@ -78,7 +78,8 @@ impl ListCells {
     /// It is refused as `delete_rows` is.
     pub fn delete_columns(&mut self, count: i32, first: i32) -> Result<(), Refusal>
         ensures cells { self.new ≡ (if is_ok result
-            then columns_deleted (nat_abs first) (count_to_delete self.old.columns count first) self.old else self.old) }
+            then columns_deleted (nat_abs first) (count_to_delete self.old.columns count first) self.old
+            else self.old) }
         ensures allowed { IfOk result (λ _. first_refusal (delete_refusals self.old.columns count first) ≡ None) }
         ensures refused { IfErr result (λ e. first_refusal (delete_refusals self.old.columns count first) ≡ Some e) }
     {

@@ -1,5 +1,6 @@
 //! The cells of a list.
-ghost use Rattle.std.specs.Prelude.{◌≡◌, ◌≤◌, ◌+◌, ◌*◌, ◌<◌, ◌^◌, ◌++◌, [], length, IfOk, IfErr, MatchResult, is_ok, pos, ◌<ℤ◌, nat_abs, None, Some, if◌then◌else◌};
+ghost use Rattle.std.specs.Prelude.{◌≡◌, ◌≤◌, ◌+◌, ◌*◌, ◌<◌, ◌^◌, ◌++◌, [], length, IfOk, IfErr, MatchResult, is_ok};
+ghost use Rattle.std.specs.Prelude.{pos, ◌<ℤ◌, nat_abs, None, Some, if◌then◌else◌};
 ghost use Rattle.tb_geom.specs.Refusals.{first_refusal};
 ghost use Rattle.list_cells.specs.Runs.{new_refusals, told};
 ghost use Rattle.list_cells.specs.Grids.{is_cell, place_of, content_of, empty_grid, with_bytes, is_too_long, data_refusals};

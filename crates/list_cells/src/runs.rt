@@ -1,5 +1,6 @@
 //! Rows of lines, which are rows or columns of a list.
-ghost use Rattle.std.specs.Prelude.{◌≡◌, ◌≤◌, ◌+◌, ◌*◌, ◌<◌, IfOk, IfErr, IfSome, MatchResult, pos, nat_abs, if◌then◌else◌, int_le, None, Some};
+ghost use Rattle.std.specs.Prelude.{◌≡◌, ◌≤◌, ◌+◌, ◌*◌, ◌<◌, IfOk, IfErr, IfSome, MatchResult, pos, nat_abs};
+ghost use Rattle.std.specs.Prelude.{if◌then◌else◌, int_le, None, Some};
 ghost use Rattle.tb_geom.specs.Refusals.{first_refusal};
 ghost use Rattle.list_cells.specs.Runs.{is_count, is_side, new_refusals, add_refusals, delete_refusals, place_to_add, count_to_delete};
 

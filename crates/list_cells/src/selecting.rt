@@ -2,7 +2,8 @@
 ghost use Rattle.std.specs.Prelude.{◌≡◌, ◌<◌, ◌*◌, ℕ, IfSome, is_some, length, true};
 ghost use Rattle.list_cells.specs.Blocks.{content_at, clicked, clicked_cell};
 ghost use Rattle.list_cells.specs.Grids.{Grid, is_cell};
-ghost use Rattle.list_cells.specs.Selections.{alone, beside_others, is_selected_after, content_after, chosen_cell, is_toggled, IsSelecting, IsChange, AreToggled};
+ghost use Rattle.list_cells.specs.Selections.{alone, beside_others, is_selected_after, content_after, chosen_cell};
+ghost use Rattle.list_cells.specs.Selections.{is_toggled, IsSelecting, IsChange, AreToggled};
 
 use crate::block::{Block, smallest_block};
 use crate::cell::Cell;

@@ -15,7 +15,7 @@ use Rattle.desk_layers.specs.declared.part.Part.TheVariants as part
 use Rattle.def_iface.specs.Slots.{TakenBox}
 use Rattle.def_iface.specs.ListMeaning.{ListLoan}
 use Rattle.def_iface.specs.WindowMeaning.{WindowLoan}
-use Rattle.def_iface.specs.Stocked.{SlotView}
+use Rattle.def_iface.specs.WindowSlots.{WindowSlot}
 use Rattle.desk_layers.proofs.Owning.{same_number}
 use Rattle.list_cells.specs.Grids.{Grid}
 use Rattle.window_items.specs.declared.item.Item.{Item}
@@ -91,7 +91,7 @@ module _ {V : Type 0} {H : V → Type 0} (loan : TakenBox V H → WindowLoan) {X
   lists_same : (kept : List ListSlot) → lists_state list_loan n kept ≡ lists_state list_loan m kept
   lists_same kept = λ i. record { lists = same i; next = next i; stock = kept }
 
-  pub unchanged_so : (o : Opened) (slots : List SlotView) (cs : ControlsState) (kept : List ListSlot)
+  pub unchanged_so : (o : Opened) (slots : List WindowSlot) (cs : ControlsState) (kept : List ListSlot)
       → IsListDeskUnchanged (list_desk list_loan loan t o slots cs m kept) (list_desk list_loan loan t o slots cs n kept)
   unchanged_so o slots cs kept = record {
     desk = record {
@@ -182,7 +182,7 @@ module _ {V : Type 0} {H : V → Type 0} (loan : TakenBox V H → WindowLoan) {X
         ∙ ap (λ k. holds a.update p || (holds a.visible p && belongs_to (part.List k) w.layers.layers (minus p w.layers.place))) serial,
   )
 
-  pub changed_to : (u : WindowManager V H) (o : Opened) (slots : List SlotView) (cs : ControlsState) (kept : List ListSlot)
+  pub changed_to : (u : WindowManager V H) (o : Opened) (slots : List WindowSlot) (cs : ControlsState) (kept : List ListSlot)
       → IsChangedTo l f (list_desk list_loan loan t o slots cs m kept) (list_desk list_loan loan u o slots cs n kept)
   changed_to u o slots cs kept = record { at = s.list; found = is.list; lists = lists_are kept; beside = record { controls = refl; activity = record { activity = refl; begun = refl } } }
 
@@ -265,7 +265,7 @@ grows_off loan list_loan l t m s is (x, there, off) kept =
 -- what a call leaves is a step of another kind as well
 pub changed_as : {V : Type 0} {H : V → Type 0} (loan : TakenBox V H → WindowLoan) {X : Type 0} {L : X → Type 0} (list_loan : TakenBox X L → ListLoan)
     (t u : WindowManager V H) (m n : Lists (TakenBox X L)) (P Q : ListDesk → ListDesk → Type 0)
-    → ((o : Opened) (slots : List SlotView) (cs : ControlsState) (kept : List ListSlot) → P (list_desk list_loan loan t o slots cs m kept) (list_desk list_loan loan u o slots cs n kept)
+    → ((o : Opened) (slots : List WindowSlot) (cs : ControlsState) (kept : List ListSlot) → P (list_desk list_loan loan t o slots cs m kept) (list_desk list_loan loan u o slots cs n kept)
     → Q (list_desk list_loan loan t o slots cs m kept) (list_desk list_loan loan u o slots cs n kept))
     → IsChangedOver list_loan loan P t m u n → IsChangedOver list_loan loan Q t m u n
 changed_as loan list_loan t u m n P Q same over o slots cs kept whole lists = again (over o slots cs kept whole lists)
@@ -279,7 +279,7 @@ changed_as loan list_loan t u m n P Q same over o slots cs kept whole lists = ag
 -- so where the screen was right
 pub right_as : {V : Type 0} {H : V → Type 0} (loan : TakenBox V H → WindowLoan) {X : Type 0} {L : X → Type 0} (list_loan : TakenBox X L → ListLoan)
     (t u : WindowManager V H) (m n : Lists (TakenBox X L)) (P Q : ListDesk → ListDesk → Type 0)
-    → ((o : Opened) (slots : List SlotView) (cs : ControlsState) (kept : List ListSlot) → P (list_desk list_loan loan t o slots cs m kept) (list_desk list_loan loan u o slots cs n kept)
+    → ((o : Opened) (slots : List WindowSlot) (cs : ControlsState) (kept : List ListSlot) → P (list_desk list_loan loan t o slots cs m kept) (list_desk list_loan loan u o slots cs n kept)
     → Q (list_desk list_loan loan t o slots cs m kept) (list_desk list_loan loan u o slots cs n kept))
     → IsChangedOver list_loan loan (IsWhereRight P) t m u n → IsChangedOver list_loan loan (IsWhereRight Q) t m u n
 right_as loan list_loan t u m n P Q same = changed_as loan list_loan t u m n (IsWhereRight P) (IsWhereRight Q) (λ o slots cs kept made right. same o slots cs kept (made right))

@@ -10,7 +10,7 @@ use Rattle.def_iface.specs.ControlMeaning.{is_control_size}
 use Rattle.def_iface.specs.ListMeaning.{IsListBegun, ListDefinition, ListLoan}
 use Rattle.def_iface.specs.WindowMeaning.{WindowLoan}
 use Rattle.def_iface.specs.Slots.{IsTaken, TakenBox}
-use Rattle.def_iface.specs.Stocked.{SlotView}
+use Rattle.def_iface.specs.WindowSlots.{WindowSlot}
 use Rattle.desk_layers.proofs.Owning.{same_number}
 use Rattle.window_list.specs.declared.layer.Layer.{Layer}
 use Rattle.window_list.specs.Holders.{PlacedLayers}
@@ -119,7 +119,7 @@ module _ {V : Type 0} {H : V → Type 0} (loan : TakenBox V H → WindowLoan) {X
     settled_put beside = All-more IsSettledList (records_of list_loan m) one beside.whole.settled (new_settled n ready.place.good k.serial slot k.flags vertical horizontal old begun live)
 
     module _ (u : WindowManager V H) (m' : Lists (TakenBox X L)) (lists_are : records_of list_loan m' ≡ records_of list_loan m ++ one ∷ []) (next_is : m'.list.next ≡ serial_after k.serial)
-        (set : (w : Window V H) → IsWindowAt t.windows.records.items k.window w → (q : Option Part) → IsPartAt layers (Some p.laid.at) q → (was : List ℕ → Part → PixelSet) (slots : List SlotView) → IsWholeManager loan t slots
+        (set : (w : Window V H) → IsWindowAt t.windows.records.items k.window w → (q : Option Part) → IsPartAt layers (Some p.laid.at) q → (was : List ℕ → Part → PixelSet) (slots : List WindowSlot) → IsWholeManager loan t slots
         → IsWholeManager loan u slots × AreLayersSet w.serial layers q (state_showing was (state_of loan t slots)) (state_showing (lists_show (records_of list_loan m')) (state_of loan u slots))) where
       -- what was drawn afresh is the list, which shows the same with the controls and without
       same_list : (cs : ControlsState) (font : List ℕ) (q : Part) → Some (part.List k.serial) ≡ Some q → (r : _)

@@ -12,7 +12,7 @@ use Rattle.def_iface.specs.Slots.{TakenBox}
 use Rattle.def_iface.specs.ControlMeaning.{ControlLoan}
 use Rattle.def_iface.specs.ListMeaning.{ListLoan}
 use Rattle.def_iface.specs.WindowMeaning.{WindowLoan}
-use Rattle.def_iface.specs.Stocked.{SlotView}
+use Rattle.def_iface.specs.WindowSlots.{WindowSlot}
 use Rattle.window_list.specs.declared.layer.Layer.{Layer}
 use Rattle.window_list.specs.declared.layers.Relaid.{Relaid}
 use Rattle.window_list.specs.LayerChanges.{is_gained}
@@ -120,7 +120,7 @@ module _ {V : Type 0} {H : V → Type 0} (loan : TakenBox V H → WindowLoan) {X
       module _ (r : Relaying) (n : Lists (TakenBox X L)) (x : Item (ListRecord (TakenBox X L))) (x_there : slice_get m.list.items.items s.list ≡ Some x)
           (lists_are : n.list.items.items ≡ remove m.list.items.items s.list) (next_is : n.list.next ≡ m.list.next)
           (t1 : WindowManager V H) (put : AreLayersPut at relaid.layers r.update t t1)
-          (set : (v : Window V H) → IsWindowAt t.windows.records.items at v → (q : Option Part) → IsPartAt relaid.layers.layers None q → (was : List ℕ → Part → PixelSet) (slots : List SlotView) → IsWholeManager loan t slots
+          (set : (v : Window V H) → IsWindowAt t.windows.records.items at v → (q : Option Part) → IsPartAt relaid.layers.layers None q → (was : List ℕ → Part → PixelSet) (slots : List WindowSlot) → IsWholeManager loan t slots
           → IsWholeManager loan t1 slots × AreLayersSet v.serial relaid.layers.layers q (state_showing was (state_of loan t slots)) (state_showing (lists_show (records_of list_loan n)) (state_of loan t1 slots)))
           (c : Controls (TakenBox W K)) (held : List ControlSlot) (controls : AreWholeControls (desk_of loan t []).windows (controls_state control_loan c held))
           (stock : List ListSlot) (lists : AreWholeLists (desk_of loan t []).windows (lists_state list_loan m stock)) where
@@ -131,7 +131,7 @@ module _ {V : Type 0} {H : V → Type 0} (loan : TakenBox V H → WindowLoan) {X
         kept_first = record { slots = kept.slots; whole = (set w lies None refl (λ font. all_white) kept.slots kept.whole).0 }
 
         -- it was set so, whatever the controls show
-        layers_set : (was : List ℕ → Part → PixelSet) (slots : List SlotView) → IsWholeManager loan t slots
+        layers_set : (was : List ℕ → Part → PixelSet) (slots : List WindowSlot) → IsWholeManager loan t slots
             → AreLayersSet l.window relaid.layers.layers None (state_showing was (state_of loan t slots)) (state_showing (controls_show (lists_show (records_of list_loan n)) (controls_kept control_loan c)) (state_of loan t1 slots))
         layers_set was slots whole =
             let done = set w lies None refl was slots whole in
@@ -190,7 +190,7 @@ module _ {V : Type 0} {H : V → Type 0} (loan : TakenBox V H → WindowLoan) {X
               (λ i. (sym (ap (λ (d : FullDesk). d.windows) (layers_set (λ font. all_white) kept.slots kept.whole).desk) i, sym state_is i))
               (whole_gone s.list l.window (seen list_loan x) relaid.layers.layers (desk_of loan t []).windows (lists_state list_loan m stock) rest lists seen_x here shut lists_left)
 
-          list_gone : (o : Opened) (slots : List SlotView) → IsWholeManager loan t slots
+          list_gone : (o : Opened) (slots : List WindowSlot) → IsWholeManager loan t slots
               → IsListGone l (seen list_loan x) (desk_beside control_loan loan t o slots c held (lists_state list_loan m stock)) (desk_beside control_loan loan t1 o slots c held (lists_state list_loan n rest))
           list_gone o slots whole = record {
             at = s.list;

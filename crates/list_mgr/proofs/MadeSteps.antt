@@ -10,7 +10,7 @@ use Rattle.def_iface.specs.Slots.{TakenBox}
 use Rattle.def_iface.specs.ControlMeaning.{ControlLoan}
 use Rattle.def_iface.specs.ListMeaning.{ListDefinition, ListLoan}
 use Rattle.def_iface.specs.WindowMeaning.{WindowLoan}
-use Rattle.def_iface.specs.Stocked.{SlotView}
+use Rattle.def_iface.specs.WindowSlots.{WindowSlot}
 use Rattle.list_mgr.specs.Seen.{all_seen}
 use Rattle.desk_call.specs.declared.list.ListCall.TheVariants.{New}
 use Rattle.desk_call.specs.declared.list.ListReply.TheVariants as reply
@@ -44,7 +44,7 @@ module _ {V : Type 0} {H : V → Type 0} (loan : TakenBox V H → WindowLoan) {W
   -- ---- where nothing but room changed
 
   -- windows with these controls and these lists, as a desk
-  abbrev desk_from : WindowManager V H → Opened → List SlotView → ControlsState → ListsState → ListDesk
+  abbrev desk_from : WindowManager V H → Opened → List WindowSlot → ControlsState → ListsState → ListDesk
   desk_from t o slots cs ls = record {
     desk = desk_with o (state_showing (controls_show (lists_show ls.lists) cs.controls) (state_of loan t slots));
     controls = cs;

@@ -14,7 +14,7 @@ use Rattle.def_iface.specs.WindowMeaning.{WindowLoan}
 use Rattle.desk_layers.specs.Owner.{Owner, is_content, owner, same_owner}
 use Rattle.desk_layers.specs.Owner.Owner.{Content}
 use Rattle.desk_layers.specs.Scratch.{scratch}
-use Rattle.def_iface.specs.Stocked.{SlotView}
+use Rattle.def_iface.specs.WindowSlots.{WindowSlot}
 use Rattle.desk_layers.proofs.Owning.{same_number, same_owner-true}
 use Rattle.window_list.specs.Holders.{belongs_to}
 use Rattle.vis_update.specs.declared.area.Area.{Area}
@@ -71,7 +71,7 @@ module _ {V : Type 0} {H : V → Type 0} (loan : TakenBox V H → WindowLoan) (t
           ∙ (λ i. (area_is loan t kept.slots kept.whole at low w lies a read).update p i || (e i && belongs_to q w.layers.layers (minus p w.layers.place)))
           ∙ (λ i. (e i && stale_in t.areas.items p) || false)) ∙ on))
 
-  module _ (slots : List SlotView) (whole : IsWholeManager loan t slots) (is : List ℕ → Part → PixelSet) where
+  module _ (slots : List WindowSlot) (whole : IsWholeManager loan t slots) (is : List ℕ → Part → PixelSet) where
     -- the part is content of the window
     of_window : (o : Owner) (p : Point) → same_owner o (Content w.serial q) ≡ true → is_content_of w.serial o ≡ true
     of_window o p e = ap (is_content_of w.serial) (same_owner-true o (Content w.serial q) e) ∙ same_number w.serial

@@ -5,7 +5,7 @@ use Rattle.def_iface.specs.Slots.{TakenBox}
 use Rattle.def_iface.specs.ControlMeaning.{ControlLoan}
 use Rattle.def_iface.specs.ListMeaning.{ListLoan}
 use Rattle.def_iface.specs.WindowMeaning.{WindowLoan}
-use Rattle.def_iface.specs.Stocked.{SlotView}
+use Rattle.def_iface.specs.WindowSlots.{WindowSlot}
 use Rattle.list_cells.specs.Grids.{empty_grid}
 use Rattle.window_items.specs.Items.{count_of}
 use Rattle.list_mgr.specs.Seen.{all_seen}
@@ -69,7 +69,7 @@ module _ {V : Type 0} {H : V → Type 0} (loan : TakenBox V H → WindowLoan) {X
     lists_same : (kept : List ListSlot) → lists_state list_loan m' kept ≡ lists_state list_loan m kept
     lists_same kept = λ i. record { lists = all_seen list_loan (same.lists i); next = same.next i; stock = kept }
 
-    desk_same : (t : WindowManager V H) (o : Opened) (slots : List SlotView) (cs : ControlsState) (kept : List ListSlot) → list_desk list_loan loan t o slots cs m' kept ≡ list_desk list_loan loan t o slots cs m kept
+    desk_same : (t : WindowManager V H) (o : Opened) (slots : List WindowSlot) (cs : ControlsState) (kept : List ListSlot) → list_desk list_loan loan t o slots cs m' kept ≡ list_desk list_loan loan t o slots cs m kept
     desk_same t o slots cs kept = λ i. record {
       desk = desk_with o (state_showing (controls_show (lists_show (lists_same kept i).lists) cs.controls) (state_of loan t slots));
       controls = cs;
@@ -121,13 +121,13 @@ module _ {V : Type 0} {H : V → Type 0} (loan : TakenBox V H → WindowLoan) {X
     -- ---- one bar
 
     -- what a bar that is made leaves of the lists, and that it was made
-    pub record IsBarDone (new : NewControl) (bar : ℕ) (t u : WindowManager V H) (o : Opened) (slots : List SlotView) (c d : Controls (TakenBox W K)) (held left : List ControlSlot) (m : Lists (TakenBox X L)) (kept : List ListSlot) : Type 0 where
+    pub record IsBarDone (new : NewControl) (bar : ℕ) (t u : WindowManager V H) (o : Opened) (slots : List WindowSlot) (c d : Controls (TakenBox W K)) (held left : List ControlSlot) (m : Lists (TakenBox X L)) (kept : List ListSlot) : Type 0 where
       pub windows : IsWholeManager loan u slots
       pub controls : AreWholeControls (desk_of loan u []).windows (controls_state control_loan d left)
       pub lists : AreWholeLists (desk_of loan u []).windows (lists_state list_loan m kept)
       pub made : IsBarMade true new (Some bar) (list_desk list_loan loan t o slots (controls_state control_loan c held) m kept) (list_desk list_loan loan u o slots (controls_state control_loan d left) m kept)
 
-    pub bar_done : (new : NewControl) (bar : ℕ) (t u : WindowManager V H) (o : Opened) (slots : List SlotView) (c d : Controls (TakenBox W K)) (held left : List ControlSlot) (m : Lists (TakenBox X L)) (kept : List ListSlot)
+    pub bar_done : (new : NewControl) (bar : ℕ) (t u : WindowManager V H) (o : Opened) (slots : List WindowSlot) (c d : Controls (TakenBox W K)) (held left : List ControlSlot) (m : Lists (TakenBox X L)) (kept : List ListSlot)
         → control_records.LeavesOver control_loan loan held left (IsControlStep (control_calls.New new) (Ok (control_reply.Made bar))) t o c u o d
         → IsWholeManager loan t slots → AreWholeControls (desk_of loan t []).windows (controls_state control_loan c held) → AreWholeLists (desk_of loan t []).windows (lists_state list_loan m kept)
         → IsBarDone new bar t u o slots c d held left m kept

@@ -10,7 +10,7 @@ use Rattle.def_iface.specs.Slots.{TakenBox}
 use Rattle.def_iface.specs.ControlMeaning.{ControlLoan}
 use Rattle.def_iface.specs.ListMeaning.{ListLoan}
 use Rattle.def_iface.specs.WindowMeaning.{WindowLoan}
-use Rattle.def_iface.specs.Stocked.{SlotView}
+use Rattle.def_iface.specs.WindowSlots.{WindowSlot}
 use Rattle.window_items.specs.Items.{edit_at}
 use Rattle.desk_call.specs.declared.list.ListOf.{ListOf}
 use Rattle.vis_update.specs.Records.{WindowRecord, record_of}
@@ -60,7 +60,7 @@ stands_alike loan ws vs same s i stands =
 module _ {V : Type 0} {H : V → Type 0} (loan : TakenBox V H → WindowLoan) {X : Type 0} {L : X → Type 0} (list_loan : TakenBox X L → ListLoan) where
   -- what shows a list or marks it keeps the windows' records
   shown_windows : (within : Rect) (mark : Option Pixels) (changes : Bool) (s : ListAt) (m : Lists (TakenBox X L)) (t u : WindowManager V H) → IsShownOrMarked list_loan loan within mark changes s m t u
-      → (x : KeptList) → slice_get (records_of list_loan m) s.list ≡ Some x → (slots : List SlotView) → IsWholeManager loan t slots
+      → (x : KeptList) → slice_get (records_of list_loan m) s.list ≡ Some x → (slots : List WindowSlot) → IsWholeManager loan t slots
       → IsWholeManager loan u slots × ((desk_of loan u []).windows ≡ (desk_of loan t []).windows)
   shown_windows within None changes s m t u shown x there slots whole =
       let shows = lists_show (records_of list_loan m) in
@@ -177,7 +177,7 @@ module _ {V : Type 0} {H : V → Type 0} (loan : TakenBox V H → WindowLoan) {X
 
   -- what a call leaves is a step of another kind as well
   pub leaves_as : (P Q : ListDesk → ListDesk → Type 0) (t u : WindowManager V H) (m n : Lists (TakenBox X L)) (c d : Controls (TakenBox W K))
-      → ((o : Opened) (slots : List SlotView) (held : List ControlSlot) (kept : List ListSlot)
+      → ((o : Opened) (slots : List WindowSlot) (held : List ControlSlot) (kept : List ListSlot)
       → P (list_desk list_loan loan t o slots (controls_state control_loan c held) m kept) (list_desk list_loan loan u o slots (controls_state control_loan d held) n kept)
       → Q (list_desk list_loan loan t o slots (controls_state control_loan c held) m kept) (list_desk list_loan loan u o slots (controls_state control_loan d held) n kept))
       → LeavesLists list_loan loan control_loan P t c m u d n → LeavesLists list_loan loan control_loan Q t c m u d n

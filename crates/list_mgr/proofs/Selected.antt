@@ -10,7 +10,7 @@ use Rattle.desk_layers.specs.declared.part.Part.TheVariants as part
 use Rattle.def_iface.specs.Slots.{TakenBox}
 use Rattle.def_iface.specs.ListMeaning.{ListLoan}
 use Rattle.def_iface.specs.WindowMeaning.{WindowLoan}
-use Rattle.def_iface.specs.Stocked.{SlotView}
+use Rattle.def_iface.specs.WindowSlots.{WindowSlot}
 use Rattle.list_cells.specs.declared.click.SelectionFlags.{SelectionFlags}
 use Rattle.list_cells.specs.declared.selecting.Selecting.{Selecting}
 use Rattle.list_cells.specs.Contents.{empty_content}
@@ -154,7 +154,7 @@ module _ {V : Type 0} {H : V → Type 0} (loan : TakenBox V H → WindowLoan) {X
       drawn : y.kept.drawing ≡ false
       drawn = ap (λ (k : KeptList). k.kept.drawing) (same_item (records_of list_loan m) s.list y z y_there there) ∙ off
 
-      convert : (o : Opened) (slots : List SlotView) (cs : ControlsState) (kept : List ListSlot) → IsListChanged l (with_grid g) (list_desk list_loan loan t o slots cs m kept) (list_desk list_loan loan u o slots cs n kept)
+      convert : (o : Opened) (slots : List WindowSlot) (cs : ControlsState) (kept : List ListSlot) → IsListChanged l (with_grid g) (list_desk list_loan loan t o slots cs m kept) (list_desk list_loan loan u o slots cs n kept)
           → IsSelectionChanged l h (list_desk list_loan loan t o slots cs m kept) (list_desk list_loan loan u o slots cs n kept)
       convert o slots cs kept (k, named, changed) =
           let both : Some k ≡ Some y = sym named ∙ list_named loan list_loan l t m s is y y_there in

@@ -10,7 +10,7 @@ use Rattle.desk_layers.specs.declared.part.Part.TheVariants as part
 use Rattle.def_iface.specs.Slots.{TakenBox}
 use Rattle.def_iface.specs.ListMeaning.{ListLoan}
 use Rattle.def_iface.specs.WindowMeaning.{WindowLoan}
-use Rattle.def_iface.specs.Stocked.{SlotView}
+use Rattle.def_iface.specs.WindowSlots.{WindowSlot}
 use Rattle.window_list.specs.declared.layer.Layer.{Layer}
 use Rattle.window_list.specs.Holders.{belongs_to}
 use Rattle.vis_update.specs.declared.area.Area.{Area}
@@ -73,7 +73,7 @@ module _ {V : Type 0} {H : V → Type 0} (loan : TakenBox V H → WindowLoan) {X
 
     -- where its layer was drawn within a rectangle it was
     pub drawn_by : (within : Rect) (layer : ℕ) → ((w : Window V H) → IsWindowAt t.windows.records.items s.window w → IsItsLayer list_loan m s w.layers.layers layer) → (u : WindowManager V H)
-        → ((w : Window V H) → IsWindowAt t.windows.records.items s.window w → (l : Layer) → l ≡ get_or w.layers.layers layer l → (was : List ℕ → Part → PixelSet) (slots : List SlotView)
+        → ((w : Window V H) → IsWindowAt t.windows.records.items s.window w → (l : Layer) → l ≡ get_or w.layers.layers layer l → (was : List ℕ → Part → PixelSet) (slots : List WindowSlot)
         → IsWholeManager loan t slots → IsWholeManager loan u slots
         × IsLayerDrawnWithin within w.serial l (state_showing was (state_of loan t slots)) (state_showing (lists_show (records_of list_loan m)) (state_of loan u slots)))
         → IsDrawnBy list_loan loan within m x t u
@@ -104,7 +104,7 @@ module _ {V : Type 0} {H : V → Type 0} (loan : TakenBox V H → WindowLoan) {X
 
     -- what was inverted of its layer was inverted of it
     pub toggled_by : (layer : ℕ) → ((w : Window V H) → IsWindowAt t.windows.records.items s.window w → IsItsLayer list_loan m s w.layers.layers layer) → (toggles : List ℕ → PixelSet) (u : WindowManager V H)
-        → ((w : Window V H) → IsWindowAt t.windows.records.items s.window w → (l : Layer) → l ≡ get_or w.layers.layers layer l → (was is : List ℕ → Part → PixelSet) (slots : List SlotView)
+        → ((w : Window V H) → IsWindowAt t.windows.records.items s.window w → (l : Layer) → l ≡ get_or w.layers.layers layer l → (was is : List ℕ → Part → PixelSet) (slots : List WindowSlot)
         → IsWholeManager loan t slots → IsWholeManager loan u slots
         × IsLayerToggled w.serial w.place l.part toggles (state_showing was (state_of loan t slots)) (state_showing is (state_of loan u slots)))
         → (w : Window V H) → IsWindowAt t.windows.records.items s.window w → (was is : List ℕ → Part → PixelSet) → LeavesShown list_loan loan (IsLayerToggled x.window w.place (part.List x.serial) toggles) was is t u

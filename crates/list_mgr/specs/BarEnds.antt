@@ -4,7 +4,7 @@ use Rattle.tb_geom.specs.Pixels.{Pixels}
 use Rattle.def_iface.specs.Slots.{TakenBox}
 use Rattle.def_iface.specs.ControlMeaning.{ControlLoan}
 use Rattle.def_iface.specs.WindowMeaning.{WindowLoan}
-use Rattle.def_iface.specs.Stocked.{SlotView}
+use Rattle.def_iface.specs.WindowSlots.{WindowSlot}
 use Rattle.window_list.specs.Holders.{PlacedLayers}
 use Rattle.desk_call.specs.declared.control.ControlOf.{ControlOf}
 use Rattle.window_mgr.specs.declared.manager.WindowManager.{WindowManager}
@@ -40,7 +40,7 @@ module _ {W : Type 0} {K : W → Type 0} (control_loan : TakenBox W K → Contro
 
   -- over any slots over which the windows are whole, and whatever the lists, a scroll bar is there no more
   abbrev pub IsBarGoneOver : List ControlSlot → List ControlSlot → ℕ → Option ℕ → WindowManager V H → Controls (TakenBox W K) → WindowManager V H → Controls (TakenBox W K) → Type 0
-  IsBarGoneOver held left window bar t c u d = (o : Opened) (slots : List SlotView) (lists : ListsState) → IsWholeManager loan t slots
+  IsBarGoneOver held left window bar t c u d = (o : Opened) (slots : List WindowSlot) (lists : ListsState) → IsWholeManager loan t slots
       → AreWholeControls (desk_of loan t []).windows (controls_state control_loan c held)
       → IsWholeManager loan u slots × AreWholeControls (desk_of loan u []).windows (controls_state control_loan d left)
       × IsBarGone window bar (desk_beside control_loan loan t o slots c held lists) (desk_beside control_loan loan u o slots d left lists)

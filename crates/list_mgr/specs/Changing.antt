@@ -9,7 +9,7 @@ use Rattle.desk_layers.specs.declared.part.Part.TheVariants as part
 use Rattle.def_iface.specs.Slots.{TakenBox}
 use Rattle.def_iface.specs.ListMeaning.{ListLoan}
 use Rattle.def_iface.specs.WindowMeaning.{WindowLoan}
-use Rattle.def_iface.specs.Stocked.{SlotView}
+use Rattle.def_iface.specs.WindowSlots.{WindowSlot}
 use Rattle.window_list.specs.declared.layer.Layer.{Layer}
 use Rattle.list_cells.specs.declared.selecting.Selecting.{Selecting}
 use Rattle.list_cells.specs.Selections.{IsChange, selected_by}
@@ -62,7 +62,7 @@ module _ {X : Type 0} {L : X → Type 0} (list_loan : TakenBox X L → ListLoan)
     -- over any slots over which the windows are whole, and whatever controls and lists showed, they are whole afterwards, and this
     -- is what became of their state, where lists and other layers show that now
     abbrev pub LeavesShown : (FullState → FullState → Type 0) → (was is : List ℕ → Part → PixelSet) → WindowManager V H → WindowManager V H → Type 0
-    LeavesShown step was is t u = (slots : List SlotView) → IsWholeManager loan t slots
+    LeavesShown step was is t u = (slots : List WindowSlot) → IsWholeManager loan t slots
         → IsWholeManager loan u slots × step (state_showing was (state_of loan t slots)) (state_showing is (state_of loan u slots))
 
     -- what it leaves of the windows that the list x, which may have changed, is drawn within a rectangle of its window

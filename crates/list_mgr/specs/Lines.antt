@@ -7,7 +7,7 @@ use Rattle.def_iface.specs.Slots.{TakenBox}
 use Rattle.def_iface.specs.ControlMeaning.{ControlLoan}
 use Rattle.def_iface.specs.ListMeaning.{ListLoan}
 use Rattle.def_iface.specs.WindowMeaning.{WindowLoan}
-use Rattle.def_iface.specs.Stocked.{SlotView}
+use Rattle.def_iface.specs.WindowSlots.{WindowSlot}
 use Rattle.desk_call.specs.declared.list.ListOf.{ListOf}
 use Rattle.window_mgr.specs.declared.manager.WindowManager.{WindowManager}
 use Rattle.window_mgr.specs.DeskStates.{Opened}
@@ -27,7 +27,7 @@ use Rattle.list_mgr.specs.Within.{IsBarGiven, IsWhereRight}
 
 module _ {W : Type 0} {K : W → Type 0} (control_loan : TakenBox W K → ControlLoan) {V : Type 0} {H : V → Type 0} (loan : TakenBox V H → WindowLoan) where
   -- windows and controls with these lists, as a desk
-  abbrev pub desk_beside : WindowManager V H → Opened → List SlotView → Controls (TakenBox W K) → List ControlSlot → ListsState → ListDesk
+  abbrev pub desk_beside : WindowManager V H → Opened → List WindowSlot → Controls (TakenBox W K) → List ControlSlot → ListsState → ListDesk
   desk_beside t o slots c held lists = record {
     desk = (control_desk control_loan loan (lists_show lists.lists) t o slots c held).desk;
     controls = controls_state control_loan c held;
@@ -36,7 +36,7 @@ module _ {W : Type 0} {K : W → Type 0} (control_loan : TakenBox W K → Contro
 
   -- over any slots over which the windows are whole, and whatever the lists, a scroll bar got a setting that a list was made with
   abbrev pub IsBarSetOver : ℕ → Option ℕ → Setting → WindowManager V H → Controls (TakenBox W K) → WindowManager V H → Controls (TakenBox W K) → Type 0
-  IsBarSetOver window bar setting t c u d = (o : Opened) (slots : List SlotView) (held : List ControlSlot) (lists : ListsState) → IsWholeManager loan t slots
+  IsBarSetOver window bar setting t c u d = (o : Opened) (slots : List WindowSlot) (held : List ControlSlot) (lists : ListsState) → IsWholeManager loan t slots
       → AreWholeControls (desk_of loan t []).windows (controls_state control_loan c held)
       → IsWholeManager loan u slots × AreWholeControls (desk_of loan u []).windows (controls_state control_loan d held)
       × IsBarGiven window bar setting (desk_beside t o slots c held lists) (desk_beside u o slots d held lists)

@@ -2,7 +2,6 @@
 use Rattle.std.specs.Prelude.{ℕ, List}
 use Rattle.def_iface.specs.declared.window_def.Stage.{Stage}
 use Rattle.def_iface.specs.ListMeaning.{ListDefinition, ListLoan, SameListLook}
-use Rattle.def_iface.specs.Slots.{IsFull}
 use Rattle.control_mgr.specs.ItemsClosing as closing
 use Rattle.list_mgr.specs.declared.list_record.ListRecord.{ListRecord}
 use Rattle.list_mgr.specs.ListDesks.{KeptList, ListSlot, ListsState}
@@ -14,10 +13,6 @@ stage_of d = d.stage
 -- the definition that a list has out of its slot
 abbrev pub loan_of : ListRecord ListLoan → ListLoan
 loan_of l = l.definition
-
--- a slot with a definition that no desk uses
-abbrev pub IsListFull : ListSlot → Type 0
-IsListFull s = IsFull stage_of s
 
 -- the desk's lists, which are these, were disposed of: every slot has a definition that no desk uses
 abbrev pub AreAllListsClosed : List KeptList → List ListSlot → List ListSlot → Type 0

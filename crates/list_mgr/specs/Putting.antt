@@ -9,7 +9,7 @@ use Rattle.desk_layers.specs.Desk.{same_part}
 use Rattle.def_iface.specs.ListMeaning.{ListLoan}
 use Rattle.def_iface.specs.WindowMeaning.{WindowLoan}
 use Rattle.def_iface.specs.Slots.{IsTaken, TakenBox}
-use Rattle.def_iface.specs.Stocked.{SlotView}
+use Rattle.def_iface.specs.WindowSlots.{WindowSlot}
 use Rattle.window_list.specs.declared.layer.Layer.{Layer}
 use Rattle.window_list.specs.Holders.{ArePartsApart, PlacedLayers}
 use Rattle.list_cells.specs.Clicks.{flags_number}
@@ -108,7 +108,7 @@ module _ {X : Type 0} {L : X → Type 0} (list_loan : TakenBox X L → ListLoan)
   -- are whole afterwards, the controls as they were, and together they are such a step of the desk
   abbrev pub LeavesBeside : List ListSlot → List ListSlot → (ListDesk → ListDesk → Type 0)
       → WindowManager V H → Lists (TakenBox X L) → WindowManager V H → Lists (TakenBox X L) → Type 0
-  LeavesBeside kept rest step t m u n = (o : Opened) (slots : List SlotView) (cs : ControlsState) → IsWholeManager loan t slots
+  LeavesBeside kept rest step t m u n = (o : Opened) (slots : List WindowSlot) (cs : ControlsState) → IsWholeManager loan t slots
       → AreWholeControls (desk_of loan t []).windows cs → AreWholeLists (desk_of loan t []).windows (lists_state list_loan m kept)
       → IsWholeManager loan u slots × AreWholeControls (desk_of loan u []).windows cs
       × AreWholeLists (desk_of loan u []).windows (lists_state list_loan n rest)

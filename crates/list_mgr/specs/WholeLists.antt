@@ -7,7 +7,7 @@ use Rattle.def_iface.specs.declared.window_def.Stage.TheVariants.{Live}
 use Rattle.def_iface.specs.ControlMeaning.{ControlLoan}
 use Rattle.def_iface.specs.ListMeaning.{ListDefinition, ListGoesBy, ListLoan}
 use Rattle.def_iface.specs.WindowMeaning.{WindowLoan}
-use Rattle.def_iface.specs.Stocked.{SlotView}
+use Rattle.def_iface.specs.WindowSlots.{WindowSlot}
 use Rattle.list_cells.specs.Contents.{bytes_held}
 use Rattle.list_cells.specs.Grids.{Grid, IsGrid}
 use Rattle.window_items.specs.Items.{AreApart, are_before, count_of, items_of}
@@ -98,7 +98,7 @@ module _ {X : Type 0} {L : X → Type 0} (list_loan : TakenBox X L → ListLoan)
       pub whole : AreWholeLists (desk_of loan t []).windows (lists_state m slots)
 
     -- windows, controls and lists with what is open, as a desk
-    abbrev pub list_desk : WindowManager V H → Opened → List SlotView → ControlsState → Lists (TakenBox X L) → List ListSlot → ListDesk
+    abbrev pub list_desk : WindowManager V H → Opened → List WindowSlot → ControlsState → Lists (TakenBox X L) → List ListSlot → ListDesk
     list_desk t o slots cs m kept = record {
       desk = desk_with o (state_showing (controls_show (lists_show (records_of m)) cs.controls) (state_of loan t slots));
       controls = cs;
@@ -108,14 +108,14 @@ module _ {X : Type 0} {L : X → Type 0} (list_loan : TakenBox X L → ListLoan)
     -- a call that asks something changes nothing: over any slots over which windows and lists are whole, and whatever the controls,
     -- together they are such a step of the desk
     abbrev pub IsToldOver : (ListDesk → ListDesk → Type 0) → WindowManager V H → Lists (TakenBox X L) → Type 0
-    IsToldOver step t m = (o : Opened) (slots : List SlotView) (cs : ControlsState) (kept : List ListSlot) → IsWholeManager loan t slots
+    IsToldOver step t m = (o : Opened) (slots : List WindowSlot) (cs : ControlsState) (kept : List ListSlot) → IsWholeManager loan t slots
         → AreWholeLists (desk_of loan t []).windows (lists_state m kept)
         → step (list_desk t o slots cs m kept) (list_desk t o slots cs m kept)
 
     -- a call that leaves the windows' records, controls and stocks: over any slots over which windows and lists are whole, and
     -- whatever the controls, they are whole afterwards, and together they are such a step of the desk
     abbrev pub IsChangedOver : (ListDesk → ListDesk → Type 0) → WindowManager V H → Lists (TakenBox X L) → WindowManager V H → Lists (TakenBox X L) → Type 0
-    IsChangedOver step t m u n = (o : Opened) (slots : List SlotView) (cs : ControlsState) (kept : List ListSlot) → IsWholeManager loan t slots
+    IsChangedOver step t m u n = (o : Opened) (slots : List WindowSlot) (cs : ControlsState) (kept : List ListSlot) → IsWholeManager loan t slots
         → AreWholeLists (desk_of loan t []).windows (lists_state m kept)
         → IsWholeManager loan u slots × ((desk_of loan u []).windows ≡ (desk_of loan t []).windows)
         × AreWholeLists (desk_of loan u []).windows (lists_state n kept)
@@ -128,7 +128,7 @@ module _ {X : Type 0} {L : X → Type 0} (list_loan : TakenBox X L → ListLoan)
       abbrev pub LeavesOver : List ControlSlot → List ControlSlot → List ListSlot → List ListSlot → (ListDesk → ListDesk → Type 0)
           → WindowManager V H → Controls (TakenBox W K) → Lists (TakenBox X L)
           → WindowManager V H → Controls (TakenBox W K) → Lists (TakenBox X L) → Type 0
-      LeavesOver held left kept rest step t c m u d n = (o : Opened) (slots : List SlotView) → IsWholeManager loan t slots
+      LeavesOver held left kept rest step t c m u d n = (o : Opened) (slots : List WindowSlot) → IsWholeManager loan t slots
           → AreWholeControls (desk_of loan t []).windows (controls_state control_loan c held)
           → AreWholeLists (desk_of loan t []).windows (lists_state m kept)
           → IsWholeManager loan u slots

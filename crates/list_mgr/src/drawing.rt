@@ -1,11 +1,9 @@
 //! What windows show of lists, and of controls and lists together.
-ghost use Rattle.std.specs.Prelude.{◌≡◌, ◌<◌, true, length, slice_get, IfSome};
-ghost use Rattle.std.specs.List.{position};
+ghost use Rattle.std.specs.Prelude.{◌≡◌, ◌<◌, true, length, slice_get};
 ghost use Rattle.tb_geom.specs.Rects.{in_plane};
 ghost use Rattle.bit_blit.specs.Draws.{Draws};
 ghost use Rattle.draw_port.specs.Canvases.{canvas_holds, canvas_point, SameFrame};
 ghost use Rattle.control_mgr.specs.Seen.{all_seen as all_controls_seen};
-ghost use Rattle.window_items.specs.Items.{has_serial};
 ghost use Rattle.list_mgr.specs.Seen.{all_seen};
 ghost use Rattle.control_mgr.specs.ControlDesks.{controls_show};
 ghost use Rattle.control_mgr.specs.Settled.{AreSettled as AreControlsSettled};
@@ -27,25 +25,12 @@ impl<D: DrawnList> Showing for Lists<D> {
 
     fn draw(&self, part: Part, canvas: &mut Canvas<'_>) {
         match part {
-            Part::List(serial) => match self.with_serial(serial) {
+            Part::List(serial) => match self.list.with_serial(serial) {
                 Some(at) => self.draw_at(at, canvas),
                 None => canvas.fill_all(Pattern::WHITE, Mode::Copy),
             },
             _ => canvas.fill_all(Pattern::WHITE, Mode::Copy),
         }
-    }
-}
-
-impl<D> Lists<D> {
-    /// Where the list of this serial stands among all, if there is one.
-    fn with_serial(&self, serial: u64) -> Option<usize>
-        ensures first { result ≡ position (has_serial serial) self.now.list.items.items }
-        ensures within { IfSome result (λ at. at < length self.now.list.items.items) }
-    {
-        self.list
-            .items
-            .iter()
-            .position(|list| list.serial == serial)
     }
 }
 

@@ -7,12 +7,13 @@ use Rattle.std.proofs.lemmas.Option.{slice_get-get_or}
 use Rattle.def_iface.specs.declared.window_def.Stage.TheVariants.{Live}
 use Rattle.def_iface.specs.MenuMeaning.{MenuLoan}
 use Rattle.def_iface.specs.Slots.{is_left, TakenBox}
+use Rattle.def_iface.specs.Stocks.{IsMenuFull}
 use Rattle.menu_list.specs.declared.listed.Listed.{Listed}
 use Rattle.menu_list.specs.Seen.{seen}
 use Rattle.menu_list.proofs.SeenLemmas.{append-seen}
 use Rattle.window_mgr.proofs.SlotLemmas.{get-set_other, map-set}
 use Rattle.menu_mgr.specs.MenuClosing.{IsMenuClosedAt, AreMenusClosed}
-use Rattle.menu_mgr.specs.MenuDesks.{IsMenuFull, MenuRecord, MenuSlot}
+use Rattle.menu_mgr.specs.MenuDesks.{MenuRecord, MenuSlot}
 use Rattle.menu_mgr.specs.MenuSteps.{IsMenuShut}
 use Rattle.menu_mgr.specs.WholeMenus.{uses, IsUsedBy, AreMenusStocked, AreLive, menus_of}
 use Rattle.menu_mgr.proofs.Stocks.{use_of, uses-append, live-front, IsEmptyFor, slot_of, slot_is_left, Shut, shut_facts, shut_is_full, stocked_without}

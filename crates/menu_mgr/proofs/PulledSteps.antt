@@ -10,7 +10,7 @@ use Rattle.tb_geom.specs.Refusals.{first_refusal}
 use Rattle.def_iface.specs.Slots.{TakenBox}
 use Rattle.def_iface.specs.WindowMeaning.{WindowLoan}
 use Rattle.def_iface.specs.MenuMeaning.{MenuLoan, is_menu_size}
-use Rattle.def_iface.specs.Stocked.{SlotView}
+use Rattle.def_iface.specs.WindowSlots.{WindowSlot}
 use Rattle.menu_list.specs.declared.listed.Listed.{Listed}
 use Rattle.menu_list.specs.Lists.{menu_index, menu_with, titles_of}
 use Rattle.menu_list.specs.Seen.{seen}
@@ -69,7 +69,7 @@ module _ {V : Type 0} {H : V → Type 0} (loan : TakenBox V H → WindowLoan) {W
 
   -- ---- the menu bar shows other titles
 
-  pub shown : (t u : WindowManager V H) (m n : Menus W K) (o q : Opened) (slots : List SlotView) (kept : List MenuSlot) (items : List (Listed (TakenBox W K))) (h : Option ℕ)
+  pub shown : (t u : WindowManager V H) (m n : Menus W K) (o q : Opened) (slots : List WindowSlot) (kept : List MenuSlot) (items : List (Listed (TakenBox W K))) (h : Option ℕ)
       → n.list.menus.items ≡ items → n.list.highlighted ≡ h → IsBarShown (titles_of h items) (state_of loan t slots) (state_of loan u slots)
       → AreMenusShown (menus_of menu_loan items) h kept (menu_desk menu_loan loan t o slots m kept) (menu_desk menu_loan loan u q slots n kept)
   shown t u m n o q slots kept items h same lit bar = record {

@@ -4,7 +4,7 @@ use Rattle.std.specs.Prelude.{pos, vec_capacity}
 use Rattle.def_iface.specs.Slots.{TakenBox}
 use Rattle.def_iface.specs.WindowMeaning.{WindowLoan}
 use Rattle.def_iface.specs.MenuMeaning.{MenuLoan}
-use Rattle.def_iface.specs.Stocked.{SlotView}
+use Rattle.def_iface.specs.WindowSlots.{WindowSlot}
 use Rattle.desk_ground.specs.declared.titles.BarTitle.{BarTitle}
 use Rattle.menu_list.specs.Lists.{titles_of}
 use Rattle.menu_list.proofs.SeenLemmas.{length-seen, titles_of-seen}
@@ -26,7 +26,7 @@ pos_is m n e = cc
 
 module _ {V : Type 0} {H : V → Type 0} (loan : TakenBox V H → WindowLoan) where
   -- it leaves the screen's sides and the font
-  module _ (titles : List BarTitle) (t u : WindowManager V H) (slots : List SlotView) (shown : IsBarShown titles (state_of loan t slots) (state_of loan u slots)) where
+  module _ (titles : List BarTitle) (t u : WindowManager V H) (slots : List WindowSlot) (shown : IsBarShown titles (state_of loan t slots) (state_of loan u slots)) where
     pub shown_width : u.screen.width ≡ t.screen.width
     shown_width = pos_is u.screen.width t.screen.width (ap (λ (d : FullDesk). d.width) shown.desk)
 
@@ -38,7 +38,7 @@ module _ {V : Type 0} {H : V → Type 0} (loan : TakenBox V H → WindowLoan) wh
 
   module _ {W : Type 0} {K : W → Type 0} (menu_loan : TakenBox W K → MenuLoan) where
     -- the menus that the code keeps are these as plain data, and the bar shows them
-    pub menus_shown : (ls : List MenuRecord) (highlighted : Option ℕ) (t u : WindowManager V H) (o r : Opened) (slots : List SlotView) (m n : Menus W K) (before after : List MenuSlot)
+    pub menus_shown : (ls : List MenuRecord) (highlighted : Option ℕ) (t u : WindowManager V H) (o r : Opened) (slots : List WindowSlot) (m n : Menus W K) (before after : List MenuSlot)
         → menus_of menu_loan n.list.menus.items ≡ ls → n.list.highlighted ≡ highlighted
         → IsBarShown (titles_of n.list.highlighted n.list.menus.items) (state_of loan t slots) (state_of loan u slots)
         → AreMenusShown ls highlighted after (menu_desk menu_loan loan t o slots m before) (menu_desk menu_loan loan u r slots n after)
@@ -68,7 +68,7 @@ module _ {V : Type 0} {H : V → Type 0} (loan : TakenBox V H → WindowLoan) wh
         enough a b h k = omega arith
 
     -- so are they where the menu bar was shown
-    pub whole_again : (titles : List BarTitle) (t u : WindowManager V H) (slots : List SlotView) (m n : Menus W K) (before after : List MenuSlot)
+    pub whole_again : (titles : List BarTitle) (t u : WindowManager V H) (slots : List WindowSlot) (m n : Menus W K) (before after : List MenuSlot)
         → IsBarShown titles (state_of loan t slots) (state_of loan u slots) → IsWholeMenus menu_loan t Idle m before → IsAsRoomy m n
         → length (menus_of menu_loan n.list.menus.items) ≤ 16 → AreLive (menus_of menu_loan n.list.menus.items)
         → AreMenusStocked (menus_of menu_loan n.list.menus.items) after → IsWholeMenus menu_loan u Idle n after

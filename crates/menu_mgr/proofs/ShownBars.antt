@@ -6,7 +6,7 @@ use Rattle.bit_map.specs.Bits.{bit, on_map}
 use Rattle.bit_blit.specs.Draws.{Draws}
 use Rattle.def_iface.specs.Slots.{TakenBox}
 use Rattle.def_iface.specs.WindowMeaning.{WindowLoan}
-use Rattle.def_iface.specs.Stocked.{SlotView}
+use Rattle.def_iface.specs.WindowSlots.{WindowSlot}
 use Rattle.desk_layers.specs.Desk.{on_screen}
 use Rattle.desk_layers.specs.Owner.{owner_among, own_bit, is_content}
 use Rattle.desk_layers.specs.Owner.Owner.{Bar}
@@ -27,7 +27,7 @@ pub record IsAsLarge {V : Type 0} {H : V → Type 0} (t u : WindowManager V H) :
   pub height : u.screen.height ≡ t.screen.height
 
 module _ {V : Type 0} {H : V → Type 0} (loan : TakenBox V H → WindowLoan) (t u : WindowManager V H) where
-  pub as_large : (slots : List SlotView) (titles : List BarTitle) → IsBarShown titles (state_of loan t slots) (state_of loan u slots) → IsAsLarge t u
+  pub as_large : (slots : List WindowSlot) (titles : List BarTitle) → IsBarShown titles (state_of loan t slots) (state_of loan u slots) → IsAsLarge t u
   as_large slots titles bar =
       let w : pos u.screen.width ≡ pos t.screen.width = ap (λ (d : FullDesk). d.width) bar.desk in
       let h : pos u.screen.height ≡ pos t.screen.height = ap (λ (d : FullDesk). d.height) bar.desk in
@@ -39,12 +39,12 @@ module _ {V : Type 0} {H : V → Type 0} (loan : TakenBox V H → WindowLoan) (t
       let done = shown slots whole in (done.0, subst (λ x. IsBarShown x (state_of loan t slots) (state_of loan u slots)) same done.1)
 
 module _ {V : Type 0} {H : V → Type 0} (loan : TakenBox V H → WindowLoan) (t : WindowManager V H) where
-  on_screen_is : (slots : List SlotView) (p : Point) → on_screen (layered_desk (desk_of loan t slots)) p ≡ on_map t.screen p
+  on_screen_is : (slots : List WindowSlot) (p : Point) → on_screen (layered_desk (desk_of loan t slots)) p ≡ on_map t.screen p
   unfolding on_map
   on_screen_is slots p = λ i. between-is_below t.screen.width p.h i && between-is_below t.screen.height p.v i
 
   -- the menu bar shows its own titles between calls: to draw it once more changes no pixel
-  drawn_again : (slots : List SlotView) → IsWholeManager loan t slots → Draws (λ p. int_lt p.v t.bar.rows) (λ p _. bar_picture t.font t.bar.titles p) t.screen t.screen
+  drawn_again : (slots : List WindowSlot) → IsWholeManager loan t slots → Draws (λ p. int_lt p.v t.bar.rows) (λ p _. bar_picture t.font t.bar.titles p) t.screen t.screen
   drawn_again slots whole = record { width = refl; height = refl; pixels = λ p on. by_bar p on (int_lt p.v t.bar.rows) refl }
     where
       by_bar : (p : Point) → on_map t.screen p ≡ true → (b : Bool) → int_lt p.v t.bar.rows ≡ b

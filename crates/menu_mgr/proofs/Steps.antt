@@ -9,7 +9,7 @@ use Rattle.tb_geom.specs.Refusals.{first_refusal}
 use Rattle.def_iface.specs.Slots.{TakenBox}
 use Rattle.def_iface.specs.WindowMeaning.{WindowLoan}
 use Rattle.def_iface.specs.MenuMeaning.{MenuLoan}
-use Rattle.def_iface.specs.Stocked.{SlotView}
+use Rattle.def_iface.specs.WindowSlots.{WindowSlot}
 use Rattle.menu_list.specs.declared.listed.Listed.{Listed}
 use Rattle.menu_list.specs.Lists.{menu_index, titles_of}
 use Rattle.menu_list.proofs.SeenLemmas.{length-seen, menu_index-seen}
@@ -118,12 +118,12 @@ module _ {W : Type 0} {K : W → Type 0} (menu_loan : TakenBox W K → MenuLoan)
 
 module _ {V : Type 0} {H : V → Type 0} (loan : TakenBox V H → WindowLoan) {W : Type 0} {K : W → Type 0} (menu_loan : TakenBox W K → MenuLoan) where
   -- windows and menus are whole, and this step led to them
-  abbrev Leaves : MenuCall → Result MenuReply Refusal → List SlotView → WindowManager V H → WindowManager V H → Opened → Opened → Menus W K → Menus W K → List MenuSlot → List MenuSlot → Type 0
+  abbrev Leaves : MenuCall → Result MenuReply Refusal → List WindowSlot → WindowManager V H → WindowManager V H → Opened → Opened → Menus W K → Menus W K → List MenuSlot → List MenuSlot → Type 0
   Leaves call result slots t u o r m n before after =
       IsWholeManager loan u slots × IsWholeMenus menu_loan u r.activity n after
       × IsMenuStep call result (menu_desk menu_loan loan t o slots m before) (menu_desk menu_loan loan u r slots n after)
 
-  unchanged : (t : WindowManager V H) (o : Opened) (slots : List SlotView) (m n : Menus W K) (before after : List MenuSlot)
+  unchanged : (t : WindowManager V H) (o : Opened) (slots : List WindowSlot) (m n : Menus W K) (before after : List MenuSlot)
       → menus_state menu_loan n after ≡ menus_state menu_loan m before
       → IsMenuDeskUnchanged (menu_desk menu_loan loan t o slots m before) (menu_desk menu_loan loan t o slots n after)
   unchanged t o slots m n before after same = record {
@@ -132,7 +132,7 @@ module _ {V : Type 0} {H : V → Type 0} (loan : TakenBox V H → WindowLoan) {W
   }
 
   -- a refused call changes nothing
-  pub refused_step : (call : MenuCall) (e : Refusal) (slots : List SlotView) (t : WindowManager V H) (o : Opened) (m n : Menus W K) (before after : List MenuSlot)
+  pub refused_step : (call : MenuCall) (e : Refusal) (slots : List WindowSlot) (t : WindowManager V H) (o : Opened) (m n : Menus W K) (before after : List MenuSlot)
       → IsWholeManager loan t slots → IsWholeMenus menu_loan t o.activity m before
       → first_refusal (menu_refusals call (menus_state menu_loan m before)) ≡ Some e → n ≡ m → after ≡ before
       → Leaves call (Err e) slots t t o o m n before after
@@ -144,7 +144,7 @@ module _ {V : Type 0} {H : V → Type 0} (loan : TakenBox V H → WindowLoan) {W
 
   -- ---- calls that change menus as data
 
-  module _ (call : MenuCall) (is : is_edit call ≡ true) (slots : List SlotView) (t u : WindowManager V H) (begun : PixelSet) (m n : Menus W K) (kept : List MenuSlot)
+  module _ (call : MenuCall) (is : is_edit call ≡ true) (slots : List WindowSlot) (t u : WindowManager V H) (begun : PixelSet) (m n : Menus W K) (kept : List MenuSlot)
       (menus : IsWholeMenus menu_loan t Idle m kept) (alloc : n.alloc ≡ m.alloc) (overlay : n.overlay ≡ m.overlay) where
     pub edited_step : (answer : MenuReply) → IsEdit call (Ok answer) m.list n.list
         → IsWholeManager loan u slots × IsBarShown (titles_of n.list.highlighted n.list.menus.items) (state_of loan t slots) (state_of loan u slots)
@@ -195,7 +195,7 @@ module _ {V : Type 0} {H : V → Type 0} (loan : TakenBox V H → WindowLoan) {W
 
   -- ---- menus that are made and ended
 
-  module _ (slots : List SlotView) (t u : WindowManager V H) (begun : PixelSet) (m n : Menus W K) (kept after : List MenuSlot)
+  module _ (slots : List WindowSlot) (t u : WindowManager V H) (begun : PixelSet) (m n : Menus W K) (kept after : List MenuSlot)
       (menus : IsWholeMenus menu_loan t Idle m kept)
       (windows : IsWholeManager loan u slots × IsBarShown (titles_of n.list.highlighted n.list.menus.items) (state_of loan t slots) (state_of loan u slots)) where
     pub made_step : (new : NewMenu) (answer : MenuReply) → IsMadeOrRefused menu_loan new (Ok answer) m n kept after
@@ -265,7 +265,7 @@ module _ {V : Type 0} {H : V → Type 0} (loan : TakenBox V H → WindowLoan) {W
     ended_step id (Some at) answer is (done, ended) = ended_at id at answer is done ended
 
   -- there is no menu to be ended
-  pub no_menu_step : (id : ℤ) (o : Option ℕ) (e : Refusal) (slots : List SlotView) (t : WindowManager V H) (begun : PixelSet) (m n : Menus W K) (kept after : List MenuSlot)
+  pub no_menu_step : (id : ℤ) (o : Option ℕ) (e : Refusal) (slots : List WindowSlot) (t : WindowManager V H) (begun : PixelSet) (m n : Menus W K) (kept after : List MenuSlot)
       → menu_index id m.list.menus.items ≡ o → IsWholeManager loan t slots → IsWholeMenus menu_loan t Idle m kept → IsEndedIfThere menu_loan o (Err e) m n kept after
       → Leaves (Dispose id) (Err e) slots t t (opened Idle begun) (opened Idle begun) m n kept after
   no_menu_step id None e slots t begun m n kept after is windows menus (refused, same, left) =

@@ -9,9 +9,10 @@ use Rattle.std.proofs.lemmas.List.Elements.{All-head, All-tail}
 use Rattle.def_iface.specs.declared.window_def.Stage.TheVariants.{Live, Closed}
 use Rattle.def_iface.specs.MenuMeaning.{MenuDefinition, MenuLoan}
 use Rattle.def_iface.specs.Slots.{IsFull, IsTaken, holding, is_left}
+use Rattle.def_iface.specs.Stocks.{IsMenuFull}
 use Rattle.menu_list.specs.Lists.{edit_at, has_number, moved_before, put_before, with_inserted}
 use Rattle.window_mgr.proofs.SlotLemmas.{get-set_same, get-set_other}
-use Rattle.menu_mgr.specs.MenuDesks.{IsMenuFull, MenuRecord, MenuSlot}
+use Rattle.menu_mgr.specs.MenuDesks.{MenuRecord, MenuSlot}
 use Rattle.menu_mgr.specs.MenuRefusals.{menu_kind}
 use Rattle.menu_mgr.specs.MenuSteps.{IsMenuShut}
 use Rattle.menu_mgr.specs.WholeMenus.{uses, IsUsedBy, AreMenusStocked, AreLive}

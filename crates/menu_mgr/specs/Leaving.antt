@@ -5,7 +5,7 @@ use Rattle.tb_geom.specs.Points.{PixelSet}
 use Rattle.def_iface.specs.Slots.{TakenBox}
 use Rattle.def_iface.specs.WindowMeaning.{WindowLoan}
 use Rattle.def_iface.specs.MenuMeaning.{MenuLoan}
-use Rattle.def_iface.specs.Stocked.{SlotView}
+use Rattle.def_iface.specs.WindowSlots.{WindowSlot}
 use Rattle.desk_ground.specs.declared.bar.TitleHit.{TitleHit}
 use Rattle.menu_list.specs.declared.listed.Listed.{Listed}
 use Rattle.menu_list.specs.Lists.{menu_index}
@@ -45,7 +45,7 @@ module _ {V : Type 0} {H : V → Type 0} (loan : TakenBox V H → WindowLoan) {W
   -- over any slots over which the windows are whole both are whole afterwards, and together they are one step of the desk
   abbrev pub LeavesDeskOver : List MenuSlot → List MenuSlot → (MenuDesk → MenuDesk → Type 0)
       → WindowManager V H → Opened → Menus W K → WindowManager V H → Opened → Menus W K → Type 0
-  LeavesDeskOver before_slots after_slots step old before m new after n = (slots : List SlotView) → IsWholeManager loan old slots
+  LeavesDeskOver before_slots after_slots step old before m new after n = (slots : List WindowSlot) → IsWholeManager loan old slots
       → IsWholeManager loan new slots × IsWholeMenus menu_loan new after.activity n after_slots
       × step (menu_desk menu_loan loan old before slots m before_slots) (menu_desk menu_loan loan new after slots n after_slots)
 

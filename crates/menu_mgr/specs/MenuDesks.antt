@@ -1,7 +1,7 @@
 -- The menus of a desk as plain data, beside its windows.
 use Rattle.std.specs.Prelude.{◌≡◌, ℕ, List, Option}
 use Rattle.def_iface.specs.MenuMeaning.{MenuDefinition, MenuLoan}
-use Rattle.def_iface.specs.Slots.{SlotOf, IsFull}
+use Rattle.def_iface.specs.Slots.{SlotOf}
 use Rattle.menu_list.specs.declared.listed.Listed.{Listed}
 use Rattle.menu_list.specs.Lists.{titles_of}
 use Rattle.window_mgr.specs.FullDesk.{FullDesk}
@@ -10,10 +10,6 @@ use Rattle.window_mgr.specs.DeskStates.{DeskState, IsDeskUnchanged}
 -- the slots of the menus' definitions, as the stock holds them
 abbrev pub MenuSlot : Type 0
 MenuSlot = SlotOf MenuDefinition
-
--- a slot with a menu's definition that no desk uses
-abbrev pub IsMenuFull : MenuSlot → Type 0
-IsMenuFull s = IsFull (λ (d : MenuDefinition). d.stage) s
 
 -- a menu, whether it is in the menu bar, and its definition with the number of its slot
 abbrev pub MenuRecord : Type 0

@@ -4,7 +4,8 @@ use Rattle.def_iface.specs.Slots.{TakenBox}
 use Rattle.def_iface.specs.declared.window_def.Stage.TheVariants.{Live}
 use Rattle.def_iface.specs.WindowMeaning.{WindowLoan}
 use Rattle.def_iface.specs.MenuMeaning.{MenuLoan, is_menu_size}
-use Rattle.def_iface.specs.Stocked.{SlotView}
+use Rattle.def_iface.specs.WindowSlots.{WindowSlot}
+use Rattle.def_iface.specs.Stocks.{IsMenuFull}
 use Rattle.menu_list.specs.declared.listed.Listed.{Listed}
 use Rattle.menu_list.specs.Seen.{all_seen}
 use Rattle.overlay.specs.Overlays.{IsShown, is_menu_place}
@@ -15,7 +16,7 @@ use Rattle.desk_call.specs.Outlines.{IsOutlineKept}
 use Rattle.window_mgr.specs.declared.manager.WindowManager.{WindowManager}
 use Rattle.window_mgr.specs.DeskStates.{Opened, desk_state}
 use Rattle.menu_mgr.specs.declared.menus.Menus.{Menus}
-use Rattle.menu_mgr.specs.MenuDesks.{IsMenuFull, MenuDesk, MenuRecord, MenuSlot, MenusState}
+use Rattle.menu_mgr.specs.MenuDesks.{MenuDesk, MenuRecord, MenuSlot, MenusState}
 use Rattle.menu_mgr.specs.Pulling.{pulled_of}
 
 -- how many of the menus have their definition from this slot
@@ -87,5 +88,5 @@ module _ {W : Type 0} {K : W → Type 0} (menu_loan : TakenBox W K → MenuLoan)
     -- `loan` says what a window's definition that was taken means
     module _ (loan : TakenBox V H → WindowLoan) where
       -- windows and menus with what is open, as a desk
-      abbrev pub menu_desk : WindowManager V H → Opened → List SlotView → Menus W K → List MenuSlot → MenuDesk
+      abbrev pub menu_desk : WindowManager V H → Opened → List WindowSlot → Menus W K → List MenuSlot → MenuDesk
       menu_desk t o slots m kept = record { desk = desk_state loan t o slots; menus = menus_state m kept }

@@ -27,6 +27,7 @@ mod outlining;
 mod painting;
 mod perform;
 mod pulling;
+mod telling;
 mod titles;
 
 pub use desk_call::{

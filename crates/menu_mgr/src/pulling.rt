@@ -1,10 +1,9 @@
 //! The menu that is pulled down.
-ghost use Rattle.std.specs.Prelude.{◌≡◌, ◌<◌, ◌≤◌, [], length, vec_capacity, Some, None, IfSome, true, List, ℕ, pos};
-ghost use Rattle.std.specs.Prelude.{◌≤ℤ◌, slice_get, is_none, if◌then◌else◌};
-ghost use Rattle.std.specs.Option.{option_map};
+ghost use Rattle.std.specs.Prelude.{if◌then◌else◌};
+ghost use Rattle.std.specs.Prelude.{◌≡◌, ◌<◌, ◌≤◌, [], length, Some, None, IfSome, true, pos};
+ghost use Rattle.std.specs.Prelude.{◌≤ℤ◌, slice_get, is_none};
 ghost use Rattle.tb_geom.specs.Points.{PixelSet, minus};
 ghost use Rattle.tb_geom.specs.Rects.{in_plane};
-ghost use Rattle.bit_map.specs.Bits.{Bits};
 ghost use Rattle.def_iface.specs.MenuMeaning.{is_menu_size};
 ghost use Rattle.desk_call.specs.declared.activity.Activity.TheVariants.{Idle, Pulling};
 ghost use Rattle.desk_call.specs.declared.menu.MenuCall.TheVariants as asks;
@@ -16,16 +15,15 @@ ghost use Rattle.window_mgr.specs.Kept.{IsKept};
 ghost use Rattle.window_mgr.specs.Records.{desk_of};
 ghost use Rattle.window_mgr.specs.Updating.{LeavesState};
 ghost use Rattle.menu_mgr.specs.Leaving.{AreKeptMenus, LeavesMenus, indexed, of_another, opened};
-ghost use Rattle.menu_mgr.specs.MenuSteps.{IsMenuStep, IsTold, IsToldAt, choice_of};
+ghost use Rattle.menu_mgr.specs.MenuSteps.{IsMenuStep, choice_of};
 ghost use Rattle.menu_mgr.specs.Pulling.{as_pulled, is_pulled_at, item_under, pulled_below, pulled_of, title_under};
 ghost use Rattle.menu_mgr.specs.WholeMenus.{AreLive, IsPlaced, menus_of};
 
 use crate::{Choice, MenuReply, Menus};
-use def_iface::{Defined, MenuChange, TakenMenu, TakenWindow};
+use def_iface::{Defined, TakenMenu, TakenWindow};
 use desk_call::{Activity, PulledMenu};
 use desk_ground::{TitleHit, title_at};
 use overlay::{pulled_place, pulled_rect, shown_size};
-use strike_font::Font;
 use tb_geom::{Point, Refusal};
 use window_mgr::{DeskView, WindowManager};
 
@@ -64,7 +62,7 @@ fn chosen(pulled: PulledMenu, item: Option<u8>) -> Option<Choice>
 
 impl Menus {
     /// Where the first menu of this number stands in the list, if there is one.
-    fn index_of(&self, menu: u16) -> Option<usize>
+    pub(crate) fn index_of(&self, menu: u16) -> Option<usize>
         ensures first { result ≡ menu_index (pos menu) self.now.list.menus.items }
         ensures within { IfSome result (λ at. at < length self.now.list.menus.items) }
     {
@@ -205,104 +203,6 @@ impl Menus {
             size,
             item: None,
         }
-    }
-
-    /// Shows the menu at an index over the base image, where it lies.
-    fn show_pulled(&mut self, windows: &WindowManager, at: usize, pulled: PulledMenu)
-        requires at { at < length self.old.list.menus.items }
-        requires live { AreLive (menus_of ⟦<TakenMenu as Defined>⟧.loan self.old.list.menus.items) }
-        requires place { is_menu_place pulled.place ≡ true }
-        requires size { is_menu_size pulled.size ≡ true }
-        requires width { self.old.overlay.front.width ≡ windows.now.screen.width }
-        requires height { self.old.overlay.front.height ≡ windows.now.screen.height }
-        ensures list { self.new.list ≡ self.old.list }
-        ensures alloc { self.new.alloc ≡ self.old.alloc }
-        ensures front { IfSome (slice_get self.old.list.menus.items at) (λ l. IsShown windows.now.font
-            (Some (as_pulled pulled (seen ⟦<TakenMenu as Defined>⟧.loan l))) windows.now.screen
-            self.new.overlay.front) }
-    {
-        self.overlay.show(windows.screen());
-        let listed = &self.list.menus[at];
-        self.overlay.pull(
-            &listed.definition,
-            &listed.menu,
-            pulled.place,
-            pulled.size,
-            windows.parts().font,
-        );
-    }
-
-    /// Tells the definition of the pulled menu, which is about to be put away, that no item is highlighted. The map in front
-    /// stays as it is. Takes no memory.
-    fn dim_pulled(&mut self, pulled: PulledMenu)
-        requires live { AreLive (menus_of ⟦<TakenMenu as Defined>⟧.loan self.old.list.menus.items) }
-        ensures told { IsTold pulled None (menus_of ⟦<TakenMenu as Defined>⟧.loan self.old.list.menus.items)
-            (menus_of ⟦<TakenMenu as Defined>⟧.loan self.new.list.menus.items) }
-        ensures highlighted { self.new.list.highlighted ≡ self.old.list.highlighted }
-        ensures room { vec_capacity self.old.list.menus ≤ vec_capacity self.new.list.menus }
-        ensures alloc { self.new.alloc ≡ self.old.alloc }
-        ensures overlay { self.new.overlay ≡ self.old.overlay }
-    {
-        if let Some(at) = self.index_of(pulled.menu) {
-            let listed = &mut self.list.menus[at];
-            listed.definition.told(MenuChange::Highlighted(None));
-        }
-    }
-
-    /// Tells the definition of the pulled menu which item is highlighted, and shows the menu so. Takes no memory.
-    fn tell(&mut self, font: &Font, pulled: PulledMenu, item: Option<u8>)
-        requires live { AreLive (menus_of ⟦<TakenMenu as Defined>⟧.loan self.old.list.menus.items) }
-        requires place { is_menu_place pulled.place ≡ true }
-        requires size { is_menu_size pulled.size ≡ true }
-        requires screen { (self.old.overlay.front.width ≤ 1024) × (self.old.overlay.front.height ≤ 1024) }
-        ensures told { IsTold pulled item (menus_of ⟦<TakenMenu as Defined>⟧.loan self.old.list.menus.items)
-            (menus_of ⟦<TakenMenu as Defined>⟧.loan self.new.list.menus.items) }
-        ensures highlighted { self.new.list.highlighted ≡ self.old.list.highlighted }
-        ensures room { vec_capacity self.old.list.menus ≤ vec_capacity self.new.list.menus }
-        ensures alloc { self.new.alloc ≡ self.old.alloc }
-        ensures front { (base : Bits)
-            → IsShown font.now (pulled_of (Pulling pulled)
-            (menus_of ⟦<TakenMenu as Defined>⟧.loan self.old.list.menus.items))
-            base self.old.overlay.front
-            → IsShown font.now (pulled_of (Pulling pulled)
-            (menus_of ⟦<TakenMenu as Defined>⟧.loan self.new.list.menus.items))
-            base self.new.overlay.front }
-    {
-        if let Some(at) = self.index_of(pulled.menu) {
-            self.tell_at(font, at, pulled, item);
-        }
-    }
-
-    /// Tells it where its menu stands at this index.
-    fn tell_at(&mut self, font: &Font, at: usize, pulled: PulledMenu, item: Option<u8>)
-        requires at { at < length self.old.list.menus.items }
-        requires live { AreLive (menus_of ⟦<TakenMenu as Defined>⟧.loan self.old.list.menus.items) }
-        requires place { is_menu_place pulled.place ≡ true }
-        requires size { is_menu_size pulled.size ≡ true }
-        requires screen { (self.old.overlay.front.width ≤ 1024) × (self.old.overlay.front.height ≤ 1024) }
-        ensures told { IsToldAt (Some at) item (menus_of ⟦<TakenMenu as Defined>⟧.loan self.old.list.menus.items)
-            (menus_of ⟦<TakenMenu as Defined>⟧.loan self.new.list.menus.items) }
-        ensures highlighted { self.new.list.highlighted ≡ self.old.list.highlighted }
-        ensures room { vec_capacity self.old.list.menus ≤ vec_capacity self.new.list.menus }
-        ensures alloc { self.new.alloc ≡ self.old.alloc }
-        ensures front { (base : Bits)
-            → IsShown font.now (option_map (as_pulled pulled)
-            (slice_get (menus_of ⟦<TakenMenu as Defined>⟧.loan self.old.list.menus.items) at)) base
-            self.old.overlay.front
-            → IsShown font.now (option_map (as_pulled pulled)
-            (slice_get (menus_of ⟦<TakenMenu as Defined>⟧.loan self.new.list.menus.items) at)) base
-            self.new.overlay.front }
-    {
-        let listed = &mut self.list.menus[at];
-        let damage = listed.definition.told(MenuChange::Highlighted(item));
-        self.overlay.redraw(
-            &listed.definition,
-            &listed.menu,
-            pulled.place,
-            pulled.size,
-            damage,
-            font,
-        );
     }
 
     /// Takes the highlighting from every title where nothing was chosen.

@@ -1,5 +1,6 @@
 //! The items of a menu, as a list.
-ghost use Rattle.std.specs.Prelude.{◌≡◌, ◌<◌, ◌≤◌, ◌+◌, ◌-◌, ◌++◌, [], length, nat_abs, None, Some, OnOk, OnErr, IfErr, MatchResult, true, false, vec_len, vec_capacity};
+ghost use Rattle.std.specs.Prelude.{◌≡◌, ◌<◌, ◌≤◌, ◌+◌, ◌-◌, ◌++◌, [], length, nat_abs, None, Some, OnOk, OnErr, IfErr};
+ghost use Rattle.std.specs.Prelude.{MatchResult, true, false, vec_len, vec_capacity};
 ghost use Rattle.std.specs.Result.{result_err};
 ghost use Rattle.std.specs.List.{list_any};
 ghost use Rattle.menu_record.specs.Appending.{items_of, is_long, why_not_appended};

@@ -1,5 +1,6 @@
 //! What a text says that is appended to a menu.
-ghost use Rattle.std.specs.Prelude.{◌≡◌, ◌<◌, ◌≤◌, ◌+◌, ◌++◌, ◌∷◌, [], ℕ, List, length, take, drop, None, Some, MatchResult, MatchOption, true, false, OnOk, OnErr, IfOk};
+ghost use Rattle.std.specs.Prelude.{◌≡◌, ◌<◌, ◌≤◌, ◌+◌, ◌++◌, ◌∷◌, [], ℕ, List, length, take, drop, None, Some};
+ghost use Rattle.std.specs.Prelude.{MatchResult, MatchOption, true, false, OnOk, OnErr, IfOk};
 ghost use Rattle.std.specs.List.{position_or_len, list_any};
 ghost use Rattle.menu_record.specs.Appending.{is_parting, is_long, is_long_item, is_sign, item_in, item_of, items_of};
 ghost use Rattle.menu_record.specs.Reads.{IsCut, IsRead, IsText, ItemRead, blank, read_all, read_character};

@@ -47,7 +47,9 @@ fn items_stand_as_they_were_made(rt: HostRuntime) -> Result<(), Fail> {
     }
     for (window, serial, place, among) in PLACES {
         assert!(rt; stands(&list, window, serial, place, among));
+        assert!(rt; list.with_serial(serial) == Some(place));
     }
+    assert!(rt; list.with_serial(6) == None);
     assert!(rt; list.find(9, 1) == None && list.find(7, 6) == None && list.next == Some(6));
     assert!(rt; list.count(7) == 3 && list.count(9) == 2 && list.count(8) == 0);
     Ok(())

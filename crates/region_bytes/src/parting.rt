@@ -20,7 +20,8 @@ pub fn first_word<'a>(bytes: &'a [u8]) -> Option<(i32, &'a [u8])>
 
 /// Whether bytes are no more than 32766, of an even number, and of this number.
 fn is_size(bytes: &[u8], size: i32) -> bool
-    ensures { IsTrue result ↔ ((length bytes.now ≤ 32766) × (length bytes.now % 2 ≡ 0) × (size ≡ pos (length bytes.now))) }
+    ensures { IsTrue result ↔ ((length bytes.now ≤ 32766) × (length bytes.now % 2 ≡ 0)
+        × (size ≡ pos (length bytes.now))) }
 {
     bytes.len() <= 32766 && (bytes.len() % 2 == 0 && bytes.len() as i32 == size)
 }

@@ -1,5 +1,6 @@
 //! The bytes of a region, from its inversion points.
-ghost use Rattle.std.specs.Prelude.{◌≡◌, ◌<◌, ◌≤◌, ◌⊎◌, ◌∷◌, ◌++◌, [], ◌+◌, ◌*◌, List, length, ℤ, pos, OnOk, IfOk, MatchResult};
+ghost use Rattle.std.specs.Prelude.{◌≡◌, ◌<◌, ◌≤◌, ◌⊎◌, ◌∷◌, ◌++◌, [], ◌+◌, ◌*◌, List, length, ℤ, pos, OnOk, IfOk};
+ghost use Rattle.std.specs.Prelude.{MatchResult};
 ghost use Rattle.std.specs.List.{flat_map};
 ghost use Rattle.tb_geom.specs.declared.Point.{Point};
 ghost use Rattle.region_bytes.specs.Edges.{IsCoordinate};

@@ -1,5 +1,6 @@
 //! How a region lets the pixels of a row through, row after row.
-ghost use Rattle.std.specs.Prelude.{◌≡◌, ◌⊎◌, ◌+◌, ◌<◌, ◌≤◌, ℕ, List, ◌∷◌, [], ℤ, Bool, pos, length, ◌≤ℤ◌, ◌<ℤ◌, map, All, IfSome, IfNone};
+ghost use Rattle.std.specs.Prelude.{◌≡◌, ◌⊎◌, ◌+◌, ◌<◌, ◌≤◌, ℕ, List, ◌∷◌, [], ℤ, Bool, pos, length, ◌≤ℤ◌, ◌<ℤ◌, map};
+ghost use Rattle.std.specs.Prelude.{All, IfSome, IfNone};
 ghost use Rattle.tb_geom.specs.Points.{PixelSet};
 ghost use Rattle.region_bytes.specs.Points.{IsInRange};
 ghost use Rattle.region_rows.specs.Bits.{has_bit};

@@ -109,7 +109,8 @@ pub fn meets_rows(rows: &[Row], rect: Rect) -> Option<bool>
     requires rows { AreRows rows.now }
     requires across { rect.left <ℤ rect.right }
     requires down { rect.top <ℤ rect.bottom }
-    ensures { IfSome result (λ met. IsTrue met ↔ ((p : Point) × (in_rows rows.now p.h p.v ≡ true) × (rect_holds rect p ≡ true))) }
+    ensures { IfSome result
+        (λ met. IsTrue met ↔ ((p : Point) × (in_rows rows.now p.h p.v ≡ true) × (rect_holds rect p ≡ true))) }
 {
     let (upper, lower) = rows.split_at(rows_to(rows, rect.top));
     let turning = turning_rows(upper, rect.left, rect.right);

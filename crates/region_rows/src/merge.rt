@@ -1,5 +1,6 @@
 //! The merge of the rows of two regions.
-ghost use Rattle.std.specs.Prelude.{◌≡◌, [], false, ℕ, ◌+◌, ◌-◌, ◌%◌, ◌<◌, ◌≤◌, ◌&&◌, length, ℤ, IsTrue, IfSome, IfNone, IfOk, OnOk};
+ghost use Rattle.std.specs.Prelude.{◌≡◌, [], false, ℕ, ◌+◌, ◌-◌, ◌%◌, ◌<◌, ◌≤◌, ◌&&◌, length, ℤ, IsTrue, IfSome};
+ghost use Rattle.std.specs.Prelude.{IfNone, IfOk, OnOk};
 ghost use Rattle.region_bytes.specs.Points.{in_rows};
 ghost use Rattle.region_rows.specs.Edges.{applied, by_first, by_second, inside, kept, EndsBefore, IsCoordinate, IsEdges, IsRow};
 ghost use Rattle.region_rows.specs.Rows.{with_row, AreRows, IsPushed};

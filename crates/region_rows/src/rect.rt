@@ -30,7 +30,8 @@ pub fn rect_rows(alloc: Global, rect: Rect) -> Result<Vec<Row>, AllocError>
 /// The rectangle whose rows these are, if they are those of one.
 pub fn rect_of(rows: &[Row]) -> Option<Rect>
     requires { AreRows rows.now }
-    ensures pixels { IfSome result (λ r. (h v : ℤ) → in_rows rows.now h v ≡ (between r.left h r.right && between r.top v r.bottom)) }
+    ensures pixels { IfSome result (λ r. (h v : ℤ) → in_rows rows.now h v
+        ≡ (between r.left h r.right && between r.top v r.bottom)) }
     ensures rows { IfSome result (λ r. rows.now ≡ two_rows r) }
     ensures none { IfNone result ((r : Rect) → rows.now ≢ two_rows r) }
 {

@@ -1,5 +1,6 @@
 //! A row of pixels that turns at columns.
-ghost use Rattle.std.specs.Prelude.{◌≡◌, [], ◌∷◌, not, ◌<◌, ◌≤◌, ◌+◌, ◌-◌, ◌++◌, length, take, drop, IsTrue, IsSome, ◌↔◌, OnOk, IfSome, ℤ, ◌<ℤ◌};
+ghost use Rattle.std.specs.Prelude.{◌≡◌, [], ◌∷◌, not, ◌<◌, ◌≤◌, ◌+◌, ◌-◌, ◌++◌, length, take, drop, IsTrue, IsSome};
+ghost use Rattle.std.specs.Prelude.{◌↔◌, OnOk, IfSome, ℤ, ◌<ℤ◌};
 ghost use Rattle.region_rows.specs.Edges.{differ, inside, only, IsEdges};
 ghost use Rattle.region_rows.specs.Gaps.{across, IsFree, IsGap, IsPlace};
 

@@ -86,7 +86,8 @@ impl Descent<'_> {
         ensures spans { (s : PixelSet) → IsDescent self.old s → spans_left self.new s ≡ spans_left self.old s }
         ensures next { self.old.next ≤ℤ self.new.next }
         ensures bottom { self.new.bottom ≡ self.old.bottom }
-        ensures past { self.old.kept.items ≡ [] → (self.old.until ≤ℤ self.new.next) ⊎ (self.old.bottom ≤ℤ self.new.next) }
+        ensures past { self.old.kept.items ≡ [] → (self.old.until ≤ℤ self.new.next) ⊎
+            (self.old.bottom ≤ℤ self.new.next) }
     {
         if self.kept.is_empty() && self.next < self.until && self.next < self.bottom {
             self.next = self.until.min(self.bottom);

@@ -1,5 +1,6 @@
 //! How one region of a cut lets the pixels of a row through.
-ghost use Rattle.std.specs.Prelude.{◌≡◌, ◌⊎◌, ◌<◌, ◌≤◌, ℕ, List, ℤ, true, false, not, pos, length, ◌≤ℤ◌, ◌<ℤ◌, ◌+ℤ◌, ◌-ℤ◌};
+ghost use Rattle.std.specs.Prelude.{◌≡◌, ◌⊎◌, ◌<◌, ◌≤◌, ℕ, List, ℤ, true, false, not, pos, length, ◌≤ℤ◌, ◌<ℤ◌, ◌+ℤ◌};
+ghost use Rattle.std.specs.Prelude.{◌-ℤ◌};
 ghost use Rattle.tb_geom.specs.Points.{PixelSet};
 ghost use Rattle.region_rows.specs.Bits.{has_bit};
 ghost use Rattle.scan_region.specs.Parts.{IsAcross, IsFit, IsPart, IsSteady, lets, part_counts, test_set};
@@ -166,7 +167,8 @@ impl<'a> Part<'a> {
         requires across { IsAcross self.old (to -ℤ pos 1) (to +ℤ pos 1) }
         ensures part { (s : PixelSet) (at : ℤ) → at <ℤ to → IsSteady words.now self.old v at to
             → IsPart words.now self.old s v at → IsPart words.now self.new s v to }
-        ensures fit { (left right : ℤ) (low high : ℕ) → IsFit left right low high self.old → IsFit left right low high self.new }
+        ensures fit { (left right : ℤ) (low high : ℕ) → IsFit left right low high self.old
+            → IsFit left right low high self.new }
     {
         match self {
             Part::Open => {}
@@ -186,7 +188,8 @@ impl<'a> Part<'a> {
         ensures apart { (right : ℤ) (low high k : ℕ) → IsFit left right low high self.old → (k < low) ⊎ (high ≤ k)
             → has_bit words.new k ≡ has_bit words.old k }
         ensures length { length words.new ≡ length words.old }
-        ensures fit { (right : ℤ) (low high : ℕ) → IsFit left right low high self.old → IsFit left right low high self.new }
+        ensures fit { (right : ℤ) (low high : ℕ) → IsFit left right low high self.old
+            → IsFit left right low high self.new }
     {
         match self {
             Part::Open => {}
@@ -198,7 +201,8 @@ impl<'a> Part<'a> {
     /// The rows from the row `v` at hand up to this one have the same pixels.
     pub fn until(&self, v: i32) -> i32
         requires { (left : ℤ) × (right : ℤ) × (low : ℕ) × (high : ℕ) × IsFit left right low high self.now }
-        ensures { (words : List ℕ) (s : PixelSet) (at : ℤ) → IsPart words self.now s v at → (h w : ℤ) → v ≤ℤ w → w <ℤ result
+        ensures { (words : List ℕ) (s : PixelSet) (at : ℤ) → IsPart words self.now s v at → (h w : ℤ) → v ≤ℤ w
+            → w <ℤ result
             → s (record { h = h; v = w }) ≡ s (record { h = h; v = v }) }
     {
         match self {

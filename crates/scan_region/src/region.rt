@@ -1,5 +1,6 @@
 //! The public calls: each wraps a function of the rows.
-ghost use Rattle.std.specs.Prelude.{◌≡◌, true, false, ◌&&◌, ◌||◌, not, ◌↔◌, ℕ, List, ℤ, ◌≤ℤ◌, ◌<ℤ◌, IsTrue, IfOk, IfErr, OnOk, OnErr, MatchResult, reverse};
+ghost use Rattle.std.specs.Prelude.{◌≡◌, true, false, ◌&&◌, ◌||◌, not, ◌↔◌, ℕ, List, ℤ, ◌≤ℤ◌, ◌<ℤ◌, IsTrue, IfOk};
+ghost use Rattle.std.specs.Prelude.{IfErr, OnOk, OnErr, MatchResult, reverse};
 ghost use Rattle.tb_geom.specs.declared.point.Point.{Point};
 ghost use Rattle.tb_geom.specs.declared.rect.Rect.{Rect};
 ghost use Rattle.tb_geom.specs.Points.{minus};
@@ -334,7 +335,8 @@ impl Region {
     /// The box of the region, as it is seen, and whether it is full.
     pub(crate) fn boxed(&self, up: bool) -> Boxed
         ensures within { (p : Point) → holds self.now (seen_point up p) ≡ true → rect_holds result.bounds p ≡ true }
-        ensures full { IsTrue result.is_full → (p : Point) → holds self.now (seen_point up p) ≡ rect_holds result.bounds p }
+        ensures full { IsTrue result.is_full → (p : Point)
+            → holds self.now (seen_point up p) ≡ rect_holds result.bounds p }
     {
         let bounds = self.bounds.rect();
         Boxed {

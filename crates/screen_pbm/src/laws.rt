@@ -10,7 +10,8 @@ ghost use Rattle.screen_pbm.specs.Pbm.{row_digits, row_text, row_bytes, raster};
 /// Without its newlines the text of a row is the row's digits.
 #[tactic(auto, using(crate::proofs::ImageLaws::row_is_its_digits))]
 pub fn a_row_is_its_digits()
-    ensures { (width : ℕ) (black : PixelSet) (v : ℕ) → filter (λ b. not (b == 10)) (row_text width black v) ≡ row_digits width black v }
+    ensures { (width : ℕ) (black : PixelSet) (v : ℕ) → filter (λ b. not (b == 10)) (row_text width black v)
+        ≡ row_digits width black v }
 {}
 
 /// No line of a row has more than 70 characters.

@@ -58,7 +58,8 @@ fn put_rows(bytes: &mut [u8], map: &BitMap, first: u16, count: u16)
     requires width { map.now.width ≤ 1024 }
     requires room { (map.now.width + 7) / 8 * count + 128 ≤ length bytes.old }
     ensures all { length bytes.new ≡ length bytes.old }
-    ensures rows { take ((map.now.width + 7) / 8 * count) bytes.new ≡ flat_map (row_bytes map.now.width (bit map.now)) (range_with_len first count) }
+    ensures rows { take ((map.now.width + 7) / 8 * count) bytes.new
+        ≡ flat_map (row_bytes map.now.width (bit map.now)) (range_with_len first count) }
 {
     let stride = usize::from(width_of(map).div_ceil(8));
     for k in 0..count {

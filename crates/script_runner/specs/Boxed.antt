@@ -6,7 +6,7 @@ use Rattle.def_iface.specs.declared.list_def.ListDef as list_def
 use Rattle.def_iface.specs.declared.menu_def.MenuDef as menu_def
 use Rattle.def_iface.specs.declared.stock.Stock.{Stock}
 use Rattle.def_iface.specs.declared.window_def.WindowDef as window_def
-use Rattle.def_iface.specs.Boxed.{control_loan_by, list_loan_by, menu_loan_by, slots_by, window_loan_by}
+use Rattle.def_iface.specs.Boxed.{all_slots_by, control_loan_by, list_loan_by, menu_loan_by, window_loan_by}
 use Rattle.def_iface.specs.Stocks.{AllSlots}
 use Rattle.script_runner.specs.declared.script.Script.{Script}
 use Rattle.script_runner.specs.declared.session.Session.{Session}
@@ -26,19 +26,19 @@ module _ {V : Type 0} {H : V → Type 0} (window : (b : DynBox V Global H) → w
       session_of (window_loan_by window) (menu_loan_by menu) (control_loan_by control) (list_loan_by list) s stocks
 
   abbrev pub session : Session V U W X H J K L → Stock V U X W H J L K → SessionState
-  session s stock = session_over s (slots_by window menu control list stock)
+  session s stock = session_over s (all_slots_by window menu control list stock)
 
   -- the session and its stock belong together
   abbrev pub IsReadyOn : Session V U W X H J K L → Stock V U X W H J L K → Type 0
   IsReadyOn s stock =
       IsReady (window_loan_by window) (menu_loan_by menu) (control_loan_by control) (list_loan_by list) s
-      (slots_by window menu control list stock)
+      (all_slots_by window menu control list stock)
 
   -- the script over a stock, and that the two belong together
   abbrev pub script : Script V U W X H J K L → Stock V U X W H J L K → ScriptState
   script s stock =
       script_of (window_loan_by window) (menu_loan_by menu) (control_loan_by control) (list_loan_by list) s
-      (slots_by window menu control list stock)
+      (all_slots_by window menu control list stock)
 
   abbrev pub IsScriptReadyOn : Script V U W X H J K L → Stock V U X W H J L K → Type 0
   IsScriptReadyOn s stock = IsReadyOn s.session stock

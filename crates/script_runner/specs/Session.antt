@@ -4,7 +4,7 @@ use Rattle.tb_geom.specs.declared.point.Point.{Point}
 use Rattle.tb_geom.specs.declared.refusal.Refusal.{Refusal}
 use Rattle.tb_geom.specs.declared.refusal.Refusal.TheVariants.{NoSuchName, OutOfRange, Busy}
 use Rattle.tb_geom.specs.Points.{PixelSet}
-use Rattle.def_iface.specs.Stocked.{has_kind}
+use Rattle.def_iface.specs.WindowSlots.{has_kind}
 use Rattle.def_iface.specs.Stocks.{AllSlots}
 use Rattle.desk_call.specs.declared.call.Call.TheVariants.{Window, Update, Frame, Control, Menu, Outline, Event}
 use Rattle.desk_call.specs.declared.call.Call.TheVariants as asks

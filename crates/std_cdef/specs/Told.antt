@@ -30,8 +30,8 @@ module _ {L : Type 0} where
   told_std change b = record b { kept = kept_after change b.kept }
 
   -- one at another stage
-  abbrev pub control_at : Stage → StdControl L → StdControl L
-  control_at stage b = record b { stage = stage }
+  abbrev pub std_at : Stage → StdControl L → StdControl L
+  std_at stage b = record b { stage = stage }
 
 -- what buttons, check boxes and radio buttons, and scroll bars are
 abbrev pub button_meaning : StdControl ButtonLook → ControlDefinition

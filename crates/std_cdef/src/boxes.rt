@@ -127,9 +127,7 @@ pub(crate) fn draw_box(canvas: &mut Canvas<'_>, variation: Variation, kept: &Kep
     }
 }
 
-/// A rectangle outside which a check box or a radio button that was told something looks the same, in
-/// every font and within the range of coordinates. The titles are equal where `same_title` says so. The
-/// old size is none before the first one was told: then all may change.
+/// The damage of a check box or a radio button (`ControlLook::damage`). The titles are equal where `same_title` says so.
 pub(crate) fn box_damage(
     variation: Variation,
     old: &KeptControl,

@@ -1,4 +1,4 @@
-//! The definition of a simple button.
+//! What a simple button looks like.
 ghost use Rattle.std.specs.Prelude.{◌≡◌, true, false};
 ghost use Rattle.tb_geom.specs.declared.point.Point.{Point};
 ghost use Rattle.tb_geom.specs.Rects.{in_plane, rect_holds};
@@ -54,9 +54,7 @@ fn button_look(size: Size, highlight: Highlight) -> [Step; 4]
     ]
 }
 
-/// A rectangle outside which a button that was told something looks the same, in every font and within
-/// the range of coordinates. The titles are equal where `same_title` says so. The old size is none
-/// before the first one was told: then all may change.
+/// The damage of a button (`ControlLook::damage`). The titles are equal where `same_title` says so.
 fn button_damage(old: &KeptControl, new: &KeptControl, same_title: bool) -> Rect
     requires { is_control_size new.now.size ≡ true }
     ensures { (u t : Lettering) → (same_title ≡ true → t ≡ u) → (p : Point) → in_plane p ≡ true

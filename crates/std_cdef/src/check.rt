@@ -1,4 +1,4 @@
-//! The definition of check boxes and radio buttons.
+//! Check boxes and radio buttons: which of the two one is, and what it looks like.
 ghost use Rattle.std.specs.Prelude.{◌≡◌};
 ghost use Rattle.std_cdef.specs.Controls.{box_part, box_seen, same_value};
 ghost use Rattle.std_cdef.specs.Told.{fresh_check};
@@ -11,7 +11,7 @@ use def_iface::{ControlDef, KeptControl, Stage};
 use draw_port::Canvas;
 use tb_geom::{Point, Rect};
 
-/// The variations of the definition, with the numbers of their procedures (*Inside Macintosh* I, "The
+/// The look of a check box or of a radio button, with the numbers of their procedures (*Inside Macintosh* I, "The
 /// Control Manager", "Controls and Control Definition Functions").
 #[derive(Clone, Copy, Debug, PartialEq, Eq)]
 pub enum Variation {

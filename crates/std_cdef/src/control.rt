@@ -10,7 +10,7 @@ ghost use Rattle.def_iface.specs.declared.control_keeping.KeptControl.{KeptContr
 ghost use Rattle.def_iface.specs.ControlNews.{told_control};
 ghost use Rattle.def_iface.specs.ControlMeaning.{SameControlLook, SameControlRegions, ControlHears, IsControlDamage};
 ghost use Rattle.def_iface.specs.ControlMeaning.{is_control_size, is_fitting_control, control_size_after};
-ghost use Rattle.std_cdef.specs.Told.{control_at, std_meaning, told_std};
+ghost use Rattle.std_cdef.specs.Told.{std_at, std_meaning, told_std};
 
 use crate::rects::region_of;
 use control_values::ControlPart;
@@ -23,10 +23,13 @@ use tb_geom::{Point, Rect};
 /// What differs between standard controls, by what each keeps of what it was told: what it shows in a font, its parts, and the
 /// value that it has once its thumb was dragged from one point to another. Points are local to the control.
 pub trait ControlLook: Drop {
+    /// What it shows in a font.
     ghost seen: { Self → KeptControl → List ℕ → PixelSet };
 
+    /// The part that a point lies in.
     ghost part: { Self → KeptControl → Point → Option ControlPart };
 
+    /// The value once its thumb was dragged from one point to another.
     ghost value: { Self → KeptControl → Point → Point → ℤ };
 
     /// A rectangle outside which a control that was told something looks the same, in every font and within the range of
@@ -59,8 +62,11 @@ pub trait ControlLook: Drop {
 /// The definition of a standard control. It keeps what it is told: of a title the first 255 characters.
 #[derive(Drop)]
 pub struct StdControl<L> {
+    /// What differs from other standard controls.
     pub(crate) look: L,
+    /// Where it stands in its life.
     pub(crate) stage: Stage,
+    /// What it keeps of what it was told.
     pub(crate) kept: KeptControl,
 }
 
@@ -78,7 +84,7 @@ impl<L: ControlLook> ControlDef for StdControl<L> {
             (std_meaning L.seen L.part L.value self.new) }
         ensures look { ControlHears (λ n. n) (std_meaning L.seen L.part L.value self.old)
             (std_meaning L.seen L.part L.value self.new) }
-        ensures kept { self.new ≡ control_at Stage.Live self.old }
+        ensures kept { self.new ≡ std_at Stage.Live self.old }
     {
         self.stage = Stage::Live;
     }
@@ -130,7 +136,7 @@ impl<L: ControlLook> ControlDef for StdControl<L> {
         ensures closed { (std_meaning L.seen L.part L.value self.new).stage ≡ Stage.Closed }
         ensures same { SameControlLook (std_meaning L.seen L.part L.value self.old)
             (std_meaning L.seen L.part L.value self.new) }
-        ensures kept { self.new ≡ control_at Stage.Closed self.old }
+        ensures kept { self.new ≡ std_at Stage.Closed self.old }
     {
         self.stage = Stage::Closed;
     }

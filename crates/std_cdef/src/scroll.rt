@@ -1,4 +1,4 @@
-//! The definition of a scroll bar.
+//! What a scroll bar looks like.
 ghost use Rattle.std.specs.Prelude.{◌≡◌};
 ghost use Rattle.std_cdef.specs.Controls.{scroll_part, scroll_seen, scrolled_value};
 ghost use Rattle.std_cdef.specs.Told.{fresh_scroll};

@@ -76,9 +76,7 @@ pub(crate) fn scroll_hit(kept: &KeptControl, point: Point) -> Option<ControlPart
     first_part(&spots, None, point)
 }
 
-/// A rectangle outside which a scroll bar that was told something looks the same, in every font and
-/// within the range of coordinates. The titles are equal where `same_title` says so. The old size is
-/// none before the first one was told: then all may change.
+/// The damage of a scroll bar (`ControlLook::damage`). The titles are equal where `same_title` says so.
 pub(crate) fn scroll_damage(old: &KeptControl, new: &KeptControl, same_title: bool) -> Rect
     requires { is_control_size new.now.size ≡ true }
     ensures { (u t : Lettering) → (same_title ≡ true → t ≡ u) → (p : Point) → in_plane p ≡ true

@@ -1,5 +1,6 @@
 //! Glyphs.
-ghost use Rattle.std.specs.Prelude.{◌≡◌, ℕ, nat_abs, ◌+◌, ◌*◌, ◌^◌, ◌<◌, ◌≤◌, pos, negsuc, ◌-ℤ◌, ◌+ℤ◌, ◌≤ℤ◌, ◌<ℤ◌, ◌/◌, ◌%◌, min, length};
+ghost use Rattle.std.specs.Prelude.{◌≡◌, ℕ, nat_abs, ◌+◌, ◌*◌, ◌^◌, ◌<◌, ◌≤◌, pos, negsuc, ◌-ℤ◌, ◌+ℤ◌, ◌≤ℤ◌, ◌<ℤ◌, ◌/◌};
+ghost use Rattle.std.specs.Prelude.{◌%◌, min, length};
 ghost use Rattle.std.specs.Int.{int_min, int_max};
 ghost use Rattle.bit_map.specs.Bits.{is_below};
 ghost use Rattle.bit_map.specs.Words.{bit_in};
@@ -171,7 +172,8 @@ fn strike_from(
     requires words { row_words ≡ words_of_row bytes.now }
     requires near { start ≤ℤ pos 65536 }
     requires row_in { row < height bytes.now }
-    ensures { (k : ℕ) → k < 64 → pos 0 ≤ℤ (start +ℤ pos k) → (start +ℤ pos k) <ℤ pos columns → bit_in result k ≡ image_bit bytes.now (first + nat_abs (start +ℤ pos k)) row }
+    ensures { (k : ℕ) → k < 64 → pos 0 ≤ℤ (start +ℤ pos k) → (start +ℤ pos k) <ℤ pos columns
+        → bit_in result k ≡ image_bit bytes.now (first + nat_abs (start +ℤ pos k)) row }
 {
     let column = column_read(first, start);
     strike_word(bytes, row_words, column, columns, row) >> back_of(start)
@@ -303,7 +305,12 @@ fn left_of(across: u32, kern: i32, offset: u8) -> i32
 fn rect_from(left: i32, columns: u16, ascent: u16, height: u16) -> Rect
     requires low { negsuc 127 ≤ℤ left }
     requires high { left <ℤ pos (2 ^ 25) }
-    ensures { result ≡ record { left = left; top = pos 0 -ℤ pos ascent; right = left +ℤ pos columns; bottom = pos height -ℤ pos ascent } }
+    ensures { result ≡ record {
+      left = left;
+      top = pos 0 -ℤ pos ascent;
+      right = left +ℤ pos columns;
+      bottom = pos height -ℤ pos ascent;
+    } }
 {
     Rect {
         left,

@@ -13,7 +13,8 @@ pub fn widths_add()
 /// moved it to.
 pub fn texts_join()
     ensures { (font one other : List ℕ) (pen p : Point) → text_holds font (one ++ other) pen p
-        ≡ (text_holds font one pen p || text_holds font other (record { h = pen.h +ℤ pos (text_width font one); v = pen.v }) p) }
+        ≡ (text_holds font one pen p
+        || text_holds font other (record { h = pen.h +ℤ pos (text_width font one); v = pen.v }) p) }
 {}
 
 /// The image with the locations behind it, and the table of offsets and widths, end within so many bytes of a FONT record:

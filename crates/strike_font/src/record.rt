@@ -4,7 +4,9 @@
 //! its fields, the room for the tables, and then what the tables say.
 ghost use Rattle.std.specs.Prelude.{◌≡◌, ◌+◌, ◌*◌, ◌^◌, ◌<◌, ◌≤◌, IsTrue, length, pos, negsuc};
 ghost use Rattle.tb_geom.specs.Rects.{between};
-ghost use Rattle.strike_font.specs.Record.{word, signed, gap, first_char, last_char, strike_words, last_symbol, location, entry, has_head, is_font_type, is_within, good_chars, good_fields, good_head, has_tables, HasTables, rising, good_tables, is_font, IsFont};
+ghost use Rattle.strike_font.specs.Record.{word, signed, gap, first_char, last_char, strike_words, last_symbol};
+ghost use Rattle.strike_font.specs.Record.{location, entry, has_head, is_font_type, is_within, good_chars, good_fields};
+ghost use Rattle.strike_font.specs.Record.{good_head, has_tables, HasTables, rising, good_tables, is_font, IsFont};
 
 /// So many bytes hold all parts of any FONT record: the 13 words of its head, an image of 127 rows of 2047 words, and a
 /// location for each of the characters from -32768 to 255, the missing symbol and the end.

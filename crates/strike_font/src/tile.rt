@@ -1,5 +1,6 @@
 //! Tiles: what a text has of 512 columns by 16 rows of pixels, as words of 64 bits.
-ghost use Rattle.std.specs.Prelude.{◌≡◌, ◌≢◌, ◌||◌, false, ℕ, ℤ, ◌+◌, ◌*◌, ◌/◌, ◌%◌, ◌<◌, ◌≤◌, ◌≤ℤ◌, ◌<ℤ◌, ◌+ℤ◌, pos, negsuc, ◌-ℤ◌, length};
+ghost use Rattle.std.specs.Prelude.{◌≡◌, ◌≢◌, ◌||◌, false, ℕ, ℤ, ◌+◌, ◌*◌, ◌/◌, ◌%◌, ◌<◌, ◌≤◌, ◌≤ℤ◌, ◌<ℤ◌, ◌+ℤ◌, pos};
+ghost use Rattle.std.specs.Prelude.{negsuc, ◌-ℤ◌, length};
 ghost use Rattle.std.specs.Int.{int_min, int_max};
 ghost use Rattle.bit_map.specs.Words.{bit_in, place_bit};
 ghost use Rattle.strike_font.specs.Record.{IsFont, strike_words};
@@ -78,7 +79,8 @@ fn put_text(words: &mut [u64; 128], bytes: &[u8], text: &[u8], x: i64, y: i64) -
     requires x_near { IsSized 33 x }
     requires y_near { IsSized 33 y }
     ensures reach { (h v : ℤ) → result ≤ℤ h → glyphs_pixel bytes.now text.now 0 h v ≡ false }
-    ensures put { (n : ℕ) → n < 8192 → place_bit words.new n ≡ (place_bit words.old n || glyphs_pixel bytes.now text.now 0 (x +ℤ pos (n % 512)) (y +ℤ pos (n / 512))) }
+    ensures put { (n : ℕ) → n < 8192 → place_bit words.new n ≡ (place_bit words.old n
+        || glyphs_pixel bytes.now text.now 0 (x +ℤ pos (n % 512)) (y +ℤ pos (n / 512))) }
 {
     let mut across = 0;
     let mut right = 0;
@@ -97,7 +99,8 @@ fn put_glyph(words: &mut [u64; 128], bytes: &[u8], glyph: Glyph, x: i64, y: i64)
     requires font { IsFont bytes.now }
     requires x_near { IsSized 34 x }
     requires y_near { IsSized 33 y }
-    ensures { (n : ℕ) → n < 8192 → place_bit words.new n ≡ (place_bit words.old n || glyph_pixel bytes.now glyph (x +ℤ pos (n % 512)) (y +ℤ pos (n / 512))) }
+    ensures { (n : ℕ) → n < 8192 → place_bit words.new n ≡ (place_bit words.old n
+        || glyph_pixel bytes.now glyph (x +ℤ pos (n % 512)) (y +ℤ pos (n / 512))) }
 {
     let column = column_of(x, signed(word(bytes, 4)), glyph.offset);
     let row = row_of(y, word(bytes, 9));
@@ -109,7 +112,8 @@ fn put_columns(words: &mut [u64; 128], bytes: &[u8], glyph: Glyph, column: i64, 
     requires font { IsFont bytes.now }
     requires column_near { IsSized 35 column }
     requires row_near { IsSized 34 row }
-    ensures { (n : ℕ) → n < 8192 → place_bit words.new n ≡ (place_bit words.old n || glyph_bit bytes.now glyph (column +ℤ pos (n % 512)) (row +ℤ pos (n / 512))) }
+    ensures { (n : ℕ) → n < 8192 → place_bit words.new n ≡ (place_bit words.old n
+        || glyph_bit bytes.now glyph (column +ℤ pos (n % 512)) (row +ℤ pos (n / 512))) }
 {
     for at in first_word(column)..end_word(column, glyph.columns) {
         put_column(words, at, bytes, glyph, column, row);
@@ -175,7 +179,9 @@ fn put_column(words: &mut [u64; 128], at: usize, bytes: &[u8], glyph: Glyph, col
     requires row_near { IsSized 34 row }
     requires start_low { negsuc 63 <ℤ (column +ℤ pos (64 * at)) }
     requires start_high { (column +ℤ pos (64 * at)) <ℤ pos 65536 }
-    ensures here { (n : ℕ) → n < 8192 → n / 64 % 8 ≡ at → place_bit words.new n ≡ (place_bit words.old n || glyph_bit bytes.now glyph (column +ℤ pos (n % 512)) (row +ℤ pos (n / 512))) }
+    ensures here { (n : ℕ) → n < 8192 → n / 64 % 8 ≡ at
+        → place_bit words.new n ≡ (place_bit words.old n || glyph_bit bytes.now glyph (column +ℤ pos (n % 512))
+        (row +ℤ pos (n / 512))) }
     ensures elsewhere { (n : ℕ) → n / 64 % 8 ≢ at → place_bit words.new n ≡ place_bit words.old n }
 {
     let read = column_read(glyph.first, column_at(column, at));
@@ -206,7 +212,9 @@ fn put_narrow(
     requires narrow { glyph.columns ≤ 57 }
     requires read { pos read ≡ pos glyph.first +ℤ int_max (pos 0) (column +ℤ pos (64 * at)) }
     requires within { 2 * strike_words bytes.now + read / 8 + 8 ≤ length bytes.now }
-    ensures here { (n : ℕ) → n < 8192 → n / 64 % 8 ≡ at → place_bit words.new n ≡ (place_bit words.old n || glyph_bit bytes.now glyph (column +ℤ pos (n % 512)) (row +ℤ pos (n / 512))) }
+    ensures here { (n : ℕ) → n < 8192 → n / 64 % 8 ≡ at
+        → place_bit words.new n ≡ (place_bit words.old n || glyph_bit bytes.now glyph (column +ℤ pos (n % 512))
+        (row +ℤ pos (n / 512))) }
     ensures elsewhere { (n : ℕ) → n / 64 % 8 ≢ at → place_bit words.new n ≡ place_bit words.old n }
 {
     let start = column_at(column, at);
@@ -227,7 +235,9 @@ fn put_wide(words: &mut [u64; 128], at: usize, bytes: &[u8], glyph: Glyph, colum
     requires row_near { IsSized 34 row }
     requires start_low { negsuc 63 <ℤ (column +ℤ pos (64 * at)) }
     requires start_high { (column +ℤ pos (64 * at)) <ℤ pos 65536 }
-    ensures here { (n : ℕ) → n < 8192 → n / 64 % 8 ≡ at → place_bit words.new n ≡ (place_bit words.old n || glyph_bit bytes.now glyph (column +ℤ pos (n % 512)) (row +ℤ pos (n / 512))) }
+    ensures here { (n : ℕ) → n < 8192 → n / 64 % 8 ≡ at
+        → place_bit words.new n ≡ (place_bit words.old n || glyph_bit bytes.now glyph (column +ℤ pos (n % 512))
+        (row +ℤ pos (n / 512))) }
     ensures elsewhere { (n : ℕ) → n / 64 % 8 ≢ at → place_bit words.new n ≡ place_bit words.old n }
 {
     let start = column_at(column, at);

@@ -1,6 +1,6 @@
 //! The layers of a window of the library changed, as whoever keeps its controls and lists would.
 ghost use Rattle.std.specs.Prelude.{◌≡◌, ◌<◌, ◌≤◌, length, List, IfOk};
-ghost use Rattle.def_iface.specs.Stocked.{SlotView};
+ghost use Rattle.def_iface.specs.WindowSlots.{WindowSlot};
 ghost use Rattle.window_list.specs.Holders.{ArePartsApart, IsLayerAt};
 ghost use Rattle.window_mgr.specs.Kept.{IsKept};
 ghost use Rattle.window_mgr.specs.Whole.{IsWholeManager};
@@ -134,7 +134,7 @@ fn relay(windows: &mut WindowManager, at: usize, relaying: Relaying) -> Result<(
     requires kept { IsKept ⟦<TakenWindow as Defined>⟧.loan windows.old }
     requires at { at < length windows.old.windows.records.items }
     requires is { (w : _) → IsWindowAt windows.old.windows.records.items at w → IsRelaying w.layers relaying }
-    ensures { (slots : List SlotView) → IsWholeManager ⟦<TakenWindow as Defined>⟧.loan windows.old slots
+    ensures { (slots : List WindowSlot) → IsWholeManager ⟦<TakenWindow as Defined>⟧.loan windows.old slots
         → IsWholeManager ⟦<TakenWindow as Defined>⟧.loan windows.new slots }
 {
     let Relaying { relaid, afresh } = relaying;
@@ -156,7 +156,7 @@ pub fn put(
     rect: Rect,
 ) -> Result<(), Refusal>
     requires { IsKept ⟦<TakenWindow as Defined>⟧.loan windows.old }
-    ensures { (slots : List SlotView) → IsWholeManager ⟦<TakenWindow as Defined>⟧.loan windows.old slots
+    ensures { (slots : List WindowSlot) → IsWholeManager ⟦<TakenWindow as Defined>⟧.loan windows.old slots
         → IsWholeManager ⟦<TakenWindow as Defined>⟧.loan windows.new slots }
 {
     let Some(at) = windows.find(window) else {
@@ -176,7 +176,7 @@ pub fn take_out(
     part: Part,
 ) -> Result<(), Refusal>
     requires { IsKept ⟦<TakenWindow as Defined>⟧.loan windows.old }
-    ensures { (slots : List SlotView) → IsWholeManager ⟦<TakenWindow as Defined>⟧.loan windows.old slots
+    ensures { (slots : List WindowSlot) → IsWholeManager ⟦<TakenWindow as Defined>⟧.loan windows.old slots
         → IsWholeManager ⟦<TakenWindow as Defined>⟧.loan windows.new slots }
 {
     let Some(at) = windows.find(window) else {

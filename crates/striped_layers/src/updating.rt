@@ -1,6 +1,6 @@
 //! Updates of windows of the library, layer by layer.
 ghost use Rattle.std.specs.Prelude.{List, IfOk};
-ghost use Rattle.def_iface.specs.Stocked.{SlotView};
+ghost use Rattle.def_iface.specs.WindowSlots.{WindowSlot};
 ghost use Rattle.desk_call.specs.declared.activity.Activity.TheVariants.{Idle};
 ghost use Rattle.window_mgr.specs.Kept.{IsKept};
 ghost use Rattle.window_mgr.specs.Whole.{IsWholeManager};
@@ -33,7 +33,7 @@ pub fn update(
     requires kept { IsKept ⟦<TakenWindow as Defined>⟧.loan windows.old }
     requires whole { IsWholeUpdates ⟦<TakenWindow as Defined>⟧.loan activity.old windows.old updates.old }
     ensures updates { IsWholeUpdates ⟦<TakenWindow as Defined>⟧.loan activity.new windows.new updates.new }
-    ensures windows { (slots : List SlotView) → IsWholeManager ⟦<TakenWindow as Defined>⟧.loan windows.old slots
+    ensures windows { (slots : List WindowSlot) → IsWholeManager ⟦<TakenWindow as Defined>⟧.loan windows.old slots
         → IsWholeManager ⟦<TakenWindow as Defined>⟧.loan windows.new slots }
 {
     activity.admit(call.standing())?;
@@ -48,7 +48,7 @@ pub fn update_at_once(
     call: &UpdateCall<'_>,
 ) -> Result<(), Refusal>
     requires { IsKept ⟦<TakenWindow as Defined>⟧.loan windows.old }
-    ensures { (slots : List SlotView) → IsWholeManager ⟦<TakenWindow as Defined>⟧.loan windows.old slots
+    ensures { (slots : List WindowSlot) → IsWholeManager ⟦<TakenWindow as Defined>⟧.loan windows.old slots
         → IsWholeManager ⟦<TakenWindow as Defined>⟧.loan windows.new slots }
 {
     let mut updates = updates_for(alloc, windows)?;

@@ -3,7 +3,8 @@ ghost use Rattle.std.specs.Prelude.{◌≡◌, ◌↔◌, false, true, ◌&&◌,
 ghost use Rattle.tb_geom.specs.Points.{minus};
 ghost use Rattle.tb_geom.specs.declared.point.Point.{Point};
 ghost use Rattle.tb_geom.specs.declared.rect.Rect.{Rect};
-ghost use Rattle.tb_geom.specs.Rects.{IsBoxOf, between, rect_holds, in_plane, is_in_range, is_coordinate, moved_rect, is_empty_rect, empty_rect, shared_rect, rect_around};
+ghost use Rattle.tb_geom.specs.Rects.{IsBoxOf, between, rect_holds, in_plane, is_in_range, is_coordinate, moved_rect};
+ghost use Rattle.tb_geom.specs.Rects.{is_empty_rect, empty_rect, shared_rect, rect_around};
 
 use crate::{Point, Refusal};
 

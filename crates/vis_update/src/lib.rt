@@ -11,7 +11,7 @@
 //! A call that changes the layers of one window moves no window: `relaying_of` answers what of its content becomes white,
 //! what is stale afterwards, and what is drawn afresh.
 //!
-//! The contracts ask no region: they say of each pixel whose it was and whose it is, by the words of `def_iface`
+//! The contracts ask no region: they say of each pixel whose it was and whose it is, by the words of `desk_layers`
 //! (`IsPlan`, `IsScrollPlan`). Which call it is, they do not know.
 #![tactic(auto)]
 

@@ -16,7 +16,8 @@ pub fn read_to_end<R: Source>(
 ) -> Result<Vec<u8>, Refusal>
     requires unread { (R.input source.old).reads ≡ 0 }
     requires going { IsOpen (R.input source.old) }
-    ensures whole { IfOk result (λ bytes. IsKeptOf most (IsEntire (R.input source.old) (R.input source.new)) bytes.items) }
+    ensures whole { IfOk result (λ bytes. IsKeptOf most (IsEntire (R.input source.old) (R.input source.new))
+        bytes.items) }
     ensures quiet { OnOk result ((R.input source.new).has_failed ≡ false) }
     ensures refused { IfErr result (IsNotHad (R.input source.old) (R.input source.new)) }
 {

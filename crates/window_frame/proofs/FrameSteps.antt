@@ -8,7 +8,7 @@ use Rattle.tb_geom.specs.Rects.{in_plane}
 use Rattle.def_iface.specs.Slots.{TakenBox}
 use Rattle.def_iface.specs.WindowNews.{WindowNews, told_title, told_highlighted, told_tracked}
 use Rattle.def_iface.specs.WindowMeaning.{WindowLoan}
-use Rattle.def_iface.specs.Stocked.{SlotView}
+use Rattle.def_iface.specs.WindowSlots.{WindowSlot}
 use Rattle.desk_call.specs.declared.frame.FrameCall.{FrameCall}
 use Rattle.desk_call.specs.declared.activity.Activity.TheVariants.{Idle, Tracking}
 use Rattle.desk_call.specs.declared.frame.FrameCall.TheVariants as asks
@@ -49,15 +49,15 @@ still_kept loan t new after kept leaves = record { slots = kept.slots; whole = (
 module _ {V : Type 0} {H : V → Type 0} (loan : TakenBox V H → WindowLoan) (t : WindowManager V H) where
   -- ---- nothing changes
 
-  pub unchanged : (u : Opened) (slots : List SlotView) → IsDeskUnchanged (desk_state loan t u slots) (desk_state loan t u slots)
+  pub unchanged : (u : Opened) (slots : List WindowSlot) → IsDeskUnchanged (desk_state loan t u slots) (desk_state loan t u slots)
   unchanged u slots = record { windows = record { desk = refl; stale = λ p on. refl; image = λ p on. refl }; activity = refl; begun = refl }
 
-  pub refused : (u : Opened) (call : FrameCall) (e : Refusal) → ((slots : List SlotView) → first_refusal (frame_refusals call (desk_of loan t slots)) ≡ Some e)
+  pub refused : (u : Opened) (call : FrameCall) (e : Refusal) → ((slots : List WindowSlot) → first_refusal (frame_refusals call (desk_of loan t slots)) ≡ Some e)
       → IsFrameStepOverAnySlots loan call (Err e) t u t u
   refused u call e why slots whole = (whole, (inl (why slots), unchanged u slots))
 
   -- a window that is not there is missing
-  pub missing : (s : ℕ) (slots : List SlotView) → record_with s (map (record_of loan) t.windows.records.items) ≡ None → is_missing s (desk_of loan t slots).windows ≡ true
+  pub missing : (s : ℕ) (slots : List WindowSlot) → record_with s (map (record_of loan) t.windows.records.items) ≡ None → is_missing s (desk_of loan t slots).windows ≡ true
   missing s slots none = ap is_none none
 
   -- ---- a window that is there
@@ -69,7 +69,7 @@ module _ {V : Type 0} {H : V → Type 0} (loan : TakenBox V H → WindowLoan) (t
     found : record_with s (desk_of loan t []).windows ≡ Some (record_of loan here.0)
     found = telling.found loan t kept s at here.0 stands.0 here.1 (stands.1 here.0 here.1)
 
-    pub is_there : (slots : List SlotView) → is_missing s (desk_of loan t slots).windows ≡ false
+    pub is_there : (slots : List WindowSlot) → is_missing s (desk_of loan t slots).windows ≡ false
     is_there slots = ap is_none found
 
     -- what is said of the window at its place is said of that of its number
@@ -150,7 +150,7 @@ module _ {V : Type 0} {H : V → Type 0} (loan : TakenBox V H → WindowLoan) (t
   -- ---- the tracking of a go-away box
 
   module _ (kept : IsKept loan t) (g : GoAwayPoint) (at : ℕ) (stands : StandsAt t.windows.records.items g.window at) where
-    refused_or_not : (slots : List SlotView) (b : Bool) → in_plane g.point ≡ b → first_refusal (frame_refusals (asks.TrackGoAway g) (desk_of loan t slots)) ≡ (if b then None else Some OutOfRange)
+    refused_or_not : (slots : List WindowSlot) (b : Bool) → in_plane g.point ≡ b → first_refusal (frame_refusals (asks.TrackGoAway g) (desk_of loan t slots)) ≡ (if b then None else Some OutOfRange)
     refused_or_not slots true e = λ i. first_refusal ((is_there kept g.window at stands slots i, NoSuchWindow) ∷ (not (e i), OutOfRange) ∷ [])
     refused_or_not slots false e = λ i. first_refusal ((is_there kept g.window at stands slots i, NoSuchWindow) ∷ (not (e i), OutOfRange) ∷ [])
 
@@ -169,7 +169,7 @@ module _ {V : Type 0} {H : V → Type 0} (loan : TakenBox V H → WindowLoan) (t
     free : first_refusal (tracking_refusals p) ≡ None
     free i = first_refusal ((not (planar i), OutOfRange) ∷ [])
 
-    tracked_at : (after : Opened) (slots : List SlotView) (whole : IsWholeManager loan t slots) → IsTrackedAt p inside shows (desk_state loan t u slots) (desk_state loan new after slots)
+    tracked_at : (after : Opened) (slots : List WindowSlot) (whole : IsWholeManager loan t slots) → IsTrackedAt p inside shows (desk_state loan t u slots) (desk_state loan new after slots)
     tracked_at after slots whole = record { window = w; tracked = sym open_is; answer = is; told = (leaves slots whole).1 }
 
   pub stepped : (u : Opened) (w : ℕ) (p : Point) (inside : Bool) (new : WindowManager V H) → Tracking w ≡ u.activity → in_plane p ≡ true → inside ≡ in_go_away w (desk_of loan t []) p

@@ -1,8 +1,9 @@
 //! The items of a desk, of one kind.
-ghost use Rattle.std.specs.Prelude.{◌≡◌, ◌<◌, ◌≤◌, ◌+◌, ◌++◌, [], ◌∷◌, None, Some, OnOk, IfSome, IsOk, vec_capacity, slice_get, length};
+ghost use Rattle.std.specs.Prelude.{◌≡◌, ◌<◌, ◌≤◌, ◌+◌, ◌++◌, [], ◌∷◌, None, Some, OnOk, IfSome, IsOk, vec_capacity};
+ghost use Rattle.std.specs.Prelude.{slice_get, length};
 ghost use Rattle.std.specs.Borrow.{sem};
-ghost use Rattle.std.specs.List.{remove};
-ghost use Rattle.window_items.specs.Items.{item_index, count_of, place_among, last_index_of, youngest_of, without_youngest, serial_after};
+ghost use Rattle.std.specs.List.{position, remove};
+ghost use Rattle.window_items.specs.Items.{has_serial, item_index, count_of, place_among, last_index_of, youngest_of, without_youngest, serial_after};
 
 use crate::Item;
 use std::alloc::{AllocError, Global};
@@ -38,6 +39,14 @@ impl<T> Items<T> {
         self.items
             .iter()
             .position(|item| item.is_item(window, serial))
+    }
+
+    /// Where the item of this serial stands in the list, in whichever window it is, if there is one.
+    pub fn with_serial(&self, serial: u64) -> Option<usize>
+        ensures first { result ≡ position (has_serial serial) self.now.items.items }
+        ensures within { IfSome result (λ at. at < length self.now.items.items) }
+    {
+        self.items.iter().position(|item| item.serial == serial)
     }
 
     /// How many items the window has.

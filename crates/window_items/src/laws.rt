@@ -3,7 +3,8 @@ ghost use Rattle.std.specs.Prelude.{◌≡◌, ◌++◌, ◌∷◌, [], ℕ, tru
 ghost use Rattle.std.specs.List.{list_any, position, remove};
 ghost use Rattle.std.specs.Option.{option_map};
 ghost use Rattle.window_items.specs.declared.item.Item.{Item};
-ghost use Rattle.window_items.specs.Items.{has_serial, is_in, is_in_at, item_index, items_of, count_of, place_among, youngest_of, without_youngest, are_before, serial_after, edit_at};
+ghost use Rattle.window_items.specs.Items.{has_serial, is_in, is_in_at, item_index, items_of, count_of, place_among};
+ghost use Rattle.window_items.specs.Items.{youngest_of, without_youngest, are_before, serial_after, edit_at};
 
 /// What is changed of an item, or that it is taken out, leaves the items of every other window.
 #[tactic(auto, using(crate::proofs::LawLemmas::kept_by_change, crate::proofs::LawLemmas::kept_by_removal))]

@@ -1,9 +1,9 @@
 //! What the windows of a desk have, of one kind, as plain data: their controls, or their lists, whatever is kept of one.
 //!
 //! `Items` has those of all windows, the oldest first, and the serial of the next one (*Inside Macintosh* I, "The Control
-//! Manager": the control lists of windows; IV, "The List Manager Package"). An item is found by its window and its serial. Each
-//! has a serial of its own, in whichever window it is: `push` takes the next one, and no serial is given twice. How many items
-//! a window may have is for the caller to judge, by `count`.
+//! Manager": the control lists of windows; IV, "The List Manager Package"). An item is found by its window and its serial, or by
+//! its serial alone. Each has a serial of its own, in whichever window it is: `push` takes the next one, and no serial is given
+//! twice. How many items a window may have is for the caller to judge, by `count`.
 //!
 //! A window's items stand in the list in their order, with those of other windows between them: `layer_index` is the place of an
 //! item among its window's. `remove` takes one out, and `take_of` the youngest of a window, until it has none. `at_mut` lends

@@ -9,7 +9,7 @@ use Rattle.tb_geom.specs.Rects.{between}
 use Rattle.bit_map.specs.Bits.{on_map, bit, is_below}
 use Rattle.def_iface.specs.Slots.{TakenBox}
 use Rattle.def_iface.specs.WindowMeaning.{WindowLoan}
-use Rattle.def_iface.specs.Stocked.{SlotView}
+use Rattle.def_iface.specs.WindowSlots.{WindowSlot}
 use Rattle.desk_layers.specs.Desk as layers
 use Rattle.desk_layers.specs.Desk.{LayeredDesk}
 use Rattle.desk_layers.specs.Owner.{owner, own_bit, is_content}
@@ -39,7 +39,7 @@ between-is_below n (negsuc k) = refl
 
 module _ {V : Type 0} {H : V → Type 0} (loan : TakenBox V H → WindowLoan) where
   -- all that is known where a call arranged windows
-  pub record IsArrangedCall (touch : Touch) (t new : WindowManager V H) (slots left : List SlotView) (after : FullDesk) (olds : List Area) (plan : Plan) : Type 0 where
+  pub record IsArrangedCall (touch : Touch) (t new : WindowManager V H) (slots left : List WindowSlot) (after : FullDesk) (olds : List Area) (plan : Plan) : Type 0 where
     pub whole : IsWholeManager loan t slots
     pub screen : layered_desk after ≡ record (layered_desk (desk_of loan t slots)) { windows = (layered_desk after).windows }
     pub sound : IsSoundDesk after
@@ -52,7 +52,7 @@ module _ {V : Type 0} {H : V → Type 0} (loan : TakenBox V H → WindowLoan) wh
     pub gray : new.gray ≡ t.gray
     pub lie : All LieThere new.windows.records.items
 
-  module _ (touch : Touch) (t new : WindowManager V H) (slots left : List SlotView) (after : FullDesk) (olds : List Area) (plan : Plan) (N : IsArrangedCall touch t new slots left after olds plan) where
+  module _ (touch : Touch) (t new : WindowManager V H) (slots left : List WindowSlot) (after : FullDesk) (olds : List Area) (plan : Plan) (N : IsArrangedCall touch t new slots left after olds plan) where
     on_before : (p : Point) → layers.on_screen (layered_desk (desk_of loan t slots)) p ≡ on_map t.screen p
     unfolding on_map
     on_before p = λ i. between-is_below t.screen.width p.h i && between-is_below t.screen.height p.v i

@@ -7,7 +7,7 @@ use Rattle.bit_map.specs.Bits.{Bits, bit, on_map}
 use Rattle.bit_blit.specs.Draws.{Draws}
 use Rattle.def_iface.specs.Slots.{TakenBox}
 use Rattle.def_iface.specs.WindowMeaning.{WindowLoan}
-use Rattle.def_iface.specs.Stocked.{SlotView}
+use Rattle.def_iface.specs.WindowSlots.{WindowSlot}
 use Rattle.desk_layers.specs.Desk as layers
 use Rattle.desk_layers.specs.Desk.{LayeredDesk}
 use Rattle.desk_layers.specs.Owner.{Owner, owner, owner_among, own_bit, same_owner, is_content}
@@ -31,7 +31,7 @@ use Rattle.window_mgr.proofs.Committing.{not_bar_among}
 use Rattle.window_mgr.proofs.Remarked.{unless}
 use Rattle.window_mgr.proofs.Repicturing.{not_stale}
 
-module _ {V : Type 0} {H : V → Type 0} (loan : TakenBox V H → WindowLoan) (t : WindowManager V H) (slots : List SlotView) (whole : IsWholeManager loan t slots) (titles : List BarTitle) (screen : Bits)
+module _ {V : Type 0} {H : V → Type 0} (loan : TakenBox V H → WindowLoan) (t : WindowManager V H) (slots : List WindowSlot) (whole : IsWholeManager loan t slots) (titles : List BarTitle) (screen : Bits)
     (drawn : Draws (λ p. int_lt p.v t.bar.rows) (λ p _. bar_picture t.font titles p) t.screen screen) where
   abbrev pub with_titles : WindowManager V H
   with_titles = record t { bar = record t.bar { titles = titles }; screen = screen }

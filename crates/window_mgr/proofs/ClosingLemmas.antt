@@ -11,7 +11,7 @@ use Rattle.std.proofs.lemmas.Option.{slice_get-get_or}
 use Rattle.def_iface.specs.Slots.{TakenBox}
 use Rattle.def_iface.specs.declared.window_def.Stage.TheVariants.{Live, Closed}
 use Rattle.def_iface.specs.WindowMeaning.{WindowDefinition, WindowLoan, SameLook}
-use Rattle.def_iface.specs.Stocked.{SlotView, IsFull, is_left, holding}
+use Rattle.def_iface.specs.WindowSlots.{WindowSlot, IsFull, is_left, holding}
 use Rattle.window_list.specs.declared.window.Window.{Window}
 use Rattle.window_list.specs.Lists.{IsLastBox}
 use Rattle.vis_update.specs.Records.{WindowRecord}
@@ -53,8 +53,8 @@ module _ {X : Type 0} where
       (subst (λ x. R (get_or (xs ++ y ∷ []) i d) x) (get_or-append_seam xs y [] d) (pairs i (length xs) d low (omega arith)))
 
 -- an empty slot got a closed definition
-pub record Shut (loan : WindowLoan) (old new : List SlotView) : Type 0 where
-  pub view : SlotView
+pub record Shut (loan : WindowLoan) (old new : List WindowSlot) : Type 0 where
+  pub view : WindowSlot
   pub definition : WindowDefinition
   pub found : slice_get old loan.slot ≡ Some view
   pub empty : view.held ≡ None
@@ -62,14 +62,14 @@ pub record Shut (loan : WindowLoan) (old new : List SlotView) : Type 0 where
   pub look : SameLook loan.definition definition
   pub back : new ≡ slice_set old loan.slot (holding (Some definition) view)
 
-pub shut_facts : (loan : WindowLoan) (old new : List SlotView) → IsShut loan old new → Shut loan old new
+pub shut_facts : (loan : WindowLoan) (old new : List WindowSlot) → IsShut loan old new → Shut loan old new
 shut_facts loan old new shut = by_cases (slice_get old loan.slot) refl shut.left shut.back
   where
     held_none : (o : Option WindowDefinition) → is_none o ≡ true → o ≡ None
     held_none None e = refl
     held_none (Some d) e = absurd (cc)
 
-    by_cases : (o : Option SlotView) → slice_get old loan.slot ≡ o → option_map_or (λ (s : SlotView). is_none s.held) o false ≡ true → IfSome o (λ s. new ≡ slice_set old loan.slot (holding (Some shut.definition) s)) → Shut loan old new
+    by_cases : (o : Option WindowSlot) → slice_get old loan.slot ≡ o → option_map_or (λ (s : WindowSlot). is_none s.held) o false ≡ true → IfSome o (λ s. new ≡ slice_set old loan.slot (holding (Some shut.definition) s)) → Shut loan old new
     by_cases None at e back = absurd (cc)
     by_cases (Some s) at e back = record {
       view = s;
@@ -81,10 +81,10 @@ shut_facts loan old new shut = by_cases (slice_get old loan.slot) refl shut.left
       back = back;
     }
 
-left_parts : (ws : List WindowRecord) (w : WindowRecord) (slots : List SlotView) → IsStocked (ws ++ w ∷ []) slots → All (λ v. is_left v.slot slots ≡ true) ws × (is_left w.slot slots ≡ true)
+left_parts : (ws : List WindowRecord) (w : WindowRecord) (slots : List WindowSlot) → IsStocked (ws ++ w ∷ []) slots → All (λ v. is_left v.slot slots ≡ true) ws × (is_left w.slot slots ≡ true)
 left_parts ws w slots stocked = All-pop (λ v. is_left v.slot slots ≡ true) (ws ++ w ∷ []) ws (Some w) refl stocked.left
 
-module _ (ws : List WindowRecord) (w : WindowRecord) (old new : List SlotView) (stocked : IsStocked (ws ++ w ∷ []) old) (is_shut : IsShut (loan_of w) old new) where
+module _ (ws : List WindowRecord) (w : WindowRecord) (old new : List WindowSlot) (stocked : IsStocked (ws ++ w ∷ []) old) (is_shut : IsShut (loan_of w) old new) where
   shut : Shut (loan_of w) old new
   shut = shut_facts (loan_of w) old new is_shut
 
@@ -100,7 +100,7 @@ module _ (ws : List WindowRecord) (w : WindowRecord) (old new : List SlotView) (
   -- the others are stocked, where the last window's slot has its definition
   pub stocked_front : IsStocked ws new
   stocked_front = record {
-    left = λ k d low. ap (λ o. option_map_or (λ (s : SlotView). is_none s.held) o false) (elsewhere _ (pairs_last (λ a b. a.slot ≡ b.slot → ⊥) ws w stocked.apart k d low)) ∙ (left_parts ws w old stocked).0 k d low;
+    left = λ k d low. ap (λ o. option_map_or (λ (s : WindowSlot). is_none s.held) o false) (elsewhere _ (pairs_last (λ a b. a.slot ≡ b.slot → ⊥) ws w stocked.apart k d low)) ∙ (left_parts ws w old stocked).0 k d low;
     apart = pairs_front (λ a b. a.slot ≡ b.slot → ⊥) ws w stocked.apart;
     others = others;
   }
@@ -117,28 +117,28 @@ module _ (ws : List WindowRecord) (w : WindowRecord) (old new : List SlotView) (
           (cases_eq k w.slot)
 
   -- what ends the desk without its last window ends the whole desk
-  closed_with : (final : List SlotView) → IsClosed ws new final → IsClosed (ws ++ w ∷ []) old final
+  closed_with : (final : List WindowSlot) → IsClosed ws new final → IsClosed (ws ++ w ∷ []) old final
   closed_with final rest = record {
     ended = record {
-      kinds = rest.ended.kinds ∙ ap (map (λ s. s.kind)) shut.back ∙ map-set (λ (s : SlotView). s.kind) old w.slot shut.view _ shut.found refl;
+      kinds = rest.ended.kinds ∙ ap (map (λ s. s.kind)) shut.back ∙ map-set (λ (s : WindowSlot). s.kind) old w.slot shut.view _ shut.found refl;
       others = others;
       closed = All-push (IsClosedAt final) ws w rest.ended.closed (_, rest.ended.others w.slot _ here here_full, (shut.definition, refl, shut.closed, shut.look));
     };
     full = rest.full;
   }
     where
-      others : (k : ℕ) (s : SlotView) → slice_get old k ≡ Some s → IsFull s → slice_get final k ≡ Some s
+      others : (k : ℕ) (s : WindowSlot) → slice_get old k ≡ Some s → IsFull s → slice_get final k ≡ Some s
       others k s e full = ⊎_elim
           (λ at. absurd (
           let same : Some shut.view ≡ Some s = sym shut.found ∙ ap (slice_get old) (sym at) ∙ e in
           let is : shut.view ≡ s = cc in
-          let none : None ≡ Some full.0 = sym shut.empty ∙ ap (λ (t : SlotView). t.held) is ∙ full.1 in
+          let none : None ≡ Some full.0 = sym shut.empty ∙ ap (λ (t : WindowSlot). t.held) is ∙ full.1 in
           cc))
           (λ away. rest.ended.others k s (elsewhere k away ∙ e) full)
           (cases_eq k w.slot)
 
 -- a stock without an empty slot is as the end of a desk without a window leaves it
-closed_none : (slots : List SlotView) → IsStocked [] slots → IsClosed [] slots slots
+closed_none : (slots : List WindowSlot) → IsStocked [] slots → IsClosed [] slots slots
 closed_none slots stocked = record {
   ended = record {
     kinds = refl;
@@ -149,22 +149,22 @@ closed_none slots stocked = record {
 }
 
 -- of all windows these are left to put away
-pub record IsUnderWay (all left : List WindowRecord) (old now : List SlotView) : Type 0 where
+pub record IsUnderWay (all left : List WindowRecord) (old now : List WindowSlot) : Type 0 where
   pub settled : All IsSettled left
   pub stocked : IsStocked left now
-  pub rest : (final : List SlotView) → IsClosed left now final → IsClosed all old final
+  pub rest : (final : List WindowSlot) → IsClosed left now final → IsClosed all old final
 
 -- at first all are
-pub begins : (all : List WindowRecord) (old : List SlotView) → All IsSettled all → IsStocked all old → IsUnderWay all all old old
+pub begins : (all : List WindowRecord) (old : List WindowSlot) → All IsSettled all → IsStocked all old → IsUnderWay all all old old
 begins all old settled stocked = record { settled = settled; stocked = stocked; rest = λ final c. c }
 
 -- where none is left, the desk has ended
-pub ends : {V : Type 0} {H : V → Type 0} (loan : TakenBox V H → WindowLoan) (all : List WindowRecord) (us : List (Window V H)) (none : us ≡ []) (old now : List SlotView) → IsUnderWay all (map (record_of loan) us) old now → IsClosed all old now
+pub ends : {V : Type 0} {H : V → Type 0} (loan : TakenBox V H → WindowLoan) (all : List WindowRecord) (us : List (Window V H)) (none : us ≡ []) (old now : List WindowSlot) → IsUnderWay all (map (record_of loan) us) old now → IsClosed all old now
 ends loan all us none old now under =
     let last : IsUnderWay all [] old now = subst (λ us. IsUnderWay all (map (record_of loan) us) old now) none under in
     last.rest now (closed_none now last.stocked)
 
-module _ {V : Type 0} {H : V → Type 0} (loan : TakenBox V H → WindowLoan) (all : List WindowRecord) (us vs : List (Window V H)) (taken : TakenBox V H) (box : IsLastBox us taken vs) (old now : List SlotView) (under : IsUnderWay all (map (record_of loan) us) old now) where
+module _ {V : Type 0} {H : V → Type 0} (loan : TakenBox V H → WindowLoan) (all : List WindowRecord) (us vs : List (Window V H)) (taken : TakenBox V H) (box : IsLastBox us taken vs) (old now : List WindowSlot) (under : IsUnderWay all (map (record_of loan) us) old now) where
   abbrev v : Window V H
   v = box.window
 
@@ -186,7 +186,7 @@ module _ {V : Type 0} {H : V → Type 0} (loan : TakenBox V H → WindowLoan) (a
   last_is_left = ap (λ t. is_left (loan t).slot now) box.its ∙ (left_parts (map (record_of loan) vs) (record_of loan v) now before_last.stocked).1
 
   -- once it is put away, the windows before it are left
-  pub goes_on : (new : List SlotView) → IsShut (loan taken) now new → IsUnderWay all (map (record_of loan) vs) old new
+  pub goes_on : (new : List WindowSlot) → IsShut (loan taken) now new → IsUnderWay all (map (record_of loan) vs) old new
   goes_on new shut_it = let is_shut = subst (λ t. IsShut (loan t) now new) box.its shut_it in record {
     settled = settled_parts.0;
     stocked = stocked_front (map (record_of loan) vs) (record_of loan v) now new before_last.stocked is_shut;

@@ -10,7 +10,7 @@ use Rattle.def_iface.specs.Slots.{TakenBox}
 use Rattle.desk_layers.specs.declared.part.Part.{Part}
 use Rattle.desk_layers.specs.declared.part.Part.TheVariants.{Picture}
 use Rattle.def_iface.specs.WindowMeaning.{WindowLoan}
-use Rattle.def_iface.specs.Stocked.{SlotView}
+use Rattle.def_iface.specs.WindowSlots.{WindowSlot}
 use Rattle.desk_layers.specs.Desk as layers
 use Rattle.desk_layers.specs.Desk.{same_part}
 use Rattle.desk_layers.specs.Owner.{Owner, owner, same_owner}
@@ -63,7 +63,7 @@ is_picture desk w p distinct there apart its =
     covered_is w.layers (minus p w.place) (are_apart (look_of desk) w apart)
     ∙ ap not (ap (λ b. b && same_part (part_at w.layers (minus p w.place)) Picture) (sym (same_number w.serial)) ∙ ap (λ o. same_owner o (Content w.serial Picture)) (sym (layer_there desk w p distinct there its)))
 
-module _ {V : Type 0} {H : V → Type 0} (loan : TakenBox V H → WindowLoan) (t : WindowManager V H) (slots : List SlotView) (whole : IsWholeManager loan t slots) (at : ℕ) (low : at < length t.windows.records.items) (w : Window V H) (there : IsWindowAt t.windows.records.items at w) where
+module _ {V : Type 0} {H : V → Type 0} (loan : TakenBox V H → WindowLoan) (t : WindowManager V H) (slots : List WindowSlot) (whole : IsWholeManager loan t slots) (at : ℕ) (low : at < length t.windows.records.items) (w : Window V H) (there : IsWindowAt t.windows.records.items at w) where
   abbrev desk : FullDesk
   desk = desk_of loan t slots
 

@@ -3,7 +3,7 @@ use Rattle.std.proofs.Common.{◌≡◌, ℕ, ◌==◌, Bool, true, false, if◌
 use Rattle.std.specs.Prelude.{All}
 use Rattle.def_iface.specs.Slots.{TakenBox}
 use Rattle.def_iface.specs.WindowMeaning.{WindowLoan}
-use Rattle.def_iface.specs.Stocked.{SlotView}
+use Rattle.def_iface.specs.WindowSlots.{WindowSlot}
 use Rattle.window_list.specs.declared.window.Window.{Window}
 use Rattle.vis_update.specs.Records.{WindowRecord, record_of}
 use Rattle.vis_update.specs.Touches.{is_this}
@@ -33,7 +33,7 @@ module _ (active : Option ℕ) where
   settled_behind true ws h = settled_map (with_highlighting false active) (λ w its. either false active IsSettled w its (record { origin = its.origin; placed = its.placed; live = its.live; told = its.told; fits = its.fits; inside = its.inside; within = its.within; layers = its.layers; goes_by = its.goes_by })) ws h
   settled_behind false ws h = h
 
-  pub stocked_behind : (b : Bool) (ws : List WindowRecord) (slots : List SlotView) → IsStocked ws slots → IsStocked (windows_behind b ws) slots
+  pub stocked_behind : (b : Bool) (ws : List WindowRecord) (slots : List WindowSlot) → IsStocked ws slots → IsStocked (windows_behind b ws) slots
   stocked_behind true ws slots h = stocked_map (with_highlighting false active) same_slot ws slots h
   stocked_behind false ws slots h = h
 

@@ -7,7 +7,7 @@ use Rattle.tb_geom.specs.declared.refusal.Refusal.TheVariants.{NoMemory}
 use Rattle.def_iface.specs.Slots.{TakenBox}
 use Rattle.def_iface.specs.declared.window_def.Stage.TheVariants.{Live}
 use Rattle.def_iface.specs.WindowMeaning.{WindowLoan}
-use Rattle.def_iface.specs.Stocked.{SlotView, is_left}
+use Rattle.def_iface.specs.WindowSlots.{WindowSlot, is_left}
 use Rattle.desk_layers.specs.Owner.{frame_bit}
 use Rattle.desk_layers.specs.Change.{IsChanged, no_change}
 use Rattle.window_list.specs.declared.window.Window.{Window}
@@ -58,12 +58,12 @@ module _ {V : Type 0} {H : V → Type 0} (loan : TakenBox V H → WindowLoan) wh
   is_live t new at a plan taken off low all = ap (λ x. (loan x).definition.stage) off.its ∙ (its_own t at off.window off.there low IsSettled all).live
 
   -- its slot is there, and empty
-  pub slot_is_left : (t new : WindowManager V H) (slots : List SlotView) (at : ℕ) (a : Activation) (plan : Plan) (taken : TakenBox V H) → IsTakenOff loan at a plan taken t new → at < length t.windows.records.items
+  pub slot_is_left : (t new : WindowManager V H) (slots : List WindowSlot) (at : ℕ) (a : Activation) (plan : Plan) (taken : TakenBox V H) → IsTakenOff loan at a plan taken t new → at < length t.windows.records.items
       → All (λ v. is_left v.slot slots ≡ true) (map (record_of loan) t.windows.records.items) → is_left (loan taken).slot slots ≡ true
   slot_is_left t new slots at a plan taken off low all = ap (λ x. is_left (loan x).slot slots) off.its ∙ its_own t at off.window off.there low (λ v. is_left v.slot slots ≡ true) all
 
   -- where memory is wanting, nothing changed
-  pub no_memory : (t : WindowManager V H) (slots : List SlotView) (s at : ℕ) → IsWholeManager loan t slots → at < length t.windows.records.items → ((w : Window V H) → IsWindowAt t.windows.records.items at w → w.serial ≡ s)
+  pub no_memory : (t : WindowManager V H) (slots : List WindowSlot) (s at : ℕ) → IsWholeManager loan t slots → at < length t.windows.records.items → ((w : Window V H) → IsWindowAt t.windows.records.items at w → w.serial ≡ s)
       → IsWindowStep (Dispose s) (Err NoMemory) (state_of loan t slots) (state_of loan t slots)
   no_memory t slots s at whole low serial =
       let w = there_is t.windows.records.items at low in
@@ -79,7 +79,7 @@ module _ {V : Type 0} {H : V → Type 0} (loan : TakenBox V H → WindowLoan) wh
 
   -- ---- all that is known where a call ended a window
 
-  pub record IsDisposeCall (s at : ℕ) (activation : Activation) (plan : Plan) (taken : TakenBox V H) (t new : WindowManager V H) (slots now : List SlotView) : Type 0 where
+  pub record IsDisposeCall (s at : ℕ) (activation : Activation) (plan : Plan) (taken : TakenBox V H) (t new : WindowManager V H) (slots now : List WindowSlot) : Type 0 where
     pub whole : IsWholeManager loan t slots
     pub low : at < length t.windows.records.items
     pub serial : (w : Window V H) → IsWindowAt t.windows.records.items at w → w.serial ≡ s
@@ -88,7 +88,7 @@ module _ {V : Type 0} {H : V → Type 0} (loan : TakenBox V H → WindowLoan) wh
     pub off : IsTakenOff loan at activation plan taken t new
     pub shut : IsShut (loan taken) slots now
 
-  module _ (s at : ℕ) (activation : Activation) (plan : Plan) (taken : TakenBox V H) (t new : WindowManager V H) (slots now : List SlotView) (N : IsDisposeCall s at activation plan taken t new slots now) where
+  module _ (s at : ℕ) (activation : Activation) (plan : Plan) (taken : TakenBox V H) (t new : WindowManager V H) (slots now : List WindowSlot) (N : IsDisposeCall s at activation plan taken t new slots now) where
     abbrev w : Window V H
     w = N.off.window
 

@@ -5,7 +5,7 @@ use Rattle.std.proofs.lemmas.Bool.{not-true}
 use Rattle.std.proofs.lemmas.List.Elements.{All-tail}
 use Rattle.std.proofs.lemmas.List.Sorted.{length_permutation}
 use Rattle.tb_geom.specs.declared.point.Point.{Point}
-use Rattle.def_iface.specs.Stocked.{SlotView}
+use Rattle.def_iface.specs.WindowSlots.{WindowSlot}
 use Rattle.desk_layers.specs.Desk as layers
 use Rattle.desk_layers.specs.Owner.{Owner, owner, owner_among, own_bit, content_bit, is_content}
 use Rattle.desk_layers.specs.Owner.Owner.{Desktop, Bar, Frame, Content}
@@ -31,7 +31,7 @@ pub record IsOneOf (before : FullDesk) (s i : ℕ) (w : WindowRecord) (rest : Li
   pub windows : before.windows ≡ put_in i w rest
   pub serial : w.serial ≡ s
 
-module _ (before : FullDesk) (s i : ℕ) (w : WindowRecord) (rest : List WindowRecord) (O : IsOneOf before s i w rest) (a : Activation) (slots : List SlotView) where
+module _ (before : FullDesk) (s i : ℕ) (w : WindowRecord) (rest : List WindowRecord) (O : IsOneOf before s i w rest) (a : Activation) (slots : List WindowSlot) where
   -- the desk without it
   abbrev pub left : FullDesk
   left = record (desk_activated rest a before) { stock = slots }
@@ -135,4 +135,4 @@ disposed_stays_right s before after right closed =
 pub disposed_keeps_kinds : (s : ℕ) (before after : FullState) → IsWindowDisposed s before after → map (λ slot. slot.kind) after.desk.stock ≡ map (λ slot. slot.kind) before.desk.stock
 disposed_keeps_kinds s before after closed =
     let shut = shut_facts (loan_of closed.window) before.desk.stock after.desk.stock closed.shut in
-    ap (map (λ slot. slot.kind)) shut.back ∙ map-set (λ (slot : SlotView). slot.kind) before.desk.stock closed.window.slot shut.view _ shut.found refl
+    ap (map (λ slot. slot.kind)) shut.back ∙ map-set (λ (slot : WindowSlot). slot.kind) before.desk.stock closed.window.slot shut.view _ shut.found refl

@@ -10,7 +10,7 @@ use Rattle.bit_blit.specs.Draws.{Draws}
 use Rattle.draw_port.specs.Ops.{op_value}
 use Rattle.def_iface.specs.Slots.{TakenBox}
 use Rattle.def_iface.specs.WindowMeaning.{WindowLoan}
-use Rattle.def_iface.specs.Stocked.{SlotView}
+use Rattle.def_iface.specs.WindowSlots.{WindowSlot}
 use Rattle.desk_layers.specs.Desk as layers
 use Rattle.desk_layers.specs.declared.part.Part.TheVariants.{Picture}
 use Rattle.desk_layers.specs.Owner.{owner, same_owner}
@@ -43,7 +43,7 @@ use Rattle.std.proofs.lemmas.Option.{slice_get_within, get_or_from_slice_get}
 
 -- ---- the desk before and after
 
-module _ {V : Type 0} {H : V → Type 0} (loan : TakenBox V H → WindowLoan) (t new : WindowManager V H) (slots : List SlotView) (d : Drawing) (at : ℕ) (whole : IsWholeManager loan t slots) (may : MayDraw d t at) (D : IsDrawnAt at d t new) where
+module _ {V : Type 0} {H : V → Type 0} (loan : TakenBox V H → WindowLoan) (t new : WindowManager V H) (slots : List WindowSlot) (d : Drawing) (at : ℕ) (whole : IsWholeManager loan t slots) (may : MayDraw d t at) (D : IsDrawnAt at d t new) where
   abbrev before : FullDesk
   before = desk_of loan t slots
 

@@ -3,7 +3,7 @@ use Rattle.std.proofs.Common.{◌≡◌, ℕ, suc, true, List, [], ◌∷◌, ma
 use Rattle.std.specs.Prelude.{All, AllPairs, Contains}
 use Rattle.std.proofs.lemmas.List.Elements.{All-map, All-weaker}
 use Rattle.std.proofs.lemmas.List.Kept.{AllPairs-cons}
-use Rattle.def_iface.specs.Stocked.{SlotView, is_left}
+use Rattle.def_iface.specs.WindowSlots.{WindowSlot, is_left}
 use Rattle.vis_update.specs.Records.{WindowRecord}
 use Rattle.window_mgr.specs.FullDesk.{IsGiven, HaveSerials, AreSerials}
 use Rattle.window_mgr.specs.Whole.{IsSettled, IsStocked}
@@ -29,7 +29,7 @@ module _ (f : WindowRecord → WindowRecord) where
   pub settled_map : ((w : WindowRecord) → IsSettled w → IsSettled (f w)) → (ws : List WindowRecord) → All IsSettled ws → All IsSettled (map f ws)
   settled_map keeps ws h = All-map IsSettled f ws (All-weaker IsSettled (λ w. IsSettled (f w)) keeps ws h)
 
-  pub stocked_map : ((w : WindowRecord) → (f w).slot ≡ w.slot) → (ws : List WindowRecord) (slots : List SlotView) → IsStocked ws slots → IsStocked (map f ws) slots
+  pub stocked_map : ((w : WindowRecord) → (f w).slot ≡ w.slot) → (ws : List WindowRecord) (slots : List WindowSlot) → IsStocked ws slots → IsStocked (map f ws) slots
   stocked_map same ws slots h = record {
     left = All-map (λ w. is_left w.slot slots ≡ true) f ws (All-weaker (λ w. is_left w.slot slots ≡ true) (λ w. is_left (f w).slot slots ≡ true) (λ w its. ap (λ k. is_left k slots) (same w) ∙ its) ws h.left);
     apart = pairs-map (λ v w. v.slot ≡ w.slot → ⊥) f (λ v w apart e. apart (sym (same v) ∙ e ∙ same w)) ws h.apart;

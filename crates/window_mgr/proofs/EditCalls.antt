@@ -8,7 +8,7 @@ use Rattle.tb_geom.specs.declared.point.Point.{Point}
 use Rattle.tb_geom.specs.Rects.{rect_holds}
 use Rattle.def_iface.specs.Slots.{TakenBox}
 use Rattle.def_iface.specs.WindowMeaning.{WindowLoan, IsWithin, WindowGoesBy}
-use Rattle.def_iface.specs.Stocked.{SlotView}
+use Rattle.def_iface.specs.WindowSlots.{WindowSlot}
 use Rattle.desk_layers.specs.Owner.{frame_bit, own_bit}
 use Rattle.desk_layers.specs.Owner.Owner.{Frame}
 use Rattle.window_list.specs.declared.window.Window.{Window}
@@ -73,7 +73,7 @@ module _ {V : Type 0} {H : V → Type 0} (loan : TakenBox V H → WindowLoan) wh
 
   -- ---- a window and the place of the edit
 
-  module _ (t : WindowManager V H) (slots : List SlotView) (e : Edit) (a : Activation) (w : Window V H) (w_is : IsWindowAt t.windows.records.items e.at w) (low : e.at < length t.windows.records.items) where
+  module _ (t : WindowManager V H) (slots : List WindowSlot) (e : Edit) (a : Activation) (w : Window V H) (w_is : IsWindowAt t.windows.records.items e.at w) (low : e.at < length t.windows.records.items) where
     abbrev pub rest : List WindowRecord
     rest = map (record_of loan) (remove t.windows.records.items e.at)
 
@@ -119,7 +119,7 @@ module _ {V : Type 0} {H : V → Type 0} (loan : TakenBox V H → WindowLoan) wh
         (settled_all t.windows.active a (put_in e.to (put_record e (record_of loan w)) rest) (All-put IsSettled e.to (put_record e (record_of loan w)) rest (put_settled may size_is all) (All-tail IsSettled (record_of loan w) rest (All-out IsSettled e.at (record_of loan w) rest (subst (All IsSettled) windows_were all)))))
 
   -- all that is known where a call put one window anew
-  pub record IsEditCall (e : Edit) (activates : Activates) (activation : Activation) (by : Option Point) (plan : Plan) (t new : WindowManager V H) (slots : List SlotView) : Type 0 where
+  pub record IsEditCall (e : Edit) (activates : Activates) (activation : Activation) (by : Option Point) (plan : Plan) (t new : WindowManager V H) (slots : List WindowSlot) : Type 0 where
     pub whole : IsWholeManager loan t slots
     pub low : e.at < length t.windows.records.items
     pub may : IsPlaceable loan e t.windows.records.items
@@ -129,7 +129,7 @@ module _ {V : Type 0} {H : V → Type 0} (loan : TakenBox V H → WindowLoan) wh
     pub planned : IsPlanOfEdit loan e by (is_some by) t plan
     pub committed : IsCommitted loan e activation plan by t new
 
-  module _ (e : Edit) (activates : Activates) (activation : Activation) (by : Option Point) (plan : Plan) (t new : WindowManager V H) (slots : List SlotView) (N : IsEditCall e activates activation by plan t new slots) where
+  module _ (e : Edit) (activates : Activates) (activation : Activation) (by : Option Point) (plan : Plan) (t new : WindowManager V H) (slots : List WindowSlot) (N : IsEditCall e activates activation by plan t new slots) where
     abbrev w : Window V H
     w = N.committed.window
 
@@ -222,6 +222,6 @@ module _ {V : Type 0} {H : V → Type 0} (loan : TakenBox V H → WindowLoan) wh
     edit_spares v v_is = subst (λ (x : Window V H). Spares loan x.serial by t new) (same_at t.windows.records.items e.at w v N.low w_is v_is) (arranged_spares loan touch t new slots slots left (moved_item t.areas.items e.at e.to) plan edit_arranged)
 
   -- every window is settled, whichever stands at the place
-  pub all_settled : (t : WindowManager V H) (slots : List SlotView) (e : Edit) (a : Activation) → IsWholeManager loan t slots → e.at < length t.windows.records.items → IsPlaceable loan e t.windows.records.items → SameSize e t.windows.records.items
+  pub all_settled : (t : WindowManager V H) (slots : List WindowSlot) (e : Edit) (a : Activation) → IsWholeManager loan t slots → e.at < length t.windows.records.items → IsPlaceable loan e t.windows.records.items → SameSize e t.windows.records.items
       → AreSettledAfter loan e a t.windows.active t.windows.records.items
   all_settled t slots e a whole low may same w w_is = settled_after t slots e a w w_is low may (same w w_is) whole.sound.settled

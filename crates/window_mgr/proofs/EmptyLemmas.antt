@@ -13,7 +13,7 @@ use Rattle.bit_map.specs.Bits.{on_map, bit}
 use Rattle.bit_map.specs.Patterns.{pattern_bit}
 use Rattle.def_iface.specs.Slots.{TakenBox}
 use Rattle.def_iface.specs.WindowMeaning.{WindowLoan}
-use Rattle.def_iface.specs.Stocked.{SlotView, IsFull}
+use Rattle.def_iface.specs.WindowSlots.{WindowSlot, IsFull}
 use Rattle.desk_layers.specs.Desk as layers
 use Rattle.desk_layers.specs.Owner.{owner, own_bit, same_owner, is_content}
 use Rattle.desk_layers.specs.Owner.Owner.{Bar, Desktop}
@@ -47,7 +47,7 @@ row_of_bar bar v e low high = grind (arith, ints)
 pub no_row : (bar v : ℤ) → int_lt v bar ≡ false → int_eq v (bar -ℤ pos 1) ≡ false
 no_row bar v e = grind (arith, ints)
 
-full_slot : (slots : List SlotView) → All IsFull slots → (k : ℕ) (s : SlotView) → slice_get slots k ≡ Some s → IsFull s
+full_slot : (slots : List WindowSlot) → All IsFull slots → (k : ℕ) (s : WindowSlot) → slice_get slots k ≡ Some s → IsFull s
 full_slot slots full k s e = subst IsFull (get_or_from_slice_get slots k s s e) (full k s (slice_get_within slots k s e))
 
 -- what is known of a desk that begins
@@ -61,7 +61,7 @@ pub record IsBegun {V : Type 0} {H : V → Type 0} (width height bar : ℤ) (fon
   pub active : t.windows.active ≡ None
   pub next : t.windows.next ≡ Some 1
 
-module _ {V : Type 0} {H : V → Type 0} (loan : TakenBox V H → WindowLoan) (width height bar : ℤ) (font : List ℕ) (t : WindowManager V H) (B : IsBegun width height bar font t) (slots : List SlotView) (full : All IsFull slots) where
+module _ {V : Type 0} {H : V → Type 0} (loan : TakenBox V H → WindowLoan) (width height bar : ℤ) (font : List ℕ) (t : WindowManager V H) (B : IsBegun width height bar font t) (slots : List WindowSlot) (full : All IsFull slots) where
   abbrev empty : FullDesk
   empty = empty_desk width height bar font slots
 

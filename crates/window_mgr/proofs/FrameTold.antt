@@ -19,7 +19,7 @@ use Rattle.def_iface.specs.declared.window_def.WindowChange.{WindowChange}
 use Rattle.def_iface.specs.declared.window_def.WindowChange.TheVariants.{Resized, Titled, Highlighted, Closable, Zoomed, Tracked}
 use Rattle.def_iface.specs.WindowMeaning.{WindowDefinition, WindowLoan, IsWithin}
 use Rattle.def_iface.specs.Sizes.{is_size}
-use Rattle.def_iface.specs.Stocked.{SlotView}
+use Rattle.def_iface.specs.WindowSlots.{WindowSlot}
 use Rattle.desk_layers.specs.Desk as layers
 use Rattle.desk_layers.specs.Desk.{LayeredDesk}
 use Rattle.desk_layers.specs.Owner.{Owner, owner, owner_among, owner_within, own_bit, same_owner, is_content}
@@ -122,7 +122,7 @@ module _ {V : Type 0} {H : V → Type 0} (loan : TakenBox V H → WindowLoan) wh
       let long : length new ≡ length old = ap length T.items ∙ length-set old at (record (with_change change x) { taken = T.taken }) in
       omega arith
 
-  module _ (t : WindowManager V H) (slots : List SlotView) (whole : IsWholeManager loan t slots) (at : ℕ) (low : at < length t.windows.records.items) (x : Window V H) (there : IsWindowAt t.windows.records.items at x) (change : WindowChange) (keeps : keeps_size change ≡ true) (damage : Rect) (list : WindowList V H) (T : IsNotifiedAt loan at change damage x t.windows.records.items list.records.items) where
+  module _ (t : WindowManager V H) (slots : List WindowSlot) (whole : IsWholeManager loan t slots) (at : ℕ) (low : at < length t.windows.records.items) (x : Window V H) (there : IsWindowAt t.windows.records.items at x) (change : WindowChange) (keeps : keeps_size change ≡ true) (damage : Rect) (list : WindowList V H) (T : IsNotifiedAt loan at change damage x t.windows.records.items list.records.items) where
     abbrev before : FullDesk
     before = desk_of loan t slots
 

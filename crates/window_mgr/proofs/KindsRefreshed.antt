@@ -10,7 +10,7 @@ use Rattle.bit_blit.proofs.DrawsLemmas.{Draws-where}
 use Rattle.desk_layers.specs.declared.part.Part.{Part}
 use Rattle.def_iface.specs.Slots.{TakenBox}
 use Rattle.def_iface.specs.WindowMeaning.{WindowLoan}
-use Rattle.def_iface.specs.Stocked.{SlotView}
+use Rattle.def_iface.specs.WindowSlots.{WindowSlot}
 use Rattle.desk_call.specs.declared.update.LayerKind.{LayerKind}
 use Rattle.vis_update.specs.declared.area.Area.{Area}
 use Rattle.vis_update.specs.Areas.{is_content_of}
@@ -27,7 +27,7 @@ use Rattle.window_mgr.proofs.EditSeats.{same_at}
 use Rattle.window_mgr.proofs.Refreshed.{refreshed}
 use Rattle.window_mgr.proofs.Remarked as remarked
 
-module _ {V : Type 0} {H : V → Type 0} (loan : TakenBox V H → WindowLoan) (t : WindowManager V H) (slots : List SlotView) (whole : IsWholeManager loan t slots) (at : ℕ) (low : at < length t.windows.records.items) (w : Window V H) (there : IsWindowAt t.windows.records.items at w) (a : Area) (read : a ≡ get_or t.areas.items at a) (shows : List ℕ → Part → PixelSet) where
+module _ {V : Type 0} {H : V → Type 0} (loan : TakenBox V H → WindowLoan) (t : WindowManager V H) (slots : List WindowSlot) (whole : IsWholeManager loan t slots) (at : ℕ) (low : at < length t.windows.records.items) (w : Window V H) (there : IsWindowAt t.windows.records.items at w) (a : Area) (read : a ≡ get_or t.areas.items at a) (shows : List ℕ → Part → PixelSet) where
   -- the layers of a kind were drawn, where the area and the window go by other names
   pub kind_refreshed : (kind : LayerKind) (update : Pixels) → ((p : Point) → holds update p ≡ (holds a.update p && not (is_kind_there kind w p))) → (screen : Bits)
       → (b : Area) → b ≡ get_or t.areas.items at b → (v : Window V H) → IsWindowAt t.windows.records.items at v

@@ -13,7 +13,7 @@ use Rattle.desk_layers.specs.declared.part.Part.{Part}
 use Rattle.desk_layers.specs.declared.part.Part.TheVariants as part
 use Rattle.def_iface.specs.Slots.{TakenBox}
 use Rattle.def_iface.specs.WindowMeaning.{WindowLoan}
-use Rattle.def_iface.specs.Stocked.{SlotView}
+use Rattle.def_iface.specs.WindowSlots.{WindowSlot}
 use Rattle.desk_layers.specs.Desk as layers
 use Rattle.desk_layers.specs.Desk.{LayeredDesk, same_part}
 use Rattle.desk_layers.specs.Owner.{Owner, owner, same_owner, is_content}
@@ -43,7 +43,7 @@ use Rattle.window_mgr.proofs.Remarked.{unless}
 use Rattle.window_mgr.proofs.LayerThere as here
 use Rattle.window_mgr.proofs.LayerThere.{no_part}
 
-module _ {V : Type 0} {H : V → Type 0} (loan : TakenBox V H → WindowLoan) (t : WindowManager V H) (slots : List SlotView) (whole : IsWholeManager loan t slots) (at : ℕ) (low : at < length t.windows.records.items) (w : Window V H) (there : IsWindowAt t.windows.records.items at w) (a : Area) (read : a ≡ get_or t.areas.items at a)
+module _ {V : Type 0} {H : V → Type 0} (loan : TakenBox V H → WindowLoan) (t : WindowManager V H) (slots : List WindowSlot) (whole : IsWholeManager loan t slots) (at : ℕ) (low : at < length t.windows.records.items) (w : Window V H) (there : IsWindowAt t.windows.records.items at w) (a : Area) (read : a ≡ get_or t.areas.items at a)
     (was now : List ℕ → Part → PixelSet) (q : Part) (layered : same_part q part.Picture ≡ false) (within : Rect) (screen : Bits)
     (drawn : Draws (λ p. ((holds a.visible p && belongs_to q w.layers.layers (minus p w.layers.place)) && not (holds a.update p)) && rect_holds within (minus p w.place)) (λ p _. now t.font q (minus p w.place)) t.screen screen) where
   abbrev full : FullDesk
@@ -177,7 +177,7 @@ holder (k ∷ ks) (suc index) l p apart low read e = by_test (layer_has k p) ref
         absurd (false≢true (sym (subst (λ (x : Layer). same_part k.part x.part ≡ false) (sym read) (front.others index l (omega arith))) ∙ ap (λ q. same_part k.part q) (sym e) ∙ same_part-self k.part))
 
 -- the layer at this index of the window was drawn so, where the window goes by another name too
-pub index_redrawn : {V : Type 0} {H : V → Type 0} (loan : TakenBox V H → WindowLoan) (t : WindowManager V H) (slots : List SlotView) (whole : IsWholeManager loan t slots) (at : ℕ) → at < length t.windows.records.items
+pub index_redrawn : {V : Type 0} {H : V → Type 0} (loan : TakenBox V H → WindowLoan) (t : WindowManager V H) (slots : List WindowSlot) (whole : IsWholeManager loan t slots) (at : ℕ) → at < length t.windows.records.items
     → (w : Window V H) → IsWindowAt t.windows.records.items at w → (a : Area) → a ≡ get_or t.areas.items at a → (was now : List ℕ → Part → PixelSet)
     → (index : ℕ) → index < length w.layers.layers → (l : Layer) → l ≡ get_or w.layers.layers index l → (v : Window V H) → IsWindowAt t.windows.records.items at v → (within : Rect) (screen : Bits)
     → ((k : Layer) → k ≡ get_or v.layers.layers index k → Draws (λ p. ((holds a.visible p && belongs_to k.part v.layers.layers (minus p v.layers.place)) && not (holds a.update p)) && rect_holds within (minus p v.place)) (λ p _. now t.font k.part (minus p v.place)) t.screen screen)

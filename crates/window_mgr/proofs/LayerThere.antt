@@ -9,7 +9,7 @@ use Rattle.bit_map.specs.Bits.{Bits, on_map, bit}
 use Rattle.desk_layers.specs.declared.part.Part.{Part}
 use Rattle.def_iface.specs.Slots.{TakenBox}
 use Rattle.def_iface.specs.WindowMeaning.{WindowLoan}
-use Rattle.def_iface.specs.Stocked.{SlotView}
+use Rattle.def_iface.specs.WindowSlots.{WindowSlot}
 use Rattle.desk_layers.specs.Desk as layers
 use Rattle.desk_layers.specs.Desk.{LayeredDesk, same_part}
 use Rattle.desk_layers.specs.Owner.{Owner, owner, own_bit, same_owner, is_content}
@@ -42,7 +42,7 @@ no_part s q Bar e = refl
 no_part s q (Frame t) e = refl
 no_part s q (Content t b) e = ap (λ x. x && same_part b q) e
 
-module _ {V : Type 0} {H : V → Type 0} (loan : TakenBox V H → WindowLoan) (t : WindowManager V H) (slots : List SlotView) (whole : IsWholeManager loan t slots) (at : ℕ) (low : at < length t.windows.records.items) (w : Window V H) (there : IsWindowAt t.windows.records.items at w) (a : Area) (read : a ≡ get_or t.areas.items at a)
+module _ {V : Type 0} {H : V → Type 0} (loan : TakenBox V H → WindowLoan) (t : WindowManager V H) (slots : List WindowSlot) (whole : IsWholeManager loan t slots) (at : ℕ) (low : at < length t.windows.records.items) (w : Window V H) (there : IsWindowAt t.windows.records.items at w) (a : Area) (read : a ≡ get_or t.areas.items at a)
     (was now : List ℕ → Part → PixelSet) (q : Part) where
   abbrev pub full : FullDesk
   full = desk_of loan t slots

@@ -9,7 +9,7 @@ use Rattle.bit_blit.specs.Draws.{Draws}
 use Rattle.desk_layers.specs.declared.part.Part.{Part}
 use Rattle.def_iface.specs.Slots.{TakenBox}
 use Rattle.def_iface.specs.WindowMeaning.{WindowLoan}
-use Rattle.def_iface.specs.Stocked.{SlotView}
+use Rattle.def_iface.specs.WindowSlots.{WindowSlot}
 use Rattle.desk_layers.specs.Desk as layers
 use Rattle.desk_layers.specs.Desk.{LayeredDesk}
 use Rattle.desk_layers.specs.Owner.{Owner, owner, same_owner, is_content}
@@ -34,7 +34,7 @@ use Rattle.window_mgr.proofs.Remarked.{unless}
 use Rattle.window_mgr.proofs.LayerThere as here
 use Rattle.window_mgr.proofs.LayerThere.{no_part}
 
-module _ {V : Type 0} {H : V → Type 0} (loan : TakenBox V H → WindowLoan) (t : WindowManager V H) (slots : List SlotView) (whole : IsWholeManager loan t slots) (at : ℕ) (low : at < length t.windows.records.items) (w : Window V H) (there : IsWindowAt t.windows.records.items at w) (a : Area) (read : a ≡ get_or t.areas.items at a)
+module _ {V : Type 0} {H : V → Type 0} (loan : TakenBox V H → WindowLoan) (t : WindowManager V H) (slots : List WindowSlot) (whole : IsWholeManager loan t slots) (at : ℕ) (low : at < length t.windows.records.items) (w : Window V H) (there : IsWindowAt t.windows.records.items at w) (a : Area) (read : a ≡ get_or t.areas.items at a)
     (was now : List ℕ → Part → PixelSet) (q : Part) (screen : Bits)
     (toggles : List ℕ → PixelSet) (drawn : Draws (λ p. holds a.visible p && belongs_to q w.layers.layers (minus p w.layers.place)) (λ p d. if toggles t.font (minus p w.place) then not d else d) t.screen screen) where
   abbrev full : FullDesk
@@ -95,7 +95,7 @@ module _ {V : Type 0} {H : V → Type 0} (loan : TakenBox V H → WindowLoan) (t
   )
 
 -- the layer at this index of the window, where the window goes by another name too
-pub index_toggled : {V : Type 0} {H : V → Type 0} (loan : TakenBox V H → WindowLoan) (t : WindowManager V H) (slots : List SlotView) (whole : IsWholeManager loan t slots) (at : ℕ) → at < length t.windows.records.items
+pub index_toggled : {V : Type 0} {H : V → Type 0} (loan : TakenBox V H → WindowLoan) (t : WindowManager V H) (slots : List WindowSlot) (whole : IsWholeManager loan t slots) (at : ℕ) → at < length t.windows.records.items
     → (w : Window V H) → IsWindowAt t.windows.records.items at w → (a : Area) → a ≡ get_or t.areas.items at a → (was now : List ℕ → Part → PixelSet)
     → (index : ℕ) (l : Layer) → l ≡ get_or w.layers.layers index l → (v : Window V H) → IsWindowAt t.windows.records.items at v → (screen : Bits) (toggles : List ℕ → PixelSet)
     → ((k : Layer) → k ≡ get_or v.layers.layers index k → Draws (λ p. holds a.visible p && belongs_to k.part v.layers.layers (minus p v.layers.place)) (λ p d. if toggles t.font (minus p v.place) then not d else d) t.screen screen)

@@ -17,7 +17,7 @@ use Rattle.def_iface.specs.declared.size.Size.{Size}
 use Rattle.def_iface.specs.Sizes.{is_size}
 use Rattle.def_iface.specs.WindowNews.{AllWindowNews, new_window_news}
 use Rattle.def_iface.specs.WindowMeaning.{WindowDefinition, WindowLoan, IsBegun, IsWithin, is_fitting}
-use Rattle.def_iface.specs.Stocked.{SlotView, IsTaken, IsNotTaken, IsPutBack}
+use Rattle.def_iface.specs.WindowSlots.{WindowSlot, IsTaken, IsNotTaken, IsPutBack}
 use Rattle.desk_layers.specs.Desk as layers
 use Rattle.desk_layers.specs.Owner.{own_bit}
 use Rattle.desk_layers.specs.Owner.Owner.{Frame}
@@ -164,7 +164,7 @@ settled_added loan floating w n slot d begun added active ws items seen items_ar
 
 module _ {V : Type 0} {H : V → Type 0} (loan : TakenBox V H → WindowLoan) where
   -- all that is known where a window was added
-  pub record IsNew (floating : Bool) (w : NewWindow) (n : ℕ) (taken : WindowLoan) (touch : Touch) (plan : Plan) (t planned new : WindowManager V H) (slots left : List SlotView) : Type 0 where
+  pub record IsNew (floating : Bool) (w : NewWindow) (n : ℕ) (taken : WindowLoan) (touch : Touch) (plan : Plan) (t planned new : WindowManager V H) (slots left : List WindowSlot) : Type 0 where
     pub whole : IsWholeManager loan t slots
     pub same : SameDesk t planned
     pub unrefused_is : first_refusal (judged_refusals w (is_placed (Some taken.definition) w.place w.size) (length t.windows.records.items) t.windows.next) ≡ None
@@ -175,7 +175,7 @@ module _ {V : Type 0} {H : V → Type 0} (loan : TakenBox V H → WindowLoan) wh
     pub took : IsTaken w.kind taken slots left
     pub within : IsWithin (taken.definition.content w.size) (rect_holds (taken.definition.bounds w.size))
 
-  module _ (floating : Bool) (w : NewWindow) (n : ℕ) (taken : WindowLoan) (touch : Touch) (plan : Plan) (t planned new : WindowManager V H) (slots left : List SlotView) (N : IsNew floating w n taken touch plan t planned new slots left) where
+  module _ (floating : Bool) (w : NewWindow) (n : ℕ) (taken : WindowLoan) (touch : Touch) (plan : Plan) (t planned new : WindowManager V H) (slots left : List WindowSlot) (N : IsNew floating w n taken touch plan t planned new slots left) where
     abbrev before : FullDesk
     before = desk_of loan t slots
 
@@ -324,7 +324,7 @@ module _ {V : Type 0} {H : V → Type 0} (loan : TakenBox V H → WindowLoan) wh
         by_class false made = (refusal_is loan w taken t slots left N.took ∙ N.unrefused_is, (n, refl, made))
 
   -- the call was refused: the definition is back in its slot
-  pub is_not_made : (floating : Bool) (w : NewWindow) (e : Refusal) (taken : WindowLoan) (t planned : WindowManager V H) (slots left back : List SlotView) → IsWholeManager loan t slots → IsTaken w.kind taken slots left → IsUnplanned w (is_placed (Some taken.definition) w.place w.size) (length t.windows.records.items) t.windows.next e → SameDesk t planned → IsPutBack taken left back
+  pub is_not_made : (floating : Bool) (w : NewWindow) (e : Refusal) (taken : WindowLoan) (t planned : WindowManager V H) (slots left back : List WindowSlot) → IsWholeManager loan t slots → IsTaken w.kind taken slots left → IsUnplanned w (is_placed (Some taken.definition) w.place w.size) (length t.windows.records.items) t.windows.next e → SameDesk t planned → IsPutBack taken left back
       → IsWindowStep (if floating then NewFloating w else New w) (Err e) (state_of loan t slots) (state_of loan planned back)
   is_not_made floating w e taken t planned slots left back whole took unplanned same back_is = by_class floating
     where
@@ -336,7 +336,7 @@ module _ {V : Type 0} {H : V → Type 0} (loan : TakenBox V H → WindowLoan) wh
       by_class false = (unplanned_is_refused loan w taken t slots left took e unplanned, unchanged)
 
   -- nor is a window made that no definition of its kind is left for
-  pub is_not_given : (floating : Bool) (w : NewWindow) (e why : Refusal) (kind : List ℕ) (t : WindowManager V H) (slots back : List SlotView) → kind ≡ w.kind → why ≡ NoDefinition → IsNotTaken kind slots why
+  pub is_not_given : (floating : Bool) (w : NewWindow) (e why : Refusal) (kind : List ℕ) (t : WindowManager V H) (slots back : List WindowSlot) → kind ≡ w.kind → why ≡ NoDefinition → IsNotTaken kind slots why
       → first_refusal (judged_refusals w (is_placed None w.place w.size) (length (desk_of loan t []).windows) t.windows.next ++ (true, NoDefinition) ∷ []) ≡ Some e
       → back ≡ slots → IsWindowStep (if floating then NewFloating w else New w) (Err e) (state_of loan t slots) (state_of loan t back)
   is_not_given floating w e why kind t slots back named is_why none judged same = by_class floating
@@ -347,8 +347,8 @@ module _ {V : Type 0} {H : V → Type 0} (loan : TakenBox V H → WindowLoan) wh
       unchanged : IsUnchanged (state_of loan t slots) (state_of loan t back)
       unchanged = record {
         desk = ap (desk_of loan t) same;
-        stale = λ p on. ap (λ (s : List SlotView). (state_of loan t s).stale p) same;
-        image = λ p on. ap (λ (s : List SlotView). (state_of loan t s).image p) same;
+        stale = λ p on. ap (λ (s : List WindowSlot). (state_of loan t s).stale p) same;
+        image = λ p on. ap (λ (s : List WindowSlot). (state_of loan t s).image p) same;
       }
 
       by_class : (b : Bool) → IsWindowStep (if b then NewFloating w else New w) (Err e) (state_of loan t slots) (state_of loan t back)

@@ -10,7 +10,7 @@ use Rattle.tb_geom.specs.Rects.{in_plane}
 use Rattle.bit_map.specs.Bits.{Bits, bit}
 use Rattle.def_iface.specs.Slots.{TakenBox}
 use Rattle.def_iface.specs.WindowMeaning.{WindowLoan}
-use Rattle.def_iface.specs.Stocked.{SlotView}
+use Rattle.def_iface.specs.WindowSlots.{WindowSlot}
 use Rattle.desk_layers.specs.Desk as layers
 use Rattle.desk_layers.specs.declared.part.Part.TheVariants.{Picture}
 use Rattle.desk_layers.specs.Owner.{owner, same_owner}
@@ -86,7 +86,7 @@ module _ {V : Type 0} {H : V → Type 0} (loan : TakenBox V H → WindowLoan) (t
 
 -- ---- the desk before and after
 
-module _ {V : Type 0} {H : V → Type 0} (loan : TakenBox V H → WindowLoan) (t new : WindowManager V H) (slots : List SlotView) (n : NewPicture) (at : ℕ) (whole : IsWholeManager loan t slots) (placed : in_plane n.origin ≡ true) (stands : StandsAt t.windows.records.items n.window at) (D : IsPictureAt at n t new) where
+module _ {V : Type 0} {H : V → Type 0} (loan : TakenBox V H → WindowLoan) (t new : WindowManager V H) (slots : List WindowSlot) (n : NewPicture) (at : ℕ) (whole : IsWholeManager loan t slots) (placed : in_plane n.origin ≡ true) (stands : StandsAt t.windows.records.items n.window at) (D : IsPictureAt at n t new) where
   abbrev before : FullDesk
   before = desk_of loan t slots
 
@@ -181,7 +181,7 @@ module _ {V : Type 0} {H : V → Type 0} (loan : TakenBox V H → WindowLoan) (t
 
 module _ {V : Type 0} {H : V → Type 0} (loan : TakenBox V H → WindowLoan) (t : WindowManager V H) (n : NewPicture) (at : ℕ) (stands : StandsAt t.windows.records.items n.window at) where
   -- of a window that is there the origin alone says whether the call is refused
-  refusal_is : (slots : List SlotView) → IsWholeManager loan t slots → (b : Bool) → b ≡ in_plane n.origin → first_refusal (picture_refusals n (desk_of loan t slots)) ≡ (if b then None else Some OutOfRange)
+  refusal_is : (slots : List WindowSlot) → IsWholeManager loan t slots → (b : Bool) → b ≡ in_plane n.origin → first_refusal (picture_refusals n (desk_of loan t slots)) ≡ (if b then None else Some OutOfRange)
   refusal_is slots whole b is =
       let found = there_is t.windows.records.items at stands.0 in
       steps.may_stand loan t t slots whole at n.window found.0 stands.0 found.1 (stands.1 found.0 found.1) (λ w. in_plane n.origin) b is

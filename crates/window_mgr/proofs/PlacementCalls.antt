@@ -19,7 +19,7 @@ use Rattle.def_iface.specs.Sizes.{is_size}
 use Rattle.def_iface.specs.WindowMeaning.{WindowLoan, IsWithin}
 use Rattle.def_iface.specs.WindowNews.{told_placed}
 use Rattle.def_iface.proofs.Hearing.{goes_by_news}
-use Rattle.def_iface.specs.Stocked.{SlotView}
+use Rattle.def_iface.specs.WindowSlots.{WindowSlot}
 use Rattle.desk_layers.specs.Owner.{frame_bit}
 use Rattle.desk_layers.specs.Change.{IsChanged}
 use Rattle.window_list.specs.declared.window.Placement.{Placement}
@@ -147,14 +147,14 @@ module _ {V : Type 0} {H : V → Type 0} (loan : TakenBox V H → WindowLoan) wh
   -- ---- the call
 
   -- all that is known where a call put the window at this place there
-  pub record IsPlacementCall (i : ℕ) (to : Placement) (by : Option Point) (plan : Plan) (t new : WindowManager V H) (slots : List SlotView) : Type 0 where
+  pub record IsPlacementCall (i : ℕ) (to : Placement) (by : Option Point) (plan : Plan) (t new : WindowManager V H) (slots : List WindowSlot) : Type 0 where
     pub whole : IsWholeManager loan t slots
     pub low : i < length t.windows.records.items
     pub may : IsPlaceableAt loan i to t.windows.records.items
     pub planned : (w : Window V H) → IsWindowAt t.windows.records.items i w → IsPlanOfEdit loan (record (stays_put i w) { place = to.place; size = to.size }) by true t plan
     pub committed : IsPlacementCommitted loan i to plan by t new
 
-  module _ (i : ℕ) (to : Placement) (by : Option Point) (plan : Plan) (t new : WindowManager V H) (slots : List SlotView) (N : IsPlacementCall i to by plan t new slots) where
+  module _ (i : ℕ) (to : Placement) (by : Option Point) (plan : Plan) (t new : WindowManager V H) (slots : List WindowSlot) (N : IsPlacementCall i to by plan t new slots) where
     abbrev w : Window V H
     w = N.committed.window
 
@@ -287,7 +287,7 @@ module _ {V : Type 0} {H : V → Type 0} (loan : TakenBox V H → WindowLoan) wh
     pub is_on_its_way : (by : Option Point) → IsOnItsWay i to.place by t.windows.records.items → (e : Edit) → e ≡ stays_put i x → IsOnItsWay e.at to.place by t.windows.records.items
     is_on_its_way by way e e_is = subst (λ (y : Edit). IsOnItsWay y.at to.place by t.windows.records.items) (sym e_is) way
 
-    pub placement_call : (by : Option Point) (plan : Plan) (new : WindowManager V H) (slots : List SlotView) (e : Edit) → IsWholeManager loan t slots → IsPlaceableAt loan i to t.windows.records.items → e ≡ stays_put i x → IsPlanOfEdit loan (record e { place = to.place; size = to.size }) by true t plan → IsPlacementCommitted loan i to plan by t new → IsPlacementCall i to by plan t new slots
+    pub placement_call : (by : Option Point) (plan : Plan) (new : WindowManager V H) (slots : List WindowSlot) (e : Edit) → IsWholeManager loan t slots → IsPlaceableAt loan i to t.windows.records.items → e ≡ stays_put i x → IsPlanOfEdit loan (record e { place = to.place; size = to.size }) by true t plan → IsPlacementCommitted loan i to plan by t new → IsPlacementCall i to by plan t new slots
     placement_call by plan new slots e whole may e_is planned committed = record {
       whole = whole;
       low = low;
@@ -300,7 +300,7 @@ module _ {V : Type 0} {H : V → Type 0} (loan : TakenBox V H → WindowLoan) wh
 
   -- ---- the steps of the window that is found
 
-  module _ (t new : WindowManager V H) (slots : List SlotView) (whole : IsWholeManager loan t slots) (i s : ℕ) (x : Window V H) (low : i < length t.windows.records.items) (x_is : IsWindowAt t.windows.records.items i x) (serial : x.serial ≡ s) where
+  module _ (t new : WindowManager V H) (slots : List WindowSlot) (whole : IsWholeManager loan t slots) (i s : ℕ) (x : Window V H) (low : i < length t.windows.records.items) (x_is : IsWindowAt t.windows.records.items i x) (serial : x.serial ≡ s) where
     abbrev desk : FullDesk
     desk = desk_of loan t slots
 

@@ -7,7 +7,7 @@ use Rattle.std.proofs.lemmas.List.Elements.{All-weaker, All-head, All-tail}
 use Rattle.std.proofs.lemmas.List.Sorted.{length_permutation}
 use Rattle.tb_geom.specs.declared.point.Point.{Point}
 use Rattle.tb_geom.specs.Points.{minus}
-use Rattle.def_iface.specs.Stocked.{SlotView, is_left}
+use Rattle.def_iface.specs.WindowSlots.{WindowSlot, is_left}
 use Rattle.desk_layers.specs.declared.part.Part.{Part}
 use Rattle.desk_layers.specs.Desk as layers
 use Rattle.desk_layers.specs.Owner.{Owner, owner, own_bit, content_bit, frame_bit, is_content}
@@ -74,14 +74,14 @@ module _ (former : Option ℕ) where
   settled_all (Becomes s) ws all = settled_map (relit_record s former) (settled_lit s former) ws all
   settled_all Stays ws all = all
 
-  pub stocked_lit : (a : Activation) (ws : List WindowRecord) (slots : List SlotView) → IsStocked ws slots → IsStocked (activated a former ws) slots
+  pub stocked_lit : (a : Activation) (ws : List WindowRecord) (slots : List WindowSlot) → IsStocked ws slots → IsStocked (activated a former ws) slots
   stocked_lit (Becomes s) ws slots h = stocked_map (relit_record s former) (same_slot s former) ws slots h
   stocked_lit Stays ws slots h = h
 
 -- ---- one window put anew
 
 -- the slots, of which one window's is another window's now
-pub stocked_put : (i j : ℕ) (w v : WindowRecord) (rest : List WindowRecord) (slots : List SlotView) → v.slot ≡ w.slot → IsStocked (put_in i w rest) slots → IsStocked (put_in j v rest) slots
+pub stocked_put : (i j : ℕ) (w v : WindowRecord) (rest : List WindowRecord) (slots : List WindowSlot) → v.slot ≡ w.slot → IsStocked (put_in i w rest) slots → IsStocked (put_in j v rest) slots
 stocked_put i j w v rest slots slot h =
     let left = All-out (λ u. is_left u.slot slots ≡ true) i w rest h.left in
     let apart = AllPairs-out (λ x y. x.slot ≡ y.slot → ⊥) turns i w rest h.apart in

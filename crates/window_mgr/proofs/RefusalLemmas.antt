@@ -8,7 +8,7 @@ use Rattle.tb_geom.specs.declared.refusal.Refusal.{Refusal}
 use Rattle.tb_geom.specs.declared.refusal.Refusal.TheVariants.{OutOfRange, TooLong, TooMany, NoDefinition}
 use Rattle.def_iface.specs.Slots.{TakenBox}
 use Rattle.def_iface.specs.WindowMeaning.{WindowDefinition, WindowLoan}
-use Rattle.def_iface.specs.Stocked.{SlotView, IsTaken, IsNotTaken, is_kind, has_kind, offered}
+use Rattle.def_iface.specs.WindowSlots.{WindowSlot, IsTaken, IsNotTaken, is_kind, has_kind, offered}
 use Rattle.desk_call.specs.declared.window.WindowCall.TheVariants.{New}
 use Rattle.desk_call.specs.declared.window.NewWindow.{NewWindow}
 use Rattle.window_mgr.specs.declared.manager.WindowManager.{WindowManager}
@@ -21,14 +21,14 @@ use Rattle.vis_update.specs.Places.{is_placed}
 use Rattle.window_mgr.specs.Step.{IsCallRefused}
 use Rattle.window_mgr.specs.Planned.{IsUnplanned}
 
-module _ (kind : List ℕ) (loan : WindowLoan) (old left : List SlotView) (took : IsTaken kind loan old left) where
+module _ (kind : List ℕ) (loan : WindowLoan) (old left : List WindowSlot) (took : IsTaken kind loan old left) where
   -- the stock would give the definition that it gave
   pub taken_was_offered : offered kind old ≡ Some loan.definition
   taken_was_offered =
-      ap (λ o. option_and_then (λ at. option_and_then (λ (s : SlotView). s.held) (slice_get old at)) o) took.first
-      ∙ ap (λ o. option_and_then (λ (s : SlotView). s.held) o) took.held
+      ap (λ o. option_and_then (λ at. option_and_then (λ (s : WindowSlot). s.held) (slice_get old at)) o) took.first
+      ∙ ap (λ o. option_and_then (λ (s : WindowSlot). s.held) o) took.held
 
-  any_at : (slots : List SlotView) (at : ℕ) (s : SlotView) → slice_get slots at ≡ Some s → is_kind kind s ≡ true → has_kind kind slots ≡ true
+  any_at : (slots : List WindowSlot) (at : ℕ) (s : WindowSlot) → slice_get slots at ≡ Some s → is_kind kind s ≡ true → has_kind kind slots ≡ true
   any_at [] at s e is = absurd (cc)
   any_at (t ∷ slots) zero s e is =
       let same : t ≡ s = cc in
@@ -59,10 +59,10 @@ pub refusal_without : (w : NewWindow) (desk : FullDesk) (kind : List ℕ) (e : R
     → first_refusal (new_window_refusals w desk) ≡ Some e
 refusal_without w desk kind e named none judged =
     let there = subst (λ k. IsNotTaken k desk.stock NoDefinition) named none in
-    let at_hand : offered w.kind desk.stock ≡ None = ap (λ o. option_and_then (λ at. option_and_then (λ (s : SlotView). s.held) (slice_get desk.stock at)) o) there.1 in
+    let at_hand : offered w.kind desk.stock ≡ None = ap (λ o. option_and_then (λ at. option_and_then (λ (s : WindowSlot). s.held) (slice_get desk.stock at)) o) there.1 in
     rw (there.0, at_hand) judged
 
-module _ {V : Type 0} {H : V → Type 0} (loan : TakenBox V H → WindowLoan) (w : NewWindow) (taken : WindowLoan) (t : WindowManager V H) (slots left : List SlotView) (took : IsTaken w.kind taken slots left) where
+module _ {V : Type 0} {H : V → Type 0} (loan : TakenBox V H → WindowLoan) (w : NewWindow) (taken : WindowLoan) (t : WindowManager V H) (slots left : List WindowSlot) (took : IsTaken w.kind taken slots left) where
   -- why a new window is refused, by the judgement of a window manager
   pub refusal_is : first_refusal (new_window_refusals w (desk_of loan t slots)) ≡ first_refusal (judged_refusals w (is_placed (Some taken.definition) w.place w.size) (length t.windows.records.items) t.windows.next)
   refusal_is =

@@ -11,7 +11,7 @@ use Rattle.tb_geom.specs.Pixels.{Pixels, holds}
 use Rattle.bit_map.specs.Bits.{Bits, bit}
 use Rattle.def_iface.specs.Slots.{TakenBox}
 use Rattle.def_iface.specs.WindowMeaning.{WindowLoan}
-use Rattle.def_iface.specs.Stocked.{SlotView}
+use Rattle.def_iface.specs.WindowSlots.{WindowSlot}
 use Rattle.desk_layers.specs.Desk as layers
 use Rattle.desk_layers.specs.Desk.{LayeredDesk}
 use Rattle.desk_layers.specs.Owner.{owner, own_bit, is_content}
@@ -48,7 +48,7 @@ area_kept loan t whole at low =
     let long = t.areas.ok.0 in
     omega arith
 
-pub area_low : {V : Type 0} {H : V → Type 0} (loan : TakenBox V H → WindowLoan) (t : WindowManager V H) (slots : List SlotView) → IsWholeManager loan t slots → (at : ℕ) → at < length t.windows.records.items → at < length t.areas.items
+pub area_low : {V : Type 0} {H : V → Type 0} (loan : TakenBox V H → WindowLoan) (t : WindowManager V H) (slots : List WindowSlot) → IsWholeManager loan t slots → (at : ℕ) → at < length t.windows.records.items → at < length t.areas.items
 area_low loan t slots whole at low = area_there loan t (kept loan t slots whole) at low
 
 -- the window at the place has a settled definition
@@ -150,7 +150,7 @@ module _ (desk : LayeredDesk) (image stale : PixelSet) (s : ℕ) (update : Pixel
 
 -- ---- the window manager
 
-module _ {V : Type 0} {H : V → Type 0} (loan : TakenBox V H → WindowLoan) (t : WindowManager V H) (slots : List SlotView) (whole : IsWholeManager loan t slots) (at : ℕ) (low : at < length t.windows.records.items) (w : Window V H) (there : IsWindowAt t.windows.records.items at w) (a : Area) (read : a ≡ get_or t.areas.items at a) where
+module _ {V : Type 0} {H : V → Type 0} (loan : TakenBox V H → WindowLoan) (t : WindowManager V H) (slots : List WindowSlot) (whole : IsWholeManager loan t slots) (at : ℕ) (low : at < length t.windows.records.items) (w : Window V H) (there : IsWindowAt t.windows.records.items at w) (a : Area) (read : a ≡ get_or t.areas.items at a) where
   abbrev before : FullDesk
   before = desk_of loan t slots
 

@@ -14,7 +14,7 @@ use Rattle.bit_map.specs.Bits.{bit}
 use Rattle.draw_port.specs.declared.shapes.Op.{Op}
 use Rattle.def_iface.specs.Slots.{TakenBox}
 use Rattle.def_iface.specs.WindowMeaning.{WindowLoan}
-use Rattle.def_iface.specs.Stocked.{SlotView}
+use Rattle.def_iface.specs.WindowSlots.{WindowSlot}
 use Rattle.desk_layers.specs.declared.part.Part.{Part}
 use Rattle.desk_layers.specs.Desk as layers
 use Rattle.desk_layers.specs.Desk.{LayeredDesk}
@@ -123,7 +123,7 @@ module _ (look : Look) (s : ℕ) (picture : WindowRecord → List Op) (origin : 
 
 -- ---- the area of a window
 
-module _ {V : Type 0} {H : V → Type 0} (loan : TakenBox V H → WindowLoan) (t : WindowManager V H) (slots : List SlotView) (whole : IsWholeManager loan t slots) (at s : ℕ) (x : Window V H) (there : slice_get t.windows.records.items at ≡ Some x) (number : x.serial ≡ s) where
+module _ {V : Type 0} {H : V → Type 0} (loan : TakenBox V H → WindowLoan) (t : WindowManager V H) (slots : List WindowSlot) (whole : IsWholeManager loan t slots) (at s : ℕ) (x : Window V H) (there : slice_get t.windows.records.items at ≡ Some x) (number : x.serial ≡ s) where
   abbrev desk : LayeredDesk
   desk = layered_desk (desk_of loan t slots)
 
@@ -159,7 +159,7 @@ module _ {V : Type 0} {H : V → Type 0} (loan : TakenBox V H → WindowLoan) (s
     -- the windows own what they owned
     pub areas : AreAreas (layered_desk (desk_of loan t [])) (stale_in new.areas.items) (desk_of loan t []).windows new.areas.items
 
-  module _ (at : ℕ) (t new : WindowManager V H) (slots : List SlotView) (whole : IsWholeManager loan t slots) (D : IsRepictured at t new) where
+  module _ (at : ℕ) (t new : WindowManager V H) (slots : List WindowSlot) (whole : IsWholeManager loan t slots) (D : IsRepictured at t new) where
     abbrev before : FullDesk
     before = desk_of loan t slots
 

@@ -7,7 +7,7 @@ use Rattle.tb_geom.specs.Pixels.{Pixels}
 use Rattle.bit_map.specs.Bits.{Bits, bit}
 use Rattle.def_iface.specs.Slots.{TakenBox}
 use Rattle.def_iface.specs.WindowMeaning.{WindowDefinition, WindowLoan}
-use Rattle.def_iface.specs.Stocked.{SlotView}
+use Rattle.def_iface.specs.WindowSlots.{WindowSlot}
 use Rattle.desk_call.specs.declared.window.NewWindow.{NewWindow}
 use Rattle.desk_call.specs.declared.window.WindowCall.{WindowCall}
 use Rattle.window_mgr.specs.declared.manager.WindowManager.{WindowManager}
@@ -33,7 +33,7 @@ use Rattle.vis_update.specs.Plans.{IsPlan}
 pub settled_stay : {V : Type 0} {H : V → Type 0} (loan : TakenBox V H → WindowLoan) (t u : WindowManager V H) → SameDesk t u → All IsSettled (map (record_of loan) t.windows.records.items) → All IsSettled (map (record_of loan) u.windows.records.items)
 settled_stay loan t u same settled = subst (λ ws. All IsSettled (map (record_of loan) ws)) (sym same.windows) settled
 
-module _ {V : Type 0} {H : V → Type 0} (loan : TakenBox V H → WindowLoan) (t u : WindowManager V H) (slots back : List SlotView) (same : SameDesk t u) (kept : back ≡ slots) where
+module _ {V : Type 0} {H : V → Type 0} (loan : TakenBox V H → WindowLoan) (t u : WindowManager V H) (slots back : List WindowSlot) (same : SameDesk t u) (kept : back ≡ slots) where
   desk_stays : desk_of loan u back ≡ desk_of loan t slots
   desk_stays = λ i. record {
     width = pos (ap (λ (s : Bits). s.width) same.screen i);
@@ -81,11 +81,11 @@ module _ {V : Type 0} {H : V → Type 0} (loan : TakenBox V H → WindowLoan) (t
 
 -- a call that is refused and leaves the same desk makes its step
 pub stays_refused : {V : Type 0} {H : V → Type 0} (loan : TakenBox V H → WindowLoan) (t u : WindowManager V H) → SameDesk t u → (call : WindowCall) (e : Refusal)
-    → ((slots : List SlotView) → IsWholeManager loan t slots → IsCallRefused call e (state_of loan t slots)) → IsStepOverAnySlots loan call (Err e) t u
+    → ((slots : List WindowSlot) → IsWholeManager loan t slots → IsCallRefused call e (state_of loan t slots)) → IsStepOverAnySlots loan call (Err e) t u
 stays_refused loan t u same call e refused slots whole =
     (stays_whole loan t u slots slots same refl whole, (refused slots whole, stays_unchanged loan t u slots slots same refl))
 
 -- so does one that is refused and leaves all as it was
 pub is_refused : {V : Type 0} {H : V → Type 0} (loan : TakenBox V H → WindowLoan) (t : WindowManager V H) (call : WindowCall) (e : Refusal)
-    → ((slots : List SlotView) → IsWholeManager loan t slots → IsCallRefused call e (state_of loan t slots)) → IsStepOverAnySlots loan call (Err e) t t
+    → ((slots : List WindowSlot) → IsWholeManager loan t slots → IsCallRefused call e (state_of loan t slots)) → IsStepOverAnySlots loan call (Err e) t t
 is_refused loan t call e refused slots whole = (whole, (refused slots whole, record { desk = refl; stale = λ p on. refl; image = λ p on. refl }))

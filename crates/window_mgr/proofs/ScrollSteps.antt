@@ -15,7 +15,7 @@ use Rattle.bit_map.specs.Bits.{Bits, on_map, bit}
 use Rattle.def_iface.specs.Slots.{TakenBox}
 use Rattle.desk_layers.specs.declared.part.Part.TheVariants.{Picture}
 use Rattle.def_iface.specs.WindowMeaning.{WindowLoan}
-use Rattle.def_iface.specs.Stocked.{SlotView}
+use Rattle.def_iface.specs.WindowSlots.{WindowSlot}
 use Rattle.desk_layers.specs.Desk as layers
 use Rattle.desk_layers.specs.Desk.{LayeredDesk}
 use Rattle.desk_layers.specs.Owner.{Owner, owner, same_owner, is_content}
@@ -58,7 +58,7 @@ use Rattle.window_mgr.proofs.Steps as steps
 use Rattle.window_mgr.proofs.Covered.{covered_so}
 use Rattle.window_paint.specs.Hidden.{is_hidden}
 
-module _ {V : Type 0} {H : V → Type 0} (loan : TakenBox V H → WindowLoan) (t : WindowManager V H) (slots : List SlotView) (whole : IsWholeManager loan t slots) (m : ScrollPicture) (at : ℕ) (low : at < length t.windows.records.items) (x : Window V H) (x_is : IsWindowAt t.windows.records.items at x)
+module _ {V : Type 0} {H : V → Type 0} (loan : TakenBox V H → WindowLoan) (t : WindowManager V H) (slots : List WindowSlot) (whole : IsWholeManager loan t slots) (m : ScrollPicture) (at : ℕ) (low : at < length t.windows.records.items) (x : Window V H) (x_is : IsWindowAt t.windows.records.items at x)
     (a : Area) (read : a ≡ get_or t.areas.items at a) (s : Scrolled) (plan : IsScrollPlan x.serial m.by (layered_state (state_of loan t slots)) s) (screen : Bits) (painted : IsScrollPainted s.copied s.erase m.by t.screen screen) where
   abbrev before : plain.State
   before = layered_state (state_of loan t slots)
@@ -202,7 +202,7 @@ module _ {V : Type 0} {H : V → Type 0} (loan : TakenBox V H → WindowLoan) (t
 
 module _ {V : Type 0} {H : V → Type 0} (loan : TakenBox V H → WindowLoan) (t : WindowManager V H) (m : ScrollPicture) (at : ℕ) (stands : StandsAt t.windows.records.items m.window at) (x : Window V H) (x_is : IsWindowAt t.windows.records.items at x) where
   -- of a window that is there the new origin alone says whether the call is refused
-  refusal_is : (slots : List SlotView) → IsWholeManager loan t slots → (b : Bool) → b ≡ in_plane (plus x.origin m.by) → first_refusal (scroll_refusals m (desk_of loan t slots)) ≡ (if b then None else Some OutOfRange)
+  refusal_is : (slots : List WindowSlot) → IsWholeManager loan t slots → (b : Bool) → b ≡ in_plane (plus x.origin m.by) → first_refusal (scroll_refusals m (desk_of loan t slots)) ≡ (if b then None else Some OutOfRange)
   refusal_is slots whole b is = steps.may_stand loan t t slots whole at m.window x stands.0 x_is (stands.1 x x_is) (may_scroll m.by) b is
 
   pub out_of_range : in_plane (plus x.origin m.by) ≡ false → IsStepOverAnySlots loan (Scroll m) (Err OutOfRange) t t

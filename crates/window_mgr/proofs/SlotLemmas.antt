@@ -6,7 +6,7 @@ use Rattle.std.proofs.lemmas.Bool.{cases_eq, false≢true}
 use Rattle.std.proofs.lemmas.List.Elements.{All-cons, All-weaker, Contains-append_right}
 use Rattle.std.proofs.lemmas.List.Kept.{AllPairs-cons}
 use Rattle.def_iface.specs.WindowMeaning.{WindowLoan}
-use Rattle.def_iface.specs.Stocked.{SlotView, IsTaken, IsPutBack, is_left, holding}
+use Rattle.def_iface.specs.WindowSlots.{WindowSlot, IsTaken, IsPutBack, is_left, holding}
 use Rattle.vis_update.specs.Records.{WindowRecord}
 use Rattle.window_mgr.specs.Whole.{IsStocked, IsSlot}
 
@@ -37,11 +37,11 @@ module _ {X : Type 0} where
   map-set f (z ∷ xs) zero x y e same = let here : z ≡ x = cc in ap (λ w. w ∷ map f xs) (same ∙ ap f (sym here))
   map-set f (z ∷ xs) (suc i) x y e same = ap (λ ws. f z ∷ ws) (map-set f xs i x y e same)
 
-module _ (kind : List ℕ) (loan : WindowLoan) (old left : List SlotView) (took : IsTaken kind loan old left) where
-  abbrev emptied : SlotView
+module _ (kind : List ℕ) (loan : WindowLoan) (old left : List WindowSlot) (took : IsTaken kind loan old left) where
+  abbrev emptied : WindowSlot
   emptied = record { kind = kind; held = None }
 
-  abbrev filled : SlotView
+  abbrev filled : WindowSlot
   filled = record { kind = kind; held = Some loan.definition }
 
   found : slice_get left loan.slot ≡ Some emptied
@@ -49,14 +49,14 @@ module _ (kind : List ℕ) (loan : WindowLoan) (old left : List SlotView) (took 
 
   -- its slot is there, and empty
   pub taken_is_left : is_left loan.slot left ≡ true
-  taken_is_left = ap (λ o. option_map_or (λ (s : SlotView). is_none s.held) o false) found
+  taken_is_left = ap (λ o. option_map_or (λ (s : WindowSlot). is_none s.held) o false) found
 
   -- the slots are for the same kinds
   pub kinds_when_taken : map (λ s. s.kind) left ≡ map (λ s. s.kind) old
-  kinds_when_taken = ap (map (λ s. s.kind)) took.left ∙ map-set (λ (s : SlotView). s.kind) old loan.slot filled emptied took.held refl
+  kinds_when_taken = ap (map (λ s. s.kind)) took.left ∙ map-set (λ (s : WindowSlot). s.kind) old loan.slot filled emptied took.held refl
 
   -- a definition that was taken and put back leaves the stock as it was
-  pub put_back_is_old : (new : List SlotView) → IsPutBack loan left new → new ≡ old
+  pub put_back_is_old : (new : List WindowSlot) → IsPutBack loan left new → new ≡ old
   put_back_is_old new back =
       let set_is : new ≡ slice_set left loan.slot filled = subst (λ o. IfSome o (λ s. new ≡ slice_set left loan.slot (holding (Some loan.definition) s))) found back in
       set_is ∙ ap (λ ss. slice_set ss loan.slot filled) took.left ∙ set-set_back old loan.slot filled emptied took.held
@@ -64,8 +64,8 @@ module _ (kind : List ℕ) (loan : WindowLoan) (old left : List SlotView) (took 
   -- another window's slot, which was empty before, is still
   still_left : (k : ℕ) → is_left k old ≡ true → (k ≡ loan.slot → ⊥) × (is_left k left ≡ true)
   still_left k e =
-      let away : k ≡ loan.slot → ⊥ = λ same. false≢true (sym (ap (λ o. option_map_or (λ (s : SlotView). is_none s.held) o false) (ap (slice_get old) same ∙ took.held)) ∙ e) in
-      (away, ap (λ o. option_map_or (λ (s : SlotView). is_none s.held) o false) (ap (λ ss. slice_get ss k) took.left ∙ get-set_other old loan.slot k emptied away) ∙ e)
+      let away : k ≡ loan.slot → ⊥ = λ same. false≢true (sym (ap (λ o. option_map_or (λ (s : WindowSlot). is_none s.held) o false) (ap (slice_get old) same ∙ took.held)) ∙ e) in
+      (away, ap (λ o. option_map_or (λ (s : WindowSlot). is_none s.held) o false) (ap (λ ss. slice_get ss k) took.left ∙ get-set_other old loan.slot k emptied away) ∙ e)
 
   -- the slot that is empty now is the new window's
   pub stocked_with : (w : WindowRecord) (ws : List WindowRecord) → w.slot ≡ loan.slot → IsStocked ws old → IsStocked (w ∷ ws) left
@@ -80,7 +80,7 @@ module _ (kind : List ℕ) (loan : WindowLoan) (old left : List SlotView) (took 
           (λ here. inr (
             (let got : Some emptied ≡ Some s = sym found ∙ ap (slice_get left) (sym here) ∙ e in
                 let same : emptied ≡ s = cc in
-                ap (λ (t : SlotView). t.held) (sym same)),
+                ap (λ (t : WindowSlot). t.held) (sym same)),
             (0, omega arith, slot_is ∙ sym here),
           ))
           (λ away. ⊎_elim
@@ -90,5 +90,5 @@ module _ (kind : List ℕ) (loan : WindowLoan) (old left : List SlotView) (took 
           (cases_eq k loan.slot)
 
 -- the kind goes by the bytes of this text
-pub taken_named : (bytes kind : List ℕ) (loan : WindowLoan) (old new : List SlotView) → bytes ≡ kind → IsTaken bytes loan old new → IsTaken kind loan old new
+pub taken_named : (bytes kind : List ℕ) (loan : WindowLoan) (old new : List WindowSlot) → bytes ≡ kind → IsTaken bytes loan old new → IsTaken kind loan old new
 taken_named bytes kind loan old new same taken = subst (λ k. IsTaken k loan old new) same taken

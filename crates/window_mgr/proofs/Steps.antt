@@ -10,7 +10,7 @@ use Rattle.tb_geom.specs.Points.{minus}
 use Rattle.tb_geom.specs.Rects.{in_plane}
 use Rattle.def_iface.specs.Slots.{TakenBox}
 use Rattle.def_iface.specs.WindowMeaning.{WindowLoan}
-use Rattle.def_iface.specs.Stocked.{SlotView}
+use Rattle.def_iface.specs.WindowSlots.{WindowSlot}
 use Rattle.desk_layers.specs.Desk as layers
 use Rattle.window_list.specs.Classes.{front_place}
 use Rattle.window_list.specs.Lists.{floats, leads}
@@ -45,7 +45,7 @@ use Rattle.window_mgr.proofs.EditSeats.{same_at}
 use Rattle.window_mgr.proofs.ClassPlaces.{place_records}
 use Rattle.window_mgr.proofs.Arrangements.{found_is, brought_is, changed_is, behind_is}
 
-module _ {V : Type 0} {H : V → Type 0} (loan : TakenBox V H → WindowLoan) (t new : WindowManager V H) (slots : List SlotView) (whole : IsWholeManager loan t slots) (i s : ℕ) (x : Window V H) (low : i < length t.windows.records.items) (x_is : IsWindowAt t.windows.records.items i x) (serial : x.serial ≡ s) where
+module _ {V : Type 0} {H : V → Type 0} (loan : TakenBox V H → WindowLoan) (t new : WindowManager V H) (slots : List WindowSlot) (whole : IsWholeManager loan t slots) (i s : ℕ) (x : Window V H) (low : i < length t.windows.records.items) (x_is : IsWindowAt t.windows.records.items i x) (serial : x.serial ≡ s) where
   abbrev desk : FullDesk
   desk = desk_of loan t slots
 

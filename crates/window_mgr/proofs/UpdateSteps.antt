@@ -7,7 +7,7 @@ use Rattle.tb_geom.specs.Pixels.{Pixels, holds}
 use Rattle.desk_layers.specs.declared.part.Part.{Part}
 use Rattle.def_iface.specs.Slots.{TakenBox}
 use Rattle.def_iface.specs.WindowMeaning.{WindowLoan}
-use Rattle.def_iface.specs.Stocked.{SlotView}
+use Rattle.def_iface.specs.WindowSlots.{WindowSlot}
 use Rattle.desk_layers.specs.Desk as layers
 use Rattle.desk_layers.specs.Desk.{LayeredDesk}
 use Rattle.desk_layers.specs.Owner.{Owner, owner, is_content}
@@ -87,7 +87,7 @@ record IsOrdered (before : FullState) : Type 0 where
   frames : AreFramesShown before
   fresh : (p : Point) → layers.on_screen (layered_desk before.desk) p ≡ true → is_content (owner (layered_desk before.desk) p) ≡ false → before.stale p ≡ false
 
-ordered : {V : Type 0} {H : V → Type 0} (loan : TakenBox V H → WindowLoan) (t : WindowManager V H) (slots : List SlotView) → IsWholeManager loan t slots → (shows : List ℕ → Part → PixelSet) → IsOrdered (state_showing shows (state_of loan t slots))
+ordered : {V : Type 0} {H : V → Type 0} (loan : TakenBox V H → WindowLoan) (t : WindowManager V H) (slots : List WindowSlot) → IsWholeManager loan t slots → (shows : List ℕ → Part → PixelSet) → IsOrdered (state_showing shows (state_of loan t slots))
 ordered loan t slots whole shows = record {
   distinct = distinct_showing shows (desk_of loan t slots) whole.sound.distinct;
   frames = frames_showing shows (state_of loan t slots) whole.frames;
@@ -117,7 +117,7 @@ nothing_refreshed before is these none = record { desk = refl; pixels = record {
     image_is p on true c = sym (λ i. if not (c i) then scratch (layered_desk before.desk) p else (if not_drawn p on (these (its p)) refl i then scratch (layered_desk before.desk) p else (if not (had_is p on i) then false else before.image p)))
 
 -- so a window manager none of whose layers of these is stale
-pub stays_refreshed : {V : Type 0} {H : V → Type 0} (loan : TakenBox V H → WindowLoan) (t : WindowManager V H) (slots : List SlotView) → IsWholeManager loan t slots → (shows : List ℕ → Part → PixelSet) (these : Owner → Bool)
+pub stays_refreshed : {V : Type 0} {H : V → Type 0} (loan : TakenBox V H → WindowLoan) (t : WindowManager V H) (slots : List WindowSlot) → IsWholeManager loan t slots → (shows : List ℕ → Part → PixelSet) (these : Owner → Bool)
     → ((p : Point) → layers.on_screen (layered_desk (desk_of loan t slots)) p ≡ true → these (owner (layered_desk (desk_of loan t slots)) p) ≡ true → stale_in t.areas.items p ≡ false)
     → IsRefreshed these (state_showing shows (state_of loan t slots)) (state_showing shows (state_of loan t slots))
 stays_refreshed loan t slots whole shows these none = nothing_refreshed (state_showing shows (state_of loan t slots)) (ordered loan t slots whole shows) these (λ p on e. none p on (ap these (sym (owner_showing shows (desk_of loan t slots) p)) ∙ e))
@@ -211,7 +211,7 @@ module _ (s : ℕ) (update : Pixels) (before after : FullState) (is : IsOrdered 
         by_window true e = (λ i. if e i then holds update p else before.stale p) ∙ region p on e ∙ without (before.stale p) (these its p)
         by_window false e = (λ i. if e i then holds update p else before.stale p) ∙ sym (ap (λ b. if b then false else before.stale p) (away these of e))
 
-module _ {V : Type 0} {H : V → Type 0} (loan : TakenBox V H → WindowLoan) (t : WindowManager V H) (slots : List SlotView) (whole : IsWholeManager loan t slots) (shows : List ℕ → Part → PixelSet) (s : ℕ) (update : Pixels) (after : FullState) (done : IsRemarked s update (state_showing shows (state_of loan t slots)) after) (these : Owner → Point → Bool) (of : (o : Owner) (p : Point) → these o p ≡ true → is_content_of s o ≡ true) where
+module _ {V : Type 0} {H : V → Type 0} (loan : TakenBox V H → WindowLoan) (t : WindowManager V H) (slots : List WindowSlot) (whole : IsWholeManager loan t slots) (shows : List ℕ → Part → PixelSet) (s : ℕ) (update : Pixels) (after : FullState) (done : IsRemarked s update (state_showing shows (state_of loan t slots)) after) (these : Owner → Point → Bool) (of : (o : Owner) (p : Point) → these o p ≡ true → is_content_of s o ≡ true) where
   abbrev was_so : FullState
   was_so = state_showing shows (state_of loan t slots)
 

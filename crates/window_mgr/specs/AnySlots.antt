@@ -4,7 +4,7 @@ use Rattle.tb_geom.specs.declared.point.Point.{Point}
 use Rattle.tb_geom.specs.declared.refusal.Refusal.{Refusal}
 use Rattle.def_iface.specs.Slots.{TakenBox}
 use Rattle.def_iface.specs.WindowMeaning.{WindowLoan}
-use Rattle.def_iface.specs.Stocked.{SlotView}
+use Rattle.def_iface.specs.WindowSlots.{WindowSlot}
 use Rattle.desk_call.specs.declared.window.WindowCall.{WindowCall}
 use Rattle.desk_call.specs.declared.window.WindowReply.{WindowReply}
 use Rattle.window_mgr.specs.declared.arrange.Activates.{Activates}
@@ -24,5 +24,5 @@ module _ {V : Type 0} {H : V → Type 0} (loan : TakenBox V H → WindowLoan) wh
   -- over any such slots it is whole after a call that puts one window anew, and this is what the call answers and leaves
   abbrev pub IsRearrangedOverAnySlots : Edit → Activates → Option Point → Result WindowReply Refusal
       → WindowManager V H → WindowManager V H → Type 0
-  IsRearrangedOverAnySlots e activates by result old new = (slots : List SlotView) → IsWholeManager loan old slots
+  IsRearrangedOverAnySlots e activates by result old new = (slots : List WindowSlot) → IsWholeManager loan old slots
       → IsWholeManager loan new slots × IsRearranged loan e activates by result old new slots

@@ -4,7 +4,7 @@ use Rattle.tb_geom.specs.Points.{PixelSet}
 use Rattle.desk_layers.specs.declared.part.Part.{Part}
 use Rattle.def_iface.specs.Slots.{TakenBox}
 use Rattle.def_iface.specs.WindowMeaning.{WindowLoan}
-use Rattle.def_iface.specs.Stocked.{SlotView}
+use Rattle.def_iface.specs.WindowSlots.{WindowSlot}
 use Rattle.desk_call.specs.declared.activity.Activity.{Activity}
 use Rattle.desk_call.specs.declared.activity.Activity.TheVariants.{Updating}
 use Rattle.desk_call.specs.declared.window.WindowCall.{WindowCall}
@@ -55,7 +55,7 @@ desk_with o windows = record { windows = windows; activity = o.activity; begun =
 
 -- `loan` says what a definition that was taken means
 module _ {V : Type 0} {H : V → Type 0} (loan : TakenBox V H → WindowLoan) where
-  abbrev pub desk_state : WindowManager V H → Opened → List SlotView → DeskState
+  abbrev pub desk_state : WindowManager V H → Opened → List WindowSlot → DeskState
   desk_state t o slots = desk_with o (state_of loan t slots)
 
   -- over any slots over which the window manager is whole it is whole afterwards, and what it is with what is open is such

@@ -7,7 +7,7 @@ use Rattle.tb_geom.specs.declared.refusal.Refusal.{Refusal}
 use Rattle.tb_geom.specs.declared.refusal.Refusal.TheVariants.{NoMemory}
 use Rattle.def_iface.specs.Slots.{TakenBox}
 use Rattle.def_iface.specs.WindowMeaning.{WindowLoan}
-use Rattle.def_iface.specs.Stocked.{SlotView}
+use Rattle.def_iface.specs.WindowSlots.{WindowSlot}
 use Rattle.desk_layers.specs.Desk.{IsDesk}
 use Rattle.window_list.specs.declared.window.Window.{Window}
 use Rattle.window_list.specs.Lists.{with_stand, relit}
@@ -149,7 +149,7 @@ module _ {V : Type 0} {H : V → Type 0} (loan : TakenBox V H → WindowLoan) wh
 
   -- what a call that puts one window anew answers and leaves
   abbrev pub IsRearranged : Edit → Activates → Option Point → Result WindowReply Refusal → WindowManager V H → WindowManager V H
-      → List SlotView → Type 0
+      → List WindowSlot → Type 0
   IsRearranged e activates by (Ok answer) old new slots = (answer ≡ Done)
       × ((w : Window V H) → IsWindowAt old.windows.records.items e.at w
       → let arrangement : Arrangement = record { window = w.serial; by = by; windows = records_put e w old; activates = activates } in

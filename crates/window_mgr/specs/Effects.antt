@@ -10,7 +10,7 @@ use Rattle.def_iface.specs.WindowNews.{WindowNews, AllWindowNews, told_placed, n
 use Rattle.def_iface.specs.declared.size.Size as sizes
 use Rattle.def_iface.specs.declared.window_def.Stage.TheVariants.{Live}
 use Rattle.def_iface.specs.WindowMeaning.{WindowDefinition, WindowLoan, SameRegions, WindowHears, IsBegun}
-use Rattle.def_iface.specs.Stocked.{IsTaken}
+use Rattle.def_iface.specs.WindowSlots.{IsTaken}
 use Rattle.desk_layers.specs.Desk.{on_screen}
 use Rattle.desk_layers.specs.declared.part.Part.TheVariants.{Picture}
 use Rattle.desk_layers.specs.Owner.{same_owner}

@@ -5,7 +5,7 @@ use Rattle.bit_map.specs.Patterns.{pattern_bit}
 use Rattle.desk_ground.specs.Screens.{desktop}
 use Rattle.desk_ground.specs.declared.titles.MenuBar.{MenuBar}
 use Rattle.desk_ground.specs.Bars.{bar_picture}
-use Rattle.def_iface.specs.Stocked.{SlotView}
+use Rattle.def_iface.specs.WindowSlots.{WindowSlot}
 use Rattle.desk_layers.specs.declared.part.Part.{Part}
 use Rattle.desk_layers.specs.Desk.{LayeredDesk}
 use Rattle.desk_layers.specs.Change as plain
@@ -27,7 +27,7 @@ pub record FullDesk : Type 0 where
   -- the serial of the next window, if one is left
   pub next : Option ℕ
   -- what the stock holds
-  pub stock : List SlotView
+  pub stock : List WindowSlot
 
 -- the desk, the pixels of its update sets, and the image on its screen
 pub record FullState : Type 0 where

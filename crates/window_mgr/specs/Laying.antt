@@ -6,7 +6,7 @@ use Rattle.tb_geom.specs.declared.refusal.Refusal.TheVariants.{NoMemory}
 use Rattle.tb_geom.specs.Rects.{rect_holds}
 use Rattle.def_iface.specs.Slots.{TakenBox}
 use Rattle.def_iface.specs.WindowMeaning.{WindowLoan, IsWithin}
-use Rattle.def_iface.specs.Stocked.{SlotView}
+use Rattle.def_iface.specs.WindowSlots.{WindowSlot}
 use Rattle.desk_call.specs.declared.window.WindowReply.{WindowReply}
 use Rattle.desk_call.specs.declared.window.WindowReply.TheVariants.{Done}
 use Rattle.window_list.specs.declared.window.Placement.{Placement}
@@ -51,7 +51,7 @@ module _ {V : Type 0} {H : V → Type 0} (loan : TakenBox V H → WindowLoan) wh
 
   -- what a call that puts the window at this place of the list there answers and leaves
   abbrev pub IsLaid : ℕ → Placement → Option Point → Result WindowReply Refusal → WindowManager V H → WindowManager V H
-      → List SlotView → Type 0
+      → List WindowSlot → Type 0
   IsLaid i to by (Ok answer) old new slots = (answer ≡ Done) × ((w : Window V H) → IsWindowAt old.windows.records.items i w
       → IsWindowPlaced (record { window = w.serial; by = by; to = to }) (state_of loan old slots) (state_of loan new slots))
   IsLaid i to by (Err refusal) old new slots =
@@ -60,5 +60,5 @@ module _ {V : Type 0} {H : V → Type 0} (loan : TakenBox V H → WindowLoan) wh
   -- over any slots over which the window manager is whole, it is whole after such a call
   abbrev pub IsLaidOverAnySlots : ℕ → Placement → Option Point → Result WindowReply Refusal → WindowManager V H
       → WindowManager V H → Type 0
-  IsLaidOverAnySlots i to by result old new = (slots : List SlotView) → IsWholeManager loan old slots
+  IsLaidOverAnySlots i to by result old new = (slots : List WindowSlot) → IsWholeManager loan old slots
       → IsWholeManager loan new slots × IsLaid i to by result old new slots

@@ -5,7 +5,7 @@ use Rattle.bit_map.specs.Bits.{bit}
 use Rattle.desk_layers.specs.declared.part.Part.{Part}
 use Rattle.def_iface.specs.Slots.{TakenBox}
 use Rattle.def_iface.specs.WindowMeaning.{WindowLoan}
-use Rattle.def_iface.specs.Stocked.{SlotView}
+use Rattle.def_iface.specs.WindowSlots.{WindowSlot}
 use Rattle.vis_update.specs.Records.{Look, record_of}
 use Rattle.vis_update.specs.Areas.{stale_in}
 use Rattle.window_mgr.specs.declared.manager.WindowManager.{WindowManager}
@@ -28,7 +28,7 @@ look_on t = record { font = t.font; shows = all_white }
 -- `loan` says what a definition that was taken means
 module _ {V : Type 0} {H : V → Type 0} (loan : TakenBox V H → WindowLoan) where
   -- the desk of a window manager, over the slots of a stock
-  abbrev pub desk_of : WindowManager V H → List SlotView → FullDesk
+  abbrev pub desk_of : WindowManager V H → List WindowSlot → FullDesk
   desk_of t slots = record {
     width = pos t.screen.width;
     height = pos t.screen.height;
@@ -41,5 +41,5 @@ module _ {V : Type 0} {H : V → Type 0} (loan : TakenBox V H → WindowLoan) wh
     stock = slots;
   }
 
-  abbrev pub state_of : WindowManager V H → List SlotView → FullState
+  abbrev pub state_of : WindowManager V H → List WindowSlot → FullState
   state_of t slots = record { desk = desk_of t slots; stale = stale_in t.areas.items; image = bit t.screen }

@@ -11,7 +11,7 @@ use Rattle.draw_port.specs.declared.shapes.Op.{Op}
 use Rattle.lent_ops.specs.declared.op_ref.OpRef.{OpRef}
 use Rattle.lent_ops.specs.OpRefs.{IsGood, IsRefused}
 use Rattle.def_iface.specs.declared.size.Size as sizes
-use Rattle.def_iface.specs.Stocked.{has_kind, offered}
+use Rattle.def_iface.specs.WindowSlots.{has_kind, offered}
 use Rattle.window_list.specs.Holders.{fits_at}
 use Rattle.vis_update.specs.Records.{WindowRecord}
 use Rattle.vis_update.specs.Places.{is_placed}

@@ -6,7 +6,7 @@ use Rattle.tb_geom.specs.Points.{PixelSet}
 use Rattle.tb_geom.specs.Pixels.{Pixels, holds}
 use Rattle.def_iface.specs.Slots.{TakenBox}
 use Rattle.def_iface.specs.WindowMeaning.{WindowLoan}
-use Rattle.def_iface.specs.Stocked.{SlotView}
+use Rattle.def_iface.specs.WindowSlots.{WindowSlot}
 use Rattle.desk_layers.specs.Desk.{on_screen}
 use Rattle.desk_layers.specs.declared.part.Part.{Part}
 use Rattle.desk_layers.specs.Owner.{Owner, owner}
@@ -46,7 +46,7 @@ pub record IsRefreshed (these : Owner → Bool) (before after : FullState) : Typ
 module _ {V : Type 0} {H : V → Type 0} (loan : TakenBox V H → WindowLoan) where
   -- over any slots over which the window manager is whole it is whole afterwards, and its state is such a one
   abbrev pub LeavesState : (FullState → FullState → Type 0) → WindowManager V H → WindowManager V H → Type 0
-  LeavesState after old new = (slots : List SlotView) → IsWholeManager loan old slots
+  LeavesState after old new = (slots : List WindowSlot) → IsWholeManager loan old slots
       → IsWholeManager loan new slots × after (state_of loan old slots) (state_of loan new slots)
 
   -- the same, where controls and lists show this

@@ -6,7 +6,7 @@ use Rattle.tb_geom.specs.Rects.{in_plane, is_in_range, moved_rect, rect_holds}
 use Rattle.def_iface.specs.Slots.{TakenBox}
 use Rattle.def_iface.specs.declared.window_def.Stage.TheVariants.{Live}
 use Rattle.def_iface.specs.WindowMeaning.{WindowLoan, IsWithin, WindowGoesBy, is_fitting}
-use Rattle.def_iface.specs.Stocked.{SlotView, IsFull, is_left}
+use Rattle.def_iface.specs.WindowSlots.{WindowSlot, IsFull, is_left}
 use Rattle.desk_layers.specs.Desk.{IsDesk, on_screen}
 use Rattle.desk_layers.specs.Owner.{owner, own_bit, is_content}
 use Rattle.window_list.specs.Holders.{fits_at}
@@ -34,13 +34,13 @@ pub record IsSettled (w : WindowRecord) : Type 0 where
   pub goes_by : WindowGoesBy (news_of w) w.definition
 
 -- a slot has its definition back, or belongs to one of these windows and is empty
-abbrev pub IsSlot : List WindowRecord → List SlotView → ℕ → Type 0
-IsSlot windows slots k = (s : SlotView) → slice_get slots k ≡ Some s
+abbrev pub IsSlot : List WindowRecord → List WindowSlot → ℕ → Type 0
+IsSlot windows slots k = (s : WindowSlot) → slice_get slots k ≡ Some s
     → IsFull s ⊎ ((s.held ≡ None) × Contains (map (λ w. w.slot) windows) k)
 
 -- the empty slots of the stock are those of the windows' definitions, each of another, and the definitions in the
 -- other slots are fresh or closed
-pub record IsStocked (windows : List WindowRecord) (slots : List SlotView) : Type 0 where
+pub record IsStocked (windows : List WindowRecord) (slots : List WindowSlot) : Type 0 where
   pub left : All (λ w. is_left w.slot slots ≡ true) windows
   pub apart : AllPairs (λ v w. v.slot ≡ w.slot → ⊥) windows
   pub others : (k : ℕ) → IsSlot windows slots k
@@ -66,7 +66,7 @@ LieThere w = w.layers.place ≡ w.place
 -- `loan` says what a definition that was taken means
 module _ {V : Type 0} {H : V → Type 0} (loan : TakenBox V H → WindowLoan) where
   -- a window manager and the slots of its stock, between calls
-  pub record IsWholeManager (t : WindowManager V H) (slots : List SlotView) : Type 0 where
+  pub record IsWholeManager (t : WindowManager V H) (slots : List WindowSlot) : Type 0 where
     pub sound : IsSoundDesk (desk_of loan t slots)
     pub gray : IsGray (layered_desk (desk_of loan t slots)) t.gray
     pub desktop : IsDesktop (layered_desk (desk_of loan t slots)) t.desktop

@@ -1,6 +1,6 @@
 //! What a window manager keeps, and how it begins.
 ghost use Rattle.std.specs.Prelude.{◌≡◌, true, if◌then◌else◌, IfOk, IfErr, List, [], All, pos};
-ghost use Rattle.def_iface.specs.Stocked.{SlotView, IsFull};
+ghost use Rattle.def_iface.specs.WindowSlots.{WindowSlot, IsFull};
 ghost use Rattle.window_mgr.specs.Begin.{IsEmptyDesk};
 ghost use Rattle.desk_ground.specs.Screens as screens;
 
@@ -73,7 +73,7 @@ impl WindowManager {
         requires none { windows.records.items ≡ [] }
         requires active { windows.active ≡ None }
         requires first { windows.next ≡ Some 1 }
-        ensures begun { IfOk result (λ t. (slots : List SlotView) → All IsFull slots
+        ensures begun { IfOk result (λ t. (slots : List WindowSlot) → All IsFull slots
             → IsEmptyDesk ⟦<TakenWindow as Defined>⟧.loan width height bar font t slots) }
         ensures in_range { IfOk result (λ t. screens.is_screen width height bar ≡ true) }
         ensures refused { IfErr result (λ e. (e.font ≡ font)

@@ -3,7 +3,7 @@
 ghost use Rattle.std.specs.Prelude.{◌≡◌, ◌<◌, ℕ, slice_index_or, List, length, Option, IfOk, IfSome};
 ghost use Rattle.tb_geom.specs.Points.{PixelSet};
 ghost use Rattle.desk_layers.specs.declared.part.Part.{Part};
-ghost use Rattle.def_iface.specs.Stocked.{SlotView};
+ghost use Rattle.def_iface.specs.WindowSlots.{WindowSlot};
 ghost use Rattle.window_list.specs.declared.layer.Layer.{Layer};
 ghost use Rattle.window_list.specs.Holders.{ArePartsApart};
 ghost use Rattle.window_mgr.specs.Edits.{IsWindowAt};
@@ -63,7 +63,7 @@ impl WindowManager {
         requires whole { S.is_whole showing.now }
         ensures { (w : _) → IsWindowAt self.old.windows.records.items at w
             → (l : Layer) → l ≡ slice_index_or w.layers.layers index l
-            → (was : List ℕ → Part → PixelSet) (slots : List SlotView)
+            → (was : List ℕ → Part → PixelSet) (slots : List WindowSlot)
             → IsWholeManager ⟦<TakenWindow as Defined>⟧.loan self.old slots
             → IsWholeManager ⟦<TakenWindow as Defined>⟧.loan self.new slots
             × IsLayerDrawnWithin within w.serial l
@@ -92,7 +92,7 @@ impl WindowManager {
         requires ready { T.is_ready toggling.now }
         ensures { (w : _) → IsWindowAt self.old.windows.records.items at w
             → (l : Layer) → l ≡ slice_index_or w.layers.layers index l
-            → (was is : List ℕ → Part → PixelSet) (slots : List SlotView)
+            → (was is : List ℕ → Part → PixelSet) (slots : List WindowSlot)
             → IsWholeManager ⟦<TakenWindow as Defined>⟧.loan self.old slots
             → IsWholeManager ⟦<TakenWindow as Defined>⟧.loan self.new slots
             × IsLayerToggled w.serial w.place l.part (T.toggles toggling.now)
@@ -130,7 +130,7 @@ impl WindowManager {
         ensures put { AreLayersPut at layers relaying.update self.old self.new }
         ensures set { (w : _) → IsWindowAt self.old.windows.records.items at w
             → (part : Option Part) → IsPartAt layers.layers afresh part
-            → (was : List ℕ → Part → PixelSet) (slots : List SlotView)
+            → (was : List ℕ → Part → PixelSet) (slots : List WindowSlot)
             → IsWholeManager ⟦<TakenWindow as Defined>⟧.loan self.old slots
             → IsWholeManager ⟦<TakenWindow as Defined>⟧.loan self.new slots
             × AreLayersSet w.serial layers.layers part

@@ -7,7 +7,7 @@ use Rattle.tb_geom.specs.Points.{PixelSet}
 use Rattle.tb_geom.specs.Rects.{is_in_range}
 use Rattle.tb_geom.specs.Refusals.{first_refusal}
 use Rattle.desk_layers.specs.declared.part.Part.{Part}
-use Rattle.def_iface.specs.Stocked.{SlotView}
+use Rattle.def_iface.specs.WindowSlots.{WindowSlot}
 use Rattle.desk_call.specs.declared.activity.Activity.{Activity}
 use Rattle.desk_call.specs.declared.activity.Activity.TheVariants.{Dragging, Growing}
 use Rattle.desk_call.specs.declared.outline.OutlineCall.{OutlineCall}
@@ -23,7 +23,7 @@ use Rattle.window_outline.specs.Outlining.{answer_to, begins, drag_lines, grow_l
 use Rattle.window_outline.specs.OutlineRefusals.{asked_refusals}
 use Rattle.window_outline.specs.OutlineSteps.{IsOutlining, why_refused}
 
-module _ (shows : List ℕ → Part → PixelSet) (slots : List SlotView) (d : FullDesk) where
+module _ (shows : List ℕ → Part → PixelSet) (slots : List WindowSlot) (d : FullDesk) where
   -- the desk, of which windows show this, and the stock has these slots
   abbrev seen : FullDesk
   seen = record (desk_showing shows d) { stock = slots }

@@ -2,7 +2,9 @@
 ghost use Rattle.std.specs.Prelude.{◌≡◌, true};
 ghost use Rattle.def_iface.specs.WindowMeaning.{is_fitting};
 
-use def_iface::{Defined, Hit, Size, Stage, TakenWindow, WindowDef, WindowRegions, WindowStock};
+use def_iface::{
+    Defined, Hit, Size, Stage, TakenWindow, WindowDef, WindowRegions, WindowStock, put_away,
+};
 use draw_port::{Canvas, Cut};
 use scan_region::Region;
 use std::alloc::Global;
@@ -62,8 +64,7 @@ fn a_stock_gives_the_first_fresh_definition_of_a_kind(rt: HostRuntime) -> Result
     assert!(rt; SIZE.is_in_range() && used.bounds(SIZE).is_in_range());
     assert!(rt; used.bounds(SIZE) == TITLED);
     used.begin(SIZE, b"", false, false);
-    used.dispose();
-    stock.put_back(used);
+    put_away(used, &mut stock);
     let other = stock.take(b"window")?;
     assert!(rt; other.bounds(SIZE) == PLAIN);
     assert!(rt; stock.take(b"window").err() == Some(Refusal::NoDefinition));

@@ -10,7 +10,7 @@ use Rattle.region_bytes.specs.Bytes.{IsUnwritten}
 use Rattle.desk_layers.proofs.Owning.{same_number}
 use Rattle.def_iface.specs.Slots.{TakenBox}
 use Rattle.def_iface.specs.WindowMeaning.{WindowLoan}
-use Rattle.def_iface.specs.Stocked.{SlotView}
+use Rattle.def_iface.specs.WindowSlots.{WindowSlot}
 use Rattle.desk_call.specs.declared.activity.Activity.{Activity}
 use Rattle.desk_call.specs.declared.activity.Activity.TheVariants.{Idle, Updating}
 use Rattle.desk_call.specs.declared.update.LayerDraw.{LayerDraw}
@@ -80,14 +80,14 @@ module _ {V : Type 0} {H : V → Type 0} (loan : TakenBox V H → WindowLoan) (s
   abbrev x : Window V H
   x = here.0
 
-  abbrev was : List SlotView → FullState
+  abbrev was : List WindowSlot → FullState
   was slots = state_showing shows (state_of loan t slots)
 
   found : record_with s (desk_of loan t []).windows ≡ Some (record_of loan x)
   found = telling.found loan t kept s at x stands.0 here.1 (stands.1 x here.1)
 
   -- nothing refuses a call about the window
-  pub free : (slots : List SlotView) → first_refusal (window_refusals s (was slots).desk) ≡ None
+  pub free : (slots : List WindowSlot) → first_refusal (window_refusals s (was slots).desk) ≡ None
   free slots = ap (λ (o : Option WindowRecord). first_refusal ((is_none o, NoSuchWindow) ∷ [])) found
 
   -- but want of memory

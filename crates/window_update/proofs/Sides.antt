@@ -4,7 +4,7 @@ use Rattle.tb_geom.specs.declared.point.Point.{Point}
 use Rattle.tb_geom.specs.Points.{PixelSet}
 use Rattle.def_iface.specs.Slots.{TakenBox}
 use Rattle.def_iface.specs.WindowMeaning.{WindowLoan}
-use Rattle.def_iface.specs.Stocked.{SlotView}
+use Rattle.def_iface.specs.WindowSlots.{WindowSlot}
 use Rattle.desk_layers.specs.Desk.{LayeredDesk, on_screen}
 use Rattle.desk_layers.specs.Owner.{owner}
 use Rattle.desk_call.specs.declared.activity.Activity.{Activity}
@@ -48,7 +48,7 @@ module _ {V : Type 0} {H : V → Type 0} (loan : TakenBox V H → WindowLoan) wh
 
   -- the maps for comparing stay as large as the screen, and where an update is open, what its draws leave is the same where
   -- owners and update sets are
-  pub stays_whole : (activity : Activity) (old new : WindowManager V H) (u : Updates) (before after : List SlotView) → IsWholeUpdates loan activity old u → SameSides (desk_of loan old before) (desk_of loan new after)
+  pub stays_whole : (activity : Activity) (old new : WindowManager V H) (u : Updates) (before after : List WindowSlot) → IsWholeUpdates loan activity old u → SameSides (desk_of loan old before) (desk_of loan new after)
       → ((s : ℕ) → activity ≡ Updating s → AreChoices s (layered_desk (desk_of loan old [])) (stale_in old.areas.items) u.choices → AreChoices s (layered_desk (desk_of loan new [])) (stale_in new.areas.items) u.choices)
       → IsWholeUpdates loan activity new u
   stays_whole activity old new u before after whole same keeps = record {
@@ -70,7 +70,7 @@ module _ {V : Type 0} {H : V → Type 0} (loan : TakenBox V H → WindowLoan) wh
       same m n e = cc
 
   -- windows that did not change
-  pub unchanged_whole : (activity : Activity) (old new : WindowManager V H) (u : Updates) (slots : List SlotView) → IsWholeUpdates loan activity old u → IsUnchanged (state_of loan old slots) (state_of loan new slots) → IsWholeUpdates loan activity new u
+  pub unchanged_whole : (activity : Activity) (old new : WindowManager V H) (u : Updates) (slots : List WindowSlot) → IsWholeUpdates loan activity old u → IsUnchanged (state_of loan old slots) (state_of loan new slots) → IsWholeUpdates loan activity new u
   unchanged_whole activity old new u slots whole same = record {
     width = whole.width ∙ sym (ap (λ (d : FullDesk). nat_abs d.width) same.desk);
     height = whole.height ∙ sym (ap (λ (d : FullDesk). nat_abs d.height) same.desk);

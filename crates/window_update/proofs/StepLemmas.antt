@@ -10,7 +10,7 @@ use Rattle.tb_geom.specs.Pixels.{Pixels, holds}
 use Rattle.desk_layers.specs.declared.part.Part.{Part}
 use Rattle.def_iface.specs.Slots.{TakenBox}
 use Rattle.def_iface.specs.WindowMeaning.{WindowLoan}
-use Rattle.def_iface.specs.Stocked.{SlotView}
+use Rattle.def_iface.specs.WindowSlots.{WindowSlot}
 use Rattle.desk_layers.specs.Desk as layers
 use Rattle.desk_layers.specs.Owner.{Owner, owner}
 use Rattle.desk_layers.specs.Change.{Change, IsChanged}
@@ -50,13 +50,13 @@ use Rattle.window_update.proofs.MarkLemmas.{its_area}
 
 -- a call that is refused and leaves all as it was
 pub is_refused : {V : Type 0} {H : V → Type 0} (loan : TakenBox V H → WindowLoan) (shows : List ℕ → Part → PixelSet) (t : WindowManager V H) (u : Opened) (call : UpdateCall) (e : Refusal)
-    → ((slots : List SlotView) → IsUpdateRefused call e (state_showing shows (state_of loan t slots))) → IsUpdateStepOverAnySlots loan shows call (Err e) t u t u
+    → ((slots : List WindowSlot) → IsUpdateRefused call e (state_showing shows (state_of loan t slots))) → IsUpdateStepOverAnySlots loan shows call (Err e) t u t u
 is_refused loan shows t u call e refused slots whole =
     (whole, (refused slots, record { windows = record { desk = refl; stale = λ p on. refl; image = λ p on. refl }; activity = refl; begun = refl }))
 
 -- so does one for which there is no memory
 pub short_of_memory : {V : Type 0} {H : V → Type 0} (loan : TakenBox V H → WindowLoan) (shows : List ℕ → Part → PixelSet) (t new : WindowManager V H) (u : Opened) (call : UpdateCall) (e : Refusal) → new ≡ t
-    → ((slots : List SlotView) → IsUpdateRefusal call (state_showing shows (state_of loan t slots)) None × ((may_update_grow call ≡ true) × (e ≡ NoMemory))) → IsUpdateStepOverAnySlots loan shows call (Err e) t u new u
+    → ((slots : List WindowSlot) → IsUpdateRefusal call (state_showing shows (state_of loan t slots)) None × ((may_update_grow call ≡ true) × (e ≡ NoMemory))) → IsUpdateStepOverAnySlots loan shows call (Err e) t u new u
 short_of_memory loan shows t new u call e same free =
     subst (λ n. IsUpdateStepOverAnySlots loan shows call (Err e) t u n u) (sym same) (is_refused loan shows t u call e (λ slots. inr (free slots)))
 
@@ -89,10 +89,10 @@ module _ {V : Type 0} {H : V → Type 0} (loan : TakenBox V H → WindowLoan) (s
   abbrev x : Window V H
   x = here.0
 
-  abbrev was : List SlotView → FullState
+  abbrev was : List WindowSlot → FullState
   was slots = state_showing shows (state_of loan t slots)
 
-  owner_is : (slots : List SlotView) (p : Point) → owner (layered_desk (was slots).desk) p ≡ owner (layered_desk (desk_of loan t [])) p
+  owner_is : (slots : List WindowSlot) (p : Point) → owner (layered_desk (was slots).desk) p ≡ owner (layered_desk (desk_of loan t [])) p
   owner_is slots = owner_showing shows (desk_of loan t slots)
 
   number : x.serial ≡ m.window
@@ -110,7 +110,7 @@ module _ {V : Type 0} {H : V → Type 0} (loan : TakenBox V H → WindowLoan) (s
 
   module _ (new : WindowManager V H) (update : Pixels) (set : PixelSet) (verdict : Verdict)
       (after : (w : Window V H) (a : Area) → IsWindowAt t.windows.records.items at w → a ≡ slice_index_or t.areas.items at a → (p : Point) → holds update p ≡ marked_by verdict (holds a.update p) (holds a.visible p && set (minus p w.place)))
-      (low : at < length t.areas.items) (slots : List SlotView) (whole : IsWholeManager loan t slots)
+      (low : at < length t.areas.items) (slots : List WindowSlot) (whole : IsWholeManager loan t slots)
       (remarked : IsRemarked x.serial update (state_of loan t slots) (state_of loan new slots)) where
     its_mark : IsRemarked m.window update (was slots) (state_showing shows (state_of loan new slots))
     its_mark = remarked_showing shows m.window update (state_of loan t slots) (state_of loan new slots) (subst (λ n. IsRemarked n update (state_of loan t slots) (state_of loan new slots)) number remarked)
@@ -130,7 +130,7 @@ module _ {V : Type 0} {H : V → Type 0} (loan : TakenBox V H → WindowLoan) (s
         ∙ ap (marked_by verdict (stale_in t.areas.items p)) (sym (marked_is set (owner (layered_desk (was slots).desk) p) p own_so))
 
   -- whether what shows of the area is right, as it was judged
-  module _ (set : PixelSet) (is_set : IsAreaOf m.area set) (slots : List SlotView) (free : IsAreaRefusal m (was slots) None) (right : Bool)
+  module _ (set : PixelSet) (is_set : IsAreaOf m.area set) (slots : List WindowSlot) (free : IsAreaRefusal m (was slots) None) (right : Bool)
       (judged : (w : Window V H) → IsWindowAt t.windows.records.items at w → IsJudgement w.serial set (was []) right) where
     judgement : IsJudgement m.window set (was slots) right
     judgement = judged_there loan shows t at m.window stands set right judged
@@ -142,7 +142,7 @@ module _ {V : Type 0} {H : V → Type 0} (loan : TakenBox V H → WindowLoan) (s
     right_pixels all = (None, free, (set, is_set, (right, judgement, ap (λ b. if b then None else Some StalePixels) all)))
 
   -- the change of the pixels of such a mark
-  marked_pixels : (verdict : Verdict) (set : PixelSet) (update : Pixels) (slots : List SlotView) → IsWholeManager loan t slots → (after : FullState) → IsRemarked m.window update (was slots) after
+  marked_pixels : (verdict : Verdict) (set : PixelSet) (update : Pixels) (slots : List WindowSlot) → IsWholeManager loan t slots → (after : FullState) → IsRemarked m.window update (was slots) after
       → ((p : Point) → layers.on_screen (layered_desk (was slots).desk) p ≡ true → is_content_of m.window (owner (layered_desk (was slots).desk) p) ≡ true
       → holds update p ≡ marked_by verdict (stale_in t.areas.items p) (marked_in m.window set (was slots).desk (owner (layered_desk (was slots).desk) p) p))
       → IsChanged (marking_change verdict m.window set (was slots)) (layered_state (was slots)) (layered_state after)
@@ -155,7 +155,7 @@ module _ {V : Type 0} {H : V → Type 0} (loan : TakenBox V H → WindowLoan) (s
 
   module _ (new : WindowManager V H) (u : Opened) where
     -- the area was marked, or there was no memory for it
-    pub is_marked : (verdict : Verdict) → ((slots : List SlotView) → IsUpdateRefusal (marking verdict m) (was slots) None) → at < length t.areas.items → (result : Result WindowReply Refusal) → IsMarkedBy loan verdict at m.area result t new
+    pub is_marked : (verdict : Verdict) → ((slots : List WindowSlot) → IsUpdateRefusal (marking verdict m) (was slots) None) → at < length t.areas.items → (result : Result WindowReply Refusal) → IsMarkedBy loan verdict at m.area result t new
         → IsUpdateStepOverAnySlots loan shows (marking verdict m) result t u new u
     is_marked verdict free low (Ok answer) (done, (update, (set, is_set, after), leaves)) slots whole =
         let left = leaves x here.1 slots whole in

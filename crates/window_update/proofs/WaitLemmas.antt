@@ -8,7 +8,7 @@ use Rattle.tb_geom.specs.Points.{plus, minus}
 use Rattle.tb_geom.specs.Pixels.{holds}
 use Rattle.def_iface.specs.Slots.{TakenBox}
 use Rattle.def_iface.specs.WindowMeaning.{WindowLoan}
-use Rattle.def_iface.specs.Stocked.{SlotView}
+use Rattle.def_iface.specs.WindowSlots.{WindowSlot}
 use Rattle.window_list.specs.declared.window.Window.{Window}
 use Rattle.vis_update.specs.declared.area.Area.{Area}
 use Rattle.vis_update.specs.Records.{record_of}
@@ -23,12 +23,12 @@ use Rattle.window_update.specs.Waiting.{IsEmpty, IsWaiting, IsFirstWaiting, upda
 
 module _ {V : Type 0} {H : V → Type 0} (loan : TakenBox V H → WindowLoan) (t : WindowManager V H) (u : Opened) where
   -- a window whose update is open is not to be updated
-  pub open_waits_not : (s : ℕ) (slots : List SlotView) → is_updating s (u.activity) ≡ true → IsWaiting s (desk_state loan t u slots) false
+  pub open_waits_not : (s : ℕ) (slots : List WindowSlot) → is_updating s (u.activity) ≡ true → IsWaiting s (desk_state loan t u slots) false
   open_waits_not s slots opened p = ap (λ b. if b then false else update_of s (state_of loan t slots) p) opened
 
   -- any other one is where the update region that is kept for it has a pixel
   module _ (kept : IsKept loan t) (at : ℕ) (low : at < length t.windows.records.items) (w : Window V H) (w_is : IsWindowAt t.windows.records.items at w)
-      (a : Area) (a_is : a ≡ slice_index_or t.areas.items at a) (slots : List SlotView) (closed : is_updating w.serial (u.activity) ≡ false) where
+      (a : Area) (a_is : a ≡ slice_index_or t.areas.items at a) (slots : List WindowSlot) (closed : is_updating w.serial (u.activity) ≡ false) where
     kept_told : (p : Point) → update_told w.serial (desk_state loan t u slots) p ≡ holds a.update (plus p w.place)
     kept_told p = ap (λ b. if b then false else update_of w.serial (state_of loan t slots) p) closed ∙ sym (telling.update_seen loan t kept w.serial at w low w_is refl a a_is p)
 
@@ -44,7 +44,7 @@ module _ {V : Type 0} {H : V → Type 0} (loan : TakenBox V H → WindowLoan) (t
     told_waiting false is = λ none. let wrong : false ≡ true = is.1 (empty_is_kept none) in cc
 
   -- the first to be updated of the windows from a place on
-  module _ (slots : List SlotView) where
+  module _ (slots : List WindowSlot) where
     abbrev from : ℕ → Option ℕ → Type 0
     from at first = IsFirstWaiting (desk_state loan t u slots) (map (record_of loan) (drop at t.windows.records.items)) first
 

@@ -1,7 +1,7 @@
 //! Which window is to be updated first.
 ghost use Rattle.std.specs.Prelude.{◌≡◌, ◌<◌, length, List};
 ghost use Rattle.tb_geom.specs.Points.{PixelSet};
-ghost use Rattle.def_iface.specs.Stocked.{SlotView};
+ghost use Rattle.def_iface.specs.WindowSlots.{WindowSlot};
 ghost use Rattle.window_mgr.specs.DeskStates.{desk_state, is_updating};
 ghost use Rattle.window_mgr.specs.Edits.{IsWindowAt};
 ghost use Rattle.window_mgr.specs.Kept.{IsKept};
@@ -15,7 +15,7 @@ use window_mgr::WindowManager;
 /// Manager", CheckUpdate). That of a window whose update is open is empty. Takes no memory.
 pub fn first_to_update(windows: &WindowManager, activity: Activity) -> Option<u64>
     requires { IsKept ⟦<TakenWindow as Defined>⟧.loan windows.now }
-    ensures { (begun : PixelSet) (slots : List SlotView) → IsFirstToUpdate
+    ensures { (begun : PixelSet) (slots : List WindowSlot) → IsFirstToUpdate
         (desk_state ⟦<TakenWindow as Defined>⟧.loan windows.now (record { activity = activity; begun = begun }) slots)
         result }
 {
@@ -32,7 +32,7 @@ pub fn first_to_update(windows: &WindowManager, activity: Activity) -> Option<u6
 fn is_waiting(windows: &WindowManager, activity: Activity, at: usize) -> bool
     requires kept { IsKept ⟦<TakenWindow as Defined>⟧.loan windows.now }
     requires at { at < length windows.now.windows.records.items }
-    ensures { (w : _) → IsWindowAt windows.now.windows.records.items at w → (begun : PixelSet) (slots : List SlotView)
+    ensures { (w : _) → IsWindowAt windows.now.windows.records.items at w → (begun : PixelSet) (slots : List WindowSlot)
         → IsWaiting w.serial
         (desk_state ⟦<TakenWindow as Defined>⟧.loan windows.now (record { activity = activity; begun = begun }) slots)
         result }

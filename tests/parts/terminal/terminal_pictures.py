@@ -211,7 +211,7 @@ def a_terminal_is_known_by_its_environment(_):
         ({"TERM": "xterm-256color", "KITTY_WINDOW_ID": "1"}, "kitty"),
         ({"TERM": "dumb", "KITTY_WINDOW_ID": "1"}, ""),
         ({"TERM": "tmux-256color", "KITTY_WINDOW_ID": "1"}, ""),
-        ({"TERM": "xterm-kitty", "TMUX": "/tmp/tmux-0/default,1,0"}, ""),
+        ({"TERM": "xterm-kitty", "TMUX": "default,1,0"}, ""),
         ({"TERM": "screen", "TERM_PROGRAM": "WezTerm"}, ""),
         ({"TERM": "foot"}, "sixel"),
         ({"TERM": "xterm-256color", "TERM_PROGRAM": "WezTerm"}, "sixel"),

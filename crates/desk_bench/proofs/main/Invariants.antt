@@ -2,7 +2,7 @@ use Rattle.std.specs.Prelude.{All}
 use Rattle.def_iface.specs.contracts.taken_control.ControlStockStocked.TheImpl as control_stock
 use Rattle.def_iface.specs.contracts.taken_window.WindowStockStocked.TheImpl as stock
 use Rattle.def_iface.specs.Slots as slots
-use Rattle.def_iface.specs.Stocked.{IsFull}
+use Rattle.def_iface.specs.WindowSlots.{IsFull}
 use Rattle.desk_bench.proofs.main.OwnLists as own
 use Rattle.desk_bench.proofs.main.Given as goal
 

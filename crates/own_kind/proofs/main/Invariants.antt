@@ -4,7 +4,7 @@ use Rattle.def_iface.specs.contracts.taken_list.ListStockStocked.TheImpl as list
 use Rattle.def_iface.specs.contracts.taken_menu.MenuStockStocked.TheImpl as menu_stock
 use Rattle.def_iface.specs.contracts.taken_window.WindowStockStocked.TheImpl as stock
 use Rattle.def_iface.specs.Slots as slots
-use Rattle.def_iface.specs.Stocked.{IsFull}
+use Rattle.def_iface.specs.WindowSlots.{IsFull}
 use Rattle.own_kind.proofs.main.OwnLists as own
 use Rattle.own_kind.proofs.main.Given as goal
 

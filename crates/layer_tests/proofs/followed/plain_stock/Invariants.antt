@@ -1,6 +1,6 @@
 use Rattle.std.specs.Prelude.{All}
 use Rattle.def_iface.specs.contracts.taken_window.WindowStockStocked.TheImpl as stock
-use Rattle.def_iface.specs.Stocked.{IsFull}
+use Rattle.def_iface.specs.WindowSlots.{IsFull}
 use Rattle.layer_tests.proofs.followed.plain_stock.Given as goal
 
 abbrev pub invariant-loop : goal.invariant-loop

@@ -7,27 +7,27 @@ use Rattle.def_iface.specs.Slots as slots
 pub use Rattle.def_iface.specs.Slots.{is_kind, has_kind, holding, is_left, IsPutBack}
 
 -- a slot: the name of the kind that it is for, and the definition in it, if there is one
-abbrev pub SlotView : Type 0
-SlotView = SlotOf WindowDefinition
+abbrev pub WindowSlot : Type 0
+WindowSlot = SlotOf WindowDefinition
 
 -- the slot is for the kind, and the definition in it is fresh
-abbrev pub offers : List ℕ → SlotView → Bool
+abbrev pub offers : List ℕ → WindowSlot → Bool
 offers = slots.offers (λ d. d.stage)
 
 -- the place of the first slot that offers the kind
-abbrev pub first_offer : List ℕ → List SlotView → Option ℕ
+abbrev pub first_offer : List ℕ → List WindowSlot → Option ℕ
 first_offer = slots.first_offer (λ d. d.stage)
 
 -- the definition that the stock would give for the kind: that of the first slot that offers it
-abbrev pub offered : List ℕ → List SlotView → Option WindowDefinition
+abbrev pub offered : List ℕ → List WindowSlot → Option WindowDefinition
 offered = slots.offered (λ d. d.stage)
 
 -- the fresh definition of the first slot that offers the kind was taken, and its slot is empty
-abbrev pub IsTaken : List ℕ → WindowLoan → List SlotView → List SlotView → Type 0
+abbrev pub IsTaken : List ℕ → WindowLoan → List WindowSlot → List WindowSlot → Type 0
 IsTaken = slots.IsTaken (λ d. d.stage)
 
 -- why no definition of the kind is taken
-abbrev pub IsNotTaken : List ℕ → List SlotView → Refusal → Type 0
+abbrev pub IsNotTaken : List ℕ → List WindowSlot → Refusal → Type 0
 IsNotTaken = slots.IsNotTaken (λ d. d.stage)
 
 -- a definition that no desk uses: fresh or closed
@@ -35,5 +35,5 @@ abbrev pub IsIdle : WindowDefinition → Type 0
 IsIdle = slots.IsIdle (λ d. d.stage)
 
 -- a slot with a definition that no desk uses
-abbrev pub IsFull : SlotView → Type 0
+abbrev pub IsFull : WindowSlot → Type 0
 IsFull = slots.IsFull (λ d. d.stage)
