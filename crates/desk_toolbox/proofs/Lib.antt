@@ -19,6 +19,7 @@ pub mod Outlined
 pub mod OutlineStands
 pub mod OutlinesMade
 pub mod MenuKinds
+pub mod Natures
 pub mod Narrowed
 pub mod Ended
 pub mod ControlKinds

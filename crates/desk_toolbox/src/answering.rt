@@ -3,18 +3,18 @@ ghost use Rattle.std.specs.Prelude.{◌≡◌, None, IfOk};
 ghost use Rattle.def_iface.specs.Stocks.{AllSlots};
 ghost use Rattle.desk_call.specs.declared.window.WindowCall.{WindowCall as Named};
 ghost use Rattle.desk_call.specs.Gates.{control_standing, gate, list_standing, standing_of, update_standing, window_standing};
+ghost use Rattle.desk_call.specs.Natures.{control_asks, nature_of, window_ends, window_nature};
 ghost use Rattle.control_mgr.specs.InUse.{AreStocked};
 ghost use Rattle.control_mgr.specs.WholeControls.{AreLiveControls, controls_state, records_of, slots_of};
 ghost use Rattle.list_mgr.specs.WholeLists.{AreLiveLists, lists_state};
 ghost use Rattle.list_mgr.specs.WholeLists as whole_lists;
 ghost use Rattle.window_frame.specs.Economy.{IsEconomical, windows_of};
 ghost use Rattle.window_frame.specs.Followers.{AreInformed};
-ghost use Rattle.window_frame.specs.Outcomes.{outcome_of};
 ghost use Rattle.desk_toolbox.specs.Economy.{IsCallEconomical};
 ghost use Rattle.desk_toolbox.specs.EventSteps.{events_left};
 ghost use Rattle.desk_toolbox.specs.Run.{AreControlsLeft, AreListsLeft, IsAdmitted, IsControlTold, IsEventAnswer};
-ghost use Rattle.desk_toolbox.specs.Run.{IsFormFault, IsListAnswer, IsUpdateTold, IsWindowTold, is_covered};
-ghost use Rattle.desk_toolbox.specs.Run.{is_hidden_by_menu, is_under_menu};
+ghost use Rattle.desk_toolbox.specs.Run.{IsFormFault, IsListAnswer, IsUpdateTold, IsWindowTold, is_behind_menu};
+ghost use Rattle.desk_toolbox.specs.Run.{is_covered, is_hidden_by_menu, is_under_menu};
 ghost use Rattle.desk_toolbox.specs.ToolboxStates.{ToolboxState};
 
 use crate::events::Events;
@@ -27,17 +27,24 @@ use def_iface::{
     ControlStock, Defined, ListStock, Stock, Stocked, StockedAll, TakenControl, TakenList,
     TakenWindow,
 };
+use desk_call::{Asked, Nature};
 use list_mgr::{Contents, Lists};
 use tb_geom::Refusal;
-use window_frame::{Outcome, follow, outcome_of};
+use window_frame::follow;
 use window_list::picture_place;
 use window_mgr::form_refusal;
 use window_update::{first_to_update, update_form_refusal};
 
 impl Toolbox {
-    /// Performs one call that may come.
-    pub(crate) fn perform(&mut self, call: &Call<'_>, stock: &mut Stock) -> Result<Reply, Refusal>
+    /// Performs one call of this nature that may come.
+    pub(crate) fn perform(
+        &mut self,
+        call: &Call<'_>,
+        nature: Nature,
+        stock: &mut Stock,
+    ) -> Result<Reply, Refusal>
         requires whole { ⟦<Self as Desk>⟧.IsWhole self.old stock.old }
+        requires nature { nature ≡ nature_of call.now }
         requires admitted { gate self.old.activity (standing_of call.now) ≡ None }
         ensures whole { ⟦<Self as Desk>⟧.HasWholeManagers self.new stock.new }
         ensures step { IsAdmitted call.now result
@@ -47,11 +54,11 @@ impl Toolbox {
             → IsCallEconomical ⟦<TakenWindow as Defined>⟧.loan call.now self.old.windows self.new.windows }
     {
         match call {
-            Call::Window(call) => match self.tell_window(call, stock) {
+            Call::Window(call) => match self.window_call(call, nature, stock) {
                 Ok(reply) => Ok(Reply::Window(reply)),
                 Err(refusal) => Err(refusal),
             },
-            Call::Update(call) => match self.tell_update(call) {
+            Call::Update(call) => match self.update_call(call) {
                 Ok(reply) => Ok(Reply::Window(reply)),
                 Err(refusal) => Err(refusal),
             },
@@ -61,11 +68,11 @@ impl Toolbox {
                     Err(refusal) => Err(refusal),
                 }
             }
-            Call::Control(call) => match self.tell_control(call, stock) {
+            Call::Control(call) => match self.control_call(call, nature.asks, stock) {
                 Ok(reply) => Ok(Reply::Control(reply)),
                 Err(refusal) => Err(refusal),
             },
-            Call::List(call) => match self.tell_list(call, stock) {
+            Call::List(call) => match self.list_call(call, stock) {
                 Ok(reply) => Ok(Reply::List(reply)),
                 Err(refusal) => Err(refusal),
             },
@@ -80,7 +87,7 @@ impl Toolbox {
                     Err(refusal) => Err(refusal),
                 }
             }
-            Call::Outline(call) => match self.tell_outline(call, stock) {
+            Call::Outline(call) => match self.outline_call(call, stock) {
                 Ok(reply) => Ok(Reply::Outline(reply)),
                 Err(refusal) => Err(refusal),
             },
@@ -91,15 +98,17 @@ impl Toolbox {
         }
     }
 
-    /// Answers a call on windows: whose a point of the pulled menu is, the menus tell; a region of the window whose update is open,
-    /// that update; and all else the windows perform. Once it was done, definitions are notified how their windows stand, and a
-    /// window that is gone is forgotten.
-    pub(crate) fn tell_window(
+    /// Answers a call on windows of this nature: whose a point of the pulled menu is, the menus tell; a region of the window whose
+    /// update is open, that update; and all else the windows perform. Once it was done, definitions are notified how their windows
+    /// stand, and a window that is gone is forgotten.
+    pub(crate) fn window_call(
         &mut self,
         call: &WindowCall<'_>,
+        nature: Nature,
         stock: &mut Stock,
     ) -> Result<WindowReply, Refusal>
         requires whole { ⟦<Self as Desk>⟧.IsWhole self.old stock.old }
+        requires nature { nature ≡ window_nature call.now }
         requires admitted { gate self.old.activity (window_standing call.now) ≡ None }
         ensures whole { ⟦<Self as Desk>⟧.HasWholeManagers self.new stock.new }
         ensures step { let before = ⟦<Self as Desk>⟧.state self.old stock.old in
@@ -110,21 +119,20 @@ impl Toolbox {
         ensures aside { (self.new.menus ≡ self.old.menus)
             × ((self.new.updates ≡ self.old.updates) × (self.new.activity ≡ self.old.activity)) }
     {
-        if self.is_covered(call) {
+        if self.is_behind_menu(nature.asks) {
             return Ok(WindowReply::Found(Found {
                 part: WindowPart::InMenuBar,
                 window: None,
             }));
         }
-        if let Some(answer) = self.updates.tell(self.activity, call) {
+        if let Some(answer) = self.updates.answers(self.activity, nature.asks) {
             return answer;
         }
         match self.windows.perform(call, &mut stock.windows) {
             Ok(reply) => {
-                let outcome = outcome_of(call);
-                follow(&mut self.windows, outcome);
+                follow(&mut self.windows, nature.standing);
                 forget(
-                    outcome,
+                    nature.ends,
                     &mut self.events,
                     &mut self.controls,
                     &mut self.lists,
@@ -137,19 +145,20 @@ impl Toolbox {
         }
     }
 
-    /// Whether a call asks whose a point of the pulled menu is.
-    fn is_covered(&self, call: &WindowCall<'_>) -> bool
+    /// Whether what is asked for is a point of the pulled menu.
+    fn is_behind_menu(&self, asks: Asked) -> bool
         requires { ⟦<Self as Desk>⟧.IsKept self.now }
-        ensures { (stocks : AllSlots) → result ≡ is_covered call.now (⟦<Self as Desk>⟧.state_over self.now stocks) }
+        ensures { (stocks : AllSlots) → result ≡ is_behind_menu asks (⟦<Self as Desk>⟧.state_over self.now stocks) }
     {
-        match call {
-            WindowCall::Find(point) => self.menus.has_point(&self.windows, self.activity, *point),
+        match asks {
+            Asked::WindowAt(point) => self.menus.has_point(&self.windows, self.activity, point),
+            Asked::ControlAt(asked) => self.is_under_menu(asked),
             _ => false,
         }
     }
 
     /// Answers a call about what is to be redrawn.
-    fn tell_update(&mut self, call: &UpdateCall<'_>) -> Result<WindowReply, Refusal>
+    fn update_call(&mut self, call: &UpdateCall<'_>) -> Result<WindowReply, Refusal>
         requires kept { ⟦<Self as Desk>⟧.IsKept self.old }
         requires admitted { gate self.old.activity (update_standing call.now) ≡ None }
         ensures whole { (stocks : AllSlots)
@@ -169,20 +178,23 @@ impl Toolbox {
             .perform(&mut self.windows, &mut self.activity, call, &contents)
     }
 
-    /// Answers a call about controls: whose a point of the pulled menu is, the menus tell, and all else is performed.
-    fn tell_control(
+    /// Answers a call about controls that asks for this: whose a point of the pulled menu is, the menus tell, and all else is
+    /// performed.
+    fn control_call(
         &mut self,
         call: &ControlCall<'_>,
+        asks: Asked,
         stock: &mut Stock,
     ) -> Result<ControlReply, Refusal>
         requires whole { ⟦<Self as Desk>⟧.IsWhole self.old stock.old }
+        requires asks { asks ≡ control_asks call.now }
         requires admitted { gate self.old.activity (control_standing call.now) ≡ None }
         ensures whole { ⟦<Self as Desk>⟧.HasWholeManagers self.new stock.new }
         ensures step { let before = ⟦<Self as Desk>⟧.state self.old stock.old in
             IsControlTold (is_hidden_by_menu call.now before) call.now result before
             (⟦<Self as Desk>⟧.state self.new stock.new) }
     {
-        if self.is_hidden_by_menu(call) {
+        if self.is_behind_menu(asks) {
             return Ok(ControlReply::Found(None));
         }
         self.controls.perform(
@@ -191,18 +203,6 @@ impl Toolbox {
             call,
             &mut stock.controls,
         )
-    }
-
-    /// Whether a call asks for a control at a point of the pulled menu.
-    fn is_hidden_by_menu(&self, call: &ControlCall<'_>) -> bool
-        requires { ⟦<Self as Desk>⟧.IsKept self.now }
-        ensures { (stocks : AllSlots) → result
-            ≡ is_hidden_by_menu call.now (⟦<Self as Desk>⟧.state_over self.now stocks) }
-    {
-        match call {
-            ControlCall::Find(asked) => self.is_under_menu(*asked),
-            _ => false,
-        }
     }
 
     /// Whether a point of a window lies where the menu does that is pulled down.
@@ -224,7 +224,7 @@ impl Toolbox {
     }
 
     /// Answers a call about lists.
-    fn tell_list(&mut self, call: &ListCall<'_>, stock: &mut Stock) -> Result<ListReply, Refusal>
+    fn list_call(&mut self, call: &ListCall<'_>, stock: &mut Stock) -> Result<ListReply, Refusal>
         requires whole { ⟦<Self as Desk>⟧.IsWhole self.old stock.old }
         requires admitted { gate self.old.activity (list_standing call.now) ≡ None }
         ensures whole { ⟦<Self as Desk>⟧.HasWholeManagers self.new stock.new }
@@ -257,10 +257,9 @@ impl Toolbox {
     }
 }
 
-/// Forgets a window that is gone, once this came of a call: no event tells of it any more, and its controls and its lists go with
-/// it.
+/// Forgets the window that is gone once a call was done: no event tells of it any more, and its controls and its lists go with it.
 fn forget(
-    outcome: Outcome,
+    ends: Option<u64>,
     events: &mut Events,
     controls: &mut Controls<TakenControl>,
     lists: &mut Lists<TakenList>,
@@ -275,19 +274,19 @@ fn forget(
     requires stocked_lists { AreStocked (λ d. d.stage)
         (whole_lists.slots_of (whole_lists.records_of ⟦<TakenList as Defined>⟧.loan lists.old))
         (⟦<ListStock as Stocked>⟧.slots list_stock.old) }
-    ensures events { (call : Named) → outcome_of call ≡ outcome → events.new ≡ events_left call events.old }
-    ensures controls { (call : Named) → outcome_of call ≡ outcome → AreControlsLeft call
+    ensures events { (call : Named) → window_ends call ≡ ends → events.new ≡ events_left call events.old }
+    ensures controls { (call : Named) → window_ends call ≡ ends → AreControlsLeft call
         (controls_state ⟦<TakenControl as Defined>⟧.loan controls.old
         (⟦<ControlStock as Stocked>⟧.slots control_stock.old))
         (controls_state ⟦<TakenControl as Defined>⟧.loan controls.new
         (⟦<ControlStock as Stocked>⟧.slots control_stock.new)) }
-    ensures lists { (call : Named) → outcome_of call ≡ outcome → AreListsLeft call
+    ensures lists { (call : Named) → window_ends call ≡ ends → AreListsLeft call
         (lists_state ⟦<TakenList as Defined>⟧.loan lists.old
         (⟦<ListStock as Stocked>⟧.slots list_stock.old))
         (lists_state ⟦<TakenList as Defined>⟧.loan lists.new
         (⟦<ListStock as Stocked>⟧.slots list_stock.new)) }
 {
-    if let Outcome::Ended(window) = outcome {
+    if let Some(window) = ends {
         events.forget(window);
         controls.end_of(window, control_stock);
         lists.end_of(window, list_stock);

@@ -13,7 +13,7 @@ use window_outline::{let_go, outlined_by};
 
 impl Toolbox {
     /// Answers a call about an outline. Where it ends a drag in the gray region, the window is moved.
-    pub(crate) fn tell_outline(
+    pub(crate) fn outline_call(
         &mut self,
         call: &OutlineCall,
         stock: &mut Stock,
@@ -66,7 +66,8 @@ impl Toolbox {
     {
         let open = self.activity;
         self.activity = Activity::Idle;
-        let refusal = match self.tell_window(&WindowCall::Move(drop), stock) {
+        let call = WindowCall::Move(drop);
+        let refusal = match self.window_call(&call, call.nature(), stock) {
             Ok(_) => return Ok(OutlineReply::Shown(true)),
             Err(refusal) => refusal,
         };

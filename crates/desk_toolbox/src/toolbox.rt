@@ -245,8 +245,9 @@ impl Toolbox {
         ensures economy { IsConsistent (⟦<Self as Desk>⟧.state self.old stock.old)
             → IsCallEconomical ⟦<TakenWindow as Defined>⟧.loan call.now self.old.windows self.new.windows }
     {
-        match self.activity.admit(call.standing()) {
-            Ok(()) => self.perform(call, stock),
+        let nature = call.nature();
+        match self.activity.admit(nature.standing) {
+            Ok(()) => self.perform(call, nature, stock),
             Err(refusal) => match form_refusal_of(call, stock) {
                 Some(form) => Err(form),
                 None => Err(refusal),

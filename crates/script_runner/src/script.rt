@@ -1,18 +1,17 @@
 //! A script at work: its desk, the version of its commands, and whether a line was answered.
 ghost use Rattle.std.specs.Prelude.{◌≡◌, ℕ, pos, List, Some, None, OnOk, false};
 ghost use Rattle.def_iface.specs.Stocks.{AllSlots, AreAllFull};
-ghost use Rattle.desk_call.specs.declared.call.Call.TheVariants as asks;
 ghost use Rattle.watched_io.specs.Writes.{Sends};
 ghost use Rattle.script_runner.specs.Checks.{IsCheckLine};
 ghost use Rattle.script_runner.specs.Endings.{LineEnds, TakeEnds};
-ghost use Rattle.script_runner.specs.Script.{why_unread};
+ghost use Rattle.script_runner.specs.Script.{why_no_call, why_unread};
 ghost use Rattle.script_runner.specs.Session.{LeavesStock};
 
 use crate::on_stock::{OnStock, ScriptOnStock};
 use crate::session::Session;
 use crate::shown::{show_done, show_reply};
 use def_iface::{Stock, StockedAll};
-use desk_toolbox::{Call, Desk, Toolbox, WindowCall};
+use desk_toolbox::{Desk, Toolbox};
 use script_text::Command;
 use std::alloc::Global;
 use strike_font::Font;
@@ -134,7 +133,7 @@ fn why_unread(is_begun: bool, version: i32, command: &Command<'_>) -> Option<Ref
 {
     match command {
         Command::Version(number) => why_no_version(is_begun, *number),
-        Command::Call(Call::Window(call)) => why_no_call(version, call),
+        Command::Call(call) => why_no_call(version, call.nature().is_version_2),
         _ => None,
     }
 }
@@ -153,12 +152,13 @@ fn why_no_version(is_begun: bool, number: i32) -> Option<Refusal>
     }
 }
 
-/// Why a call on windows is refused in a script of this version: floating windows are of version 2.
-fn why_no_call(version: i32, call: &WindowCall<'_>) -> Option<Refusal>
-    ensures { result ≡ why_unread false version (Command.Call (asks.Window call.now)) }
+/// Why a call that may be of version 2 is refused in a script of this version.
+fn why_no_call(version: i32, is_version_2: bool) -> Option<Refusal>
+    ensures { result ≡ why_no_call version is_version_2 }
 {
-    match call {
-        WindowCall::NewFloating(_) if version != 2 => Some(Refusal::BadSyntax),
-        _ => None,
+    if is_version_2 && version != 2 {
+        Some(Refusal::BadSyntax)
+    } else {
+        None
     }
 }

@@ -36,7 +36,7 @@ pub fn update(
     ensures windows { (slots : List WindowSlot) → IsWholeManager ⟦<TakenWindow as Defined>⟧.loan windows.old slots
         → IsWholeManager ⟦<TakenWindow as Defined>⟧.loan windows.new slots }
 {
-    activity.admit(call.standing())?;
+    activity.admit(call.nature().standing)?;
     let _done = updates.perform(windows, activity, call, &Stripes)?;
     Ok(())
 }

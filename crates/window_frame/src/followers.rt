@@ -4,28 +4,26 @@ ghost use Rattle.window_mgr.specs.Edits.{IsWindowAt};
 ghost use Rattle.window_mgr.specs.Kept.{IsKept};
 ghost use Rattle.window_mgr.specs.Updating.{LeavesState};
 ghost use Rattle.window_frame.specs.Followers.{IsCaughtUp, IsCaughtUpBy, IsInformed, draws_told, is_behind};
-ghost use Rattle.window_frame.specs.Outcomes.{standing_after};
 ghost use Rattle.window_mgr.specs.Sparing.{Repaints};
 ghost use Rattle.vis_update.specs.Records.{record_of};
 ghost use Rattle.window_frame.specs.Followers.Flag.{Highlighting, Zooming};
 
-use crate::outcome::Outcome;
 use def_iface::{Defined, TakenWindow, WindowChange};
+use desk_call::Standing;
 use window_mgr::WindowManager;
 
-/// Notifies definitions of how their windows stand, once this came of a call on windows: each that heard otherwise, and no other,
+/// Notifies definitions of how their windows stand, once a call of this standing was done: each that heard otherwise, and no other,
 /// is told whether its window is highlighted, and whether it is zoomed, and has the frame drawn where that shows. After a call
 /// that asks none is told anything. Takes no memory.
-pub fn follow(windows: &mut WindowManager, outcome: Outcome)
+pub fn follow(windows: &mut WindowManager, standing: Standing)
     requires { IsKept ⟦<TakenWindow as Defined>⟧.loan windows.old }
-    ensures told { LeavesState ⟦<TakenWindow as Defined>⟧.loan (IsCaughtUpBy (standing_after outcome)) windows.old
-        windows.new }
+    ensures told { LeavesState ⟦<TakenWindow as Defined>⟧.loan (IsCaughtUpBy standing) windows.old windows.new }
     ensures repainted { Repaints ⟦<TakenWindow as Defined>⟧.loan
         (is_behind (map (record_of ⟦<TakenWindow as Defined>⟧.loan) windows.old.windows.records.items)) windows.old
         windows.new }
 {
-    match outcome {
-        Outcome::Asked => {}
+    match standing {
+        Standing::Asks => {}
         _ => inform_all(windows),
     }
 }

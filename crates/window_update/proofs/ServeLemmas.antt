@@ -19,8 +19,8 @@ use Rattle.desk_call.specs.declared.update.UpdateCall.{UpdateCall}
 use Rattle.desk_call.specs.declared.update.UpdateCall.TheVariants as asks
 use Rattle.desk_call.specs.declared.window.WindowReply.{WindowReply}
 use Rattle.desk_call.specs.declared.window.WindowReply.TheVariants.{Done}
-use Rattle.desk_call.specs.declared.window.WindowCall.{WindowCall}
-use Rattle.desk_call.specs.declared.window.WindowCall.TheVariants.{VisibleRegion, UpdateRegion}
+use Rattle.desk_call.specs.declared.nature.Asked.{Asked}
+use Rattle.desk_call.specs.declared.nature.Asked.TheVariants.{VisibleRegion, UpdateRegion}
 use Rattle.window_list.specs.declared.window.Window.{Window}
 use Rattle.desk_layers.specs.declared.part.Part.{Part}
 use Rattle.desk_layers.specs.Owner.{Owner, owner}
@@ -41,7 +41,7 @@ use Rattle.window_mgr.proofs.Showing.{update_showing}
 use Rattle.window_mgr.proofs.UpdateSteps.{stays_refreshed}
 use Rattle.window_mgr.proofs.EditSeats.{there_is}
 use Rattle.window_mgr.proofs.TellLemmas as telling
-use Rattle.window_mgr.specs.DeskStates.{Opened, narrowed, desk_with}
+use Rattle.window_mgr.specs.DeskStates.{Opened, narrowed_to, desk_with}
 use Rattle.window_update.specs.declared.choices.Choices.{Choices}
 use Rattle.window_update.specs.declared.choices.Kinds.{Kinds}
 use Rattle.window_update.specs.declared.updates.Updates.{Updates}
@@ -57,14 +57,14 @@ pub not_told : (region : Pixels) (e : Refusal) → IsUnwritten region e → (set
 not_told region e (inl (is, long)) set same = inl (is, (region, same, long))
 not_told region e (inr (is, written)) set same = inr (is, (region, same, written))
 
--- what a call is told of the window whose update is open
-pub narrowed_visible : (call : WindowCall) (activity : Activity) (begun : PixelSet) (o w : ℕ) → activity ≡ Updating o → w ≡ o → call ≡ VisibleRegion w → narrowed call activity begun ≡ Some begun
-narrowed_visible call activity begun o w is same asks =
-    (λ i. narrowed (asks i) (is i) begun) ∙ ap (λ b. if b then Some begun else None) (ap (λ n. o == n) same ∙ same_number o)
+-- what is told of the window whose update is open
+pub narrowed_visible : (asks : Asked) (activity : Activity) (begun : PixelSet) (o w : ℕ) → activity ≡ Updating o → w ≡ o → asks ≡ VisibleRegion w → narrowed_to asks activity begun ≡ Some begun
+narrowed_visible asks activity begun o w is same asked =
+    (λ i. narrowed_to (asked i) (is i) begun) ∙ ap (λ b. if b then Some begun else None) (ap (λ n. o == n) same ∙ same_number o)
 
-pub narrowed_update : (call : WindowCall) (activity : Activity) (begun : PixelSet) (o w : ℕ) → activity ≡ Updating o → w ≡ o → call ≡ UpdateRegion w → narrowed call activity begun ≡ Some (λ p. false)
-narrowed_update call activity begun o w is same asks =
-    (λ i. narrowed (asks i) (is i) begun) ∙ ap (λ b. if b then Some (λ p. false) else None) (ap (λ n. o == n) same ∙ same_number o)
+pub narrowed_update : (asks : Asked) (activity : Activity) (begun : PixelSet) (o w : ℕ) → activity ≡ Updating o → w ≡ o → asks ≡ UpdateRegion w → narrowed_to asks activity begun ≡ Some (λ p. false)
+narrowed_update asks activity begun o w is same asked =
+    (λ i. narrowed_to (asked i) (is i) begun) ∙ ap (λ b. if b then Some (λ p. false) else None) (ap (λ n. o == n) same ∙ same_number o)
 
 -- the step of a call is that of the call that it is
 pub of_call : {V : Type 0} {H : V → Type 0} (loan : TakenBox V H → WindowLoan) (shows : List ℕ → Part → PixelSet) (t new : WindowManager V H) (u after : Opened) (call other : UpdateCall) (result : Result WindowReply Refusal) → call ≡ other

@@ -10,7 +10,7 @@ ghost use Rattle.desk_call.specs.declared.activity.Activity.{Activity};
 ghost use Rattle.desk_call.specs.Gates.{gate, update_standing};
 ghost use Rattle.window_mgr.specs.Records.{state_of, state_showing};
 ghost use Rattle.window_mgr.specs.Refused.{is_missing};
-ghost use Rattle.window_mgr.specs.DeskStates.{narrowed};
+ghost use Rattle.window_mgr.specs.DeskStates.{narrowed_to};
 ghost use Rattle.window_update.specs.WholeUpdates.{IsWholeUpdates, opened};
 ghost use Rattle.window_update.specs.Rightness.{IsJudgement};
 ghost use Rattle.window_update.specs.UpdateSteps.{IsUpdateStepOverAnySlots, IsToldOf};
@@ -21,7 +21,7 @@ use crate::choices::Choices;
 use crate::serving::serve;
 use bit_map::BitMap;
 use def_iface::{Defined, TakenWindow};
-use desk_call::{Activity, WindowCall, WindowReply};
+use desk_call::{Activity, Asked, WindowReply};
 use scan_region::Region;
 use std::alloc::{AllocError, Global};
 use tb_geom::{Rect, Refusal};
@@ -85,24 +85,18 @@ impl Updates {
         }
     }
 
-    /// The answer to a call that asks, while this is open, for a region of the window whose update it is: its visible region
+    /// The answer, while this is open, where what is asked for is a region of the window whose update it is: its visible region
     /// is what was to be redrawn when the update began, and its update region is empty.
-    pub fn tell(
-        &self,
-        activity: Activity,
-        call: &WindowCall<'_>,
-    ) -> Option<Result<WindowReply, Refusal>>
-        ensures { let asked = narrowed call.now activity (opened activity self.now).begun in
+    pub fn answers(&self, activity: Activity, asks: Asked) -> Option<Result<WindowReply, Refusal>>
+        ensures { let asked = narrowed_to asks activity (opened activity self.now).begun in
             MatchOption result (asked ≡ None) (λ answer. (set : PixelSet) × (asked ≡ Some set) × IsToldOf set answer) }
     {
         let Activity::Updating(open) = activity else {
             return None;
         };
-        match call {
-            WindowCall::VisibleRegion(window) if *window == open => {
-                Some(told(self.alloc, &self.begun))
-            }
-            WindowCall::UpdateRegion(window) if *window == open => {
+        match asks {
+            Asked::VisibleRegion(window) if window == open => Some(told(self.alloc, &self.begun)),
+            Asked::UpdateRegion(window) if window == open => {
                 Some(told(self.alloc, &Region::empty(self.alloc)))
             }
             _ => None,

@@ -9,7 +9,7 @@ use Rattle.desk_toolbox.proofs.toolbox.Toolbox.drop_window.Goals as goal
 pub returns-clause-whole : goal.returns-clause-whole
 returns-clause-whole g c =
     let old = c.args.self.now in
-    let new = c.tell_window.new.self in
+    let new = c.window_call.new.self in
     let whole = c.in-Err.ensures.whole in
     let refused = c.in-Err.ensures.step in
     let loan = (taken.loan-value g.dyn-1).it in

@@ -19,17 +19,17 @@ use Rattle.desk_toolbox.proofs.MenusBeside.{frame_whole}
 use Rattle.desk_toolbox.proofs.UpdatesBeside.{updates_after_frame, updates_after_menu}
 use Rattle.desk_toolbox.proofs.toolbox.Toolbox.perform.Goals as goal
 
-pub returns-in-Ok-tell_update-clause-whole : goal.returns-in-Ok-tell_update-clause-whole
-returns-in-Ok-tell_update-clause-whole g c = c.in-Ok-tell_update.ensures.whole _ c.requires.whole
+pub returns-in-Ok-update_call-clause-whole : goal.returns-in-Ok-update_call-clause-whole
+returns-in-Ok-update_call-clause-whole g c = c.in-Ok-update_call.ensures.whole _ c.requires.whole
 
-pub returns-in-Ok-tell_update-clause-step : goal.returns-in-Ok-tell_update-clause-step
-returns-in-Ok-tell_update-clause-step g c = rw c.in-Update.is (Ok c.in-Ok-tell_update.reply, refl, c.in-Ok-tell_update.ensures.step _ c.requires.whole)
+pub returns-in-Ok-update_call-clause-step : goal.returns-in-Ok-update_call-clause-step
+returns-in-Ok-update_call-clause-step g c = rw c.in-Update.is (Ok c.in-Ok-update_call.reply, refl, c.in-Ok-update_call.ensures.step _ c.requires.whole)
 
-pub returns-in-Err-tell_update-clause-whole : goal.returns-in-Err-tell_update-clause-whole
-returns-in-Err-tell_update-clause-whole g c = c.in-Err-tell_update.ensures.whole _ c.requires.whole
+pub returns-in-Err-update_call-clause-whole : goal.returns-in-Err-update_call-clause-whole
+returns-in-Err-update_call-clause-whole g c = c.in-Err-update_call.ensures.whole _ c.requires.whole
 
-pub returns-in-Err-tell_update-clause-step : goal.returns-in-Err-tell_update-clause-step
-returns-in-Err-tell_update-clause-step g c = rw c.in-Update.is (Err c.in-Err-tell_update.refusal, refl, c.in-Err-tell_update.ensures.step _ c.requires.whole)
+pub returns-in-Err-update_call-clause-step : goal.returns-in-Err-update_call-clause-step
+returns-in-Err-update_call-clause-step g c = rw c.in-Update.is (Err c.in-Err-update_call.refusal, refl, c.in-Err-update_call.ensures.step _ c.requires.whole)
 
 pub returns-in-Ok-perform-clause-whole : goal.returns-in-Ok-perform-clause-whole
 returns-in-Ok-perform-clause-whole g c =
@@ -163,29 +163,29 @@ returns-in-Err-answer_event-clause-whole g c = c.in-Err-answer_event.ensures.who
 pub returns-in-Err-answer_event-clause-step : goal.returns-in-Err-answer_event-clause-step
 returns-in-Err-answer_event-clause-step g c = rw c.in-Event.is (Err c.in-Err-answer_event.refusal, refl, c.in-Err-answer_event.ensures.step _)
 
-pub returns-in-Ok-tell_control-clause-whole : goal.returns-in-Ok-tell_control-clause-whole
-returns-in-Ok-tell_control-clause-whole g c = c.in-Ok-tell_control.ensures.whole
+pub returns-in-Ok-control_call-clause-whole : goal.returns-in-Ok-control_call-clause-whole
+returns-in-Ok-control_call-clause-whole g c = c.in-Ok-control_call.ensures.whole
 
-pub returns-in-Ok-tell_control-clause-step : goal.returns-in-Ok-tell_control-clause-step
-returns-in-Ok-tell_control-clause-step g c = rw c.in-Control.is (Ok c.in-Ok-tell_control.reply, refl, c.in-Ok-tell_control.ensures.step)
+pub returns-in-Ok-control_call-clause-step : goal.returns-in-Ok-control_call-clause-step
+returns-in-Ok-control_call-clause-step g c = rw c.in-Control.is (Ok c.in-Ok-control_call.reply, refl, c.in-Ok-control_call.ensures.step)
 
-pub returns-in-Err-tell_control-clause-whole : goal.returns-in-Err-tell_control-clause-whole
-returns-in-Err-tell_control-clause-whole g c = c.in-Err-tell_control.ensures.whole
+pub returns-in-Err-control_call-clause-whole : goal.returns-in-Err-control_call-clause-whole
+returns-in-Err-control_call-clause-whole g c = c.in-Err-control_call.ensures.whole
 
-pub returns-in-Err-tell_control-clause-step : goal.returns-in-Err-tell_control-clause-step
-returns-in-Err-tell_control-clause-step g c = rw c.in-Control.is (Err c.in-Err-tell_control.refusal, refl, c.in-Err-tell_control.ensures.step)
+pub returns-in-Err-control_call-clause-step : goal.returns-in-Err-control_call-clause-step
+returns-in-Err-control_call-clause-step g c = rw c.in-Control.is (Err c.in-Err-control_call.refusal, refl, c.in-Err-control_call.ensures.step)
 
-pub returns-in-Ok-tell_list-clause-whole : goal.returns-in-Ok-tell_list-clause-whole
-returns-in-Ok-tell_list-clause-whole g c = c.in-Ok-tell_list.ensures.whole
+pub returns-in-Ok-list_call-clause-whole : goal.returns-in-Ok-list_call-clause-whole
+returns-in-Ok-list_call-clause-whole g c = c.in-Ok-list_call.ensures.whole
 
-pub returns-in-Ok-tell_list-clause-step : goal.returns-in-Ok-tell_list-clause-step
-returns-in-Ok-tell_list-clause-step g c = rw c.in-List.is (Ok c.in-Ok-tell_list.reply, refl, c.in-Ok-tell_list.ensures.step)
+pub returns-in-Ok-list_call-clause-step : goal.returns-in-Ok-list_call-clause-step
+returns-in-Ok-list_call-clause-step g c = rw c.in-List.is (Ok c.in-Ok-list_call.reply, refl, c.in-Ok-list_call.ensures.step)
 
-pub returns-in-Err-tell_list-clause-whole : goal.returns-in-Err-tell_list-clause-whole
-returns-in-Err-tell_list-clause-whole g c = c.in-Err-tell_list.ensures.whole
+pub returns-in-Err-list_call-clause-whole : goal.returns-in-Err-list_call-clause-whole
+returns-in-Err-list_call-clause-whole g c = c.in-Err-list_call.ensures.whole
 
-pub returns-in-Err-tell_list-clause-step : goal.returns-in-Err-tell_list-clause-step
-returns-in-Err-tell_list-clause-step g c = rw c.in-List.is (Err c.in-Err-tell_list.refusal, refl, c.in-Err-tell_list.ensures.step)
+pub returns-in-Err-list_call-clause-step : goal.returns-in-Err-list_call-clause-step
+returns-in-Err-list_call-clause-step g c = rw c.in-List.is (Err c.in-Err-list_call.refusal, refl, c.in-Err-list_call.ensures.step)
 
 pub returns-in-Ok-clause-economy : goal.returns-in-Ok-clause-economy
 returns-in-Ok-clause-economy g c = rw c.in-Window.is c.in-Ok.ensures.economy
@@ -193,14 +193,14 @@ returns-in-Ok-clause-economy g c = rw c.in-Window.is c.in-Ok.ensures.economy
 pub returns-in-Err-clause-economy : goal.returns-in-Err-clause-economy
 returns-in-Err-clause-economy g c = rw c.in-Window.is c.in-Err.ensures.economy
 
-pub returns-in-Ok-tell_outline-clause-whole : goal.returns-in-Ok-tell_outline-clause-whole
-returns-in-Ok-tell_outline-clause-whole g c = c.in-Ok-tell_outline.ensures.whole
+pub returns-in-Ok-outline_call-clause-whole : goal.returns-in-Ok-outline_call-clause-whole
+returns-in-Ok-outline_call-clause-whole g c = c.in-Ok-outline_call.ensures.whole
 
-pub returns-in-Ok-tell_outline-clause-step : goal.returns-in-Ok-tell_outline-clause-step
-returns-in-Ok-tell_outline-clause-step g c = rw c.in-Outline.is (Ok c.in-Ok-tell_outline.reply, refl, c.in-Ok-tell_outline.ensures.step)
+pub returns-in-Ok-outline_call-clause-step : goal.returns-in-Ok-outline_call-clause-step
+returns-in-Ok-outline_call-clause-step g c = rw c.in-Outline.is (Ok c.in-Ok-outline_call.reply, refl, c.in-Ok-outline_call.ensures.step)
 
-pub returns-in-Err-tell_outline-clause-whole : goal.returns-in-Err-tell_outline-clause-whole
-returns-in-Err-tell_outline-clause-whole g c = c.in-Err-tell_outline.ensures.whole
+pub returns-in-Err-outline_call-clause-whole : goal.returns-in-Err-outline_call-clause-whole
+returns-in-Err-outline_call-clause-whole g c = c.in-Err-outline_call.ensures.whole
 
-pub returns-in-Err-tell_outline-clause-step : goal.returns-in-Err-tell_outline-clause-step
-returns-in-Err-tell_outline-clause-step g c = rw c.in-Outline.is (Err c.in-Err-tell_outline.refusal, refl, c.in-Err-tell_outline.ensures.step)
+pub returns-in-Err-outline_call-clause-step : goal.returns-in-Err-outline_call-clause-step
+returns-in-Err-outline_call-clause-step g c = rw c.in-Outline.is (Err c.in-Err-outline_call.refusal, refl, c.in-Err-outline_call.ensures.step)

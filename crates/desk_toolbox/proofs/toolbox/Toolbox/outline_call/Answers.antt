@@ -9,7 +9,7 @@ use Rattle.control_mgr.specs.WholeControls.{records_of}
 use Rattle.list_mgr.specs.ListDesks.{lists_show}
 use Rattle.list_mgr.specs.WholeLists as lists
 use Rattle.window_outline.proofs.OutlinesShowing.{let_go_showing}
-use Rattle.desk_toolbox.proofs.toolbox.Toolbox.tell_outline.Goals as goal
+use Rattle.desk_toolbox.proofs.toolbox.Toolbox.outline_call.Goals as goal
 
 pub returns-in-None-clause-whole : goal.returns-in-None-clause-whole
 returns-in-None-clause-whole g c = c.outline.ensures.whole _ c.requires.whole

@@ -5,7 +5,7 @@ use Rattle.def_iface.specs.contracts.taken_list.TakenListDefined.TheImpl as take
 use Rattle.def_iface.specs.contracts.taken_menu.TakenMenuDefined.TheImpl as taken_menu
 use Rattle.window_update.specs.WholeUpdates.{opened}
 use Rattle.desk_toolbox.proofs.ListsAside.{menus_after_list, trackable_after_list, updates_after_list}
-use Rattle.desk_toolbox.proofs.toolbox.Toolbox.tell_list.Goals as goal
+use Rattle.desk_toolbox.proofs.toolbox.Toolbox.list_call.Goals as goal
 
 pub returns-clause-whole : goal.returns-clause-whole
 returns-clause-whole g c =

@@ -1,4 +1,4 @@
-use Rattle.std.proofs.Common.{refl, ap, ◌∙◌, ◌≡◌, None, Ok, Err, sym, subst}
+use Rattle.std.proofs.Common.{refl, ap, ◌≡◌, None, Ok, Err, sym, subst}
 use Rattle.std.proofs.lemmas.List.Elements.{All-weaker}
 use Rattle.def_iface.specs.contracts.taken_control.ControlStockStocked.TheImpl as control_stock
 use Rattle.def_iface.specs.contracts.taken_list.ListStockStocked.TheImpl as list_stock
@@ -18,7 +18,6 @@ use Rattle.window_mgr.proofs.StepsShowing.{step_showing}
 use Rattle.window_update.specs.WholeUpdates.{opened}
 use Rattle.window_frame.proofs.Economical.{all_economical, economical_untouched, others_if_done, refused_economical}
 use Rattle.window_frame.proofs.FramesShowing.{caught_up_by_showing}
-use Rattle.window_frame.proofs.Outcomes.{caught_up_by_call}
 use Rattle.control_mgr.specs.ControlDesks.{ControlRecord, controls_show}
 use Rattle.control_mgr.specs.Settled.{IsSettledControl}
 use Rattle.control_mgr.specs.WholeControls.{AreWholeControls, controls_state, records_of}
@@ -33,20 +32,21 @@ use Rattle.desk_toolbox.proofs.ContentsLeft.{made_keeps_contents}
 use Rattle.desk_toolbox.proofs.KeptDesks.{refused_keeps_desk}
 use Rattle.desk_toolbox.proofs.MenusBeside.{followed_whole, window_whole}
 use Rattle.desk_toolbox.proofs.Narrowed.{narrowed_made}
+use Rattle.desk_toolbox.proofs.Natures.{caught_up_so, covered_so, ends_its, narrowed_so}
 use Rattle.desk_toolbox.proofs.Stands.{left_trackable}
 use Rattle.desk_toolbox.proofs.UpdatesBeside.{updates_after_following, updates_after_window}
-use Rattle.desk_toolbox.proofs.toolbox.Toolbox.tell_window.Goals as goal
+use Rattle.desk_toolbox.proofs.toolbox.Toolbox.window_call.Goals as goal
 
 -- ---- the menus tell
 
-pub returns-then-is_covered-clause-step : goal.returns-then-is_covered-clause-step
-returns-then-is_covered-clause-step g c = menu_is_told _ c.args.call.now _ (sym (c.is_covered.ensures _) ∙ c.if-is_covered.true)
+pub returns-then-is_behind_menu-clause-step : goal.returns-then-is_behind_menu-clause-step
+returns-then-is_behind_menu-clause-step g c = menu_is_told _ c.args.call.now _ (covered_so c.args.call.now c.args.nature c.requires.nature _ _ _ (c.is_behind_menu.ensures _) c.if-is_behind_menu.true)
 
-pub returns-then-is_covered-clause-economy : goal.returns-then-is_covered-clause-economy
-returns-then-is_covered-clause-economy g c informed = economical_untouched _ c.args.call.now c.args.self.now.windows
+pub returns-then-is_behind_menu-clause-economy : goal.returns-then-is_behind_menu-clause-economy
+returns-then-is_behind_menu-clause-economy g c informed = economical_untouched _ c.args.call.now c.args.self.now.windows
 
-pub returns-then-is_covered-clause-whole : goal.returns-then-is_covered-clause-whole
-returns-then-is_covered-clause-whole g c = c.requires.whole.managers
+pub returns-then-is_behind_menu-clause-whole : goal.returns-then-is_behind_menu-clause-whole
+returns-then-is_behind_menu-clause-whole g c = c.requires.whole.managers
 
 -- ---- the open update tells
 
@@ -55,8 +55,8 @@ returns-in-Some-clause-step g c =
     let state : ToolboxState =
     toolbox_state (taken.loan-value g.dyn-1).it (taken_menu.loan-value g.dyn-3).it (taken_control.loan-value g.dyn-2).it (taken_list.loan-value g.dyn-4).it
     c.args.self.now ((stock.all_slots-value g.dyn-1 g.dyn-2 g.dyn-4 g.dyn-3).it c.args.stock.now) in
-    window_is_told _ c.args.call.now c.in-Some.answer _ _ (sym (c.is_covered.ensures _) ∙ c.if-is_covered.false)
-    (narrowed_made c.args.call.now c.in-Some.answer state c.in-Some.ensures.0 c.in-Some.ensures.1 c.in-Some.ensures.2 refl)
+    window_is_told _ c.args.call.now c.in-Some.answer _ _ (covered_so c.args.call.now c.args.nature c.requires.nature _ _ _ (c.is_behind_menu.ensures _) c.if-is_behind_menu.false)
+    (narrowed_made c.args.call.now c.in-Some.answer state c.in-Some.ensures.0 (narrowed_so c.args.call.now c.args.nature c.requires.nature _ _ _ c.in-Some.ensures.1) c.in-Some.ensures.2 refl)
 
 pub returns-in-Some-clause-whole : goal.returns-in-Some-clause-whole
 returns-in-Some-clause-whole g c = c.requires.whole.managers
@@ -82,11 +82,11 @@ returns-in-Ok-clause-step g c =
     let loan = (taken.loan-value g.dyn-1).it in
     let shows = controls_show (lists_show (lists.records_of (taken_list.loan-value g.dyn-4).it old.lists)) (records_of (taken_control.loan-value g.dyn-2).it old.controls) in
     let done = c.in-Ok.ensures in
-    let caught = (caught_up_by_call _ c.perform.new.self c.follow.new.windows c.args.call.now c.outcome_of-outcome.result c.outcome_of-outcome.ensures c.follow.ensures.told _ done.whole).1 in
-    window_is_told _ c.args.call.now (Ok c.in-Ok.reply) _ _ (sym (c.is_covered.ensures _) ∙ c.if-is_covered.false)
+    let caught = (caught_up_so c.args.call.now c.args.nature c.requires.nature _ c.perform.new.self c.follow.new.windows c.follow.ensures.told _ done.whole).1 in
+    window_is_told _ c.args.call.now (Ok c.in-Ok.reply) _ _ (covered_so c.args.call.now c.args.nature c.requires.nature _ _ _ (c.is_behind_menu.ensures _) c.if-is_behind_menu.false)
     (record {
       middle = _;
-      answered = rw c.in_default.ensures (
+      answered = rw (narrowed_so c.args.call.now c.args.nature c.requires.nature _ _ _ c.in_default.ensures) (
         record { activity = refl; begun = refl },
         step_showing shows c.args.call.now (Ok c.in-Ok.reply) (state_of loan old.windows _) (state_of loan c.perform.new.self _) done.whole.sound.distinct done.step,
       );
@@ -94,9 +94,9 @@ returns-in-Ok-clause-step g c =
       activity = record { activity = refl; begun = refl };
       caught_up = caught_up_by_showing shows (window_standing c.args.call.now) (state_of loan c.perform.new.self _) (state_of loan c.follow.new.windows _) done.whole.sound.distinct caught;
       shown = refl;
-      controls = c.forget.ensures.controls c.args.call.now (sym c.outcome_of-outcome.ensures);
-      lists = c.forget.ensures.lists c.args.call.now (sym c.outcome_of-outcome.ensures);
-      events = c.forget.ensures.events c.args.call.now (sym c.outcome_of-outcome.ensures);
+      controls = c.forget.ensures.controls c.args.call.now (ends_its c.args.call.now c.args.nature c.requires.nature);
+      lists = c.forget.ensures.lists c.args.call.now (ends_its c.args.call.now c.args.nature c.requires.nature);
+      events = c.forget.ensures.events c.args.call.now (ends_its c.args.call.now c.args.nature c.requires.nature);
       menus = refl;
     })
 
@@ -112,7 +112,7 @@ returns-in-Ok-clause-whole g c =
     let list_loan = (taken_list.loan-value g.dyn-4).it in
     let list_slots = (list_stock.slots-value g.dyn-4).it in
     let done = c.in-Ok.ensures in
-    let told = caught_up_by_call _ mid c.follow.new.windows c.args.call.now c.outcome_of-outcome.result c.outcome_of-outcome.ensures c.follow.ensures.told _ done.whole in
+    let told = caught_up_so c.args.call.now c.args.nature c.requires.nature _ mid c.follow.new.windows c.follow.ensures.told _ done.whole in
     let updates = updates_after_window _ old.windows mid old.updates _ _ old.activity c.args.call.now (Ok c.in-Ok.reply) c.requires.admitted done.step c.requires.whole.managers.updates in
     let menus = window_whole _ _ old.windows mid _ _ _ _ old.activity c.args.call.now (Ok c.in-Ok.reply) c.requires.admitted done.step c.requires.whole.managers.menus in
     let before : ToolboxState = toolbox_state loan menu_loan control_loan list_loan old ((stock.all_slots-value g.dyn-1 g.dyn-2 g.dyn-4 g.dyn-3).it c.args.stock.now) in
@@ -124,7 +124,7 @@ returns-in-Ok-clause-whole g c =
       events = c.forget.new.events;
     } in
     let step : IsWindowDone c.args.call.now c.in-Ok.reply before after =
-    subst (λ b. IsWindowTold b c.args.call.now (Ok c.in-Ok.reply) before after) (sym (c.is_covered.ensures _) ∙ c.if-is_covered.false) (returns-in-Ok-clause-step g c) in
+    subst (λ b. IsWindowTold b c.args.call.now (Ok c.in-Ok.reply) before after) (covered_so c.args.call.now c.args.nature c.requires.nature _ _ _ (c.is_behind_menu.ensures _) c.if-is_behind_menu.false) (returns-in-Ok-clause-step g c) in
     let right = made_keeps_contents c.args.call.now c.in-Ok.reply before step.middle step.told after (record { controls = c.requires.whole.managers.controls; lists = c.requires.whole.managers.lists; shown = refl })
     (record { look = look_on old.windows; distinct = c.requires.whole.managers.windows.sound.distinct; serials = c.requires.whole.managers.windows.sound.serials }) step.answered step.caught_up step.shown step.controls step.lists in
     record {
@@ -139,7 +139,7 @@ returns-in-Ok-clause-whole g c =
 pub returns-in-Ok-clause-economy : goal.returns-in-Ok-clause-economy
 returns-in-Ok-clause-economy g c informed =
     all_economical _ c.args.call.now c.args.self.now.windows c.perform.new.self c.follow.new.windows (others_if_done c.args.call.now (Ok c.in-Ok.reply) _ _ c.in-Ok.ensures.step) c.in-Ok.ensures.sparing
-    (kept _ c.perform.new.self _ c.in-Ok.ensures.whole) (caught_up_by_call _ c.perform.new.self c.follow.new.windows c.args.call.now c.outcome_of-outcome.result c.outcome_of-outcome.ensures c.follow.ensures.told)
+    (kept _ c.perform.new.self _ c.in-Ok.ensures.whole) (caught_up_so c.args.call.now c.args.nature c.requires.nature _ c.perform.new.self c.follow.new.windows c.follow.ensures.told)
     c.follow.ensures.repainted informed
 
 -- ---- they refuse it
@@ -148,8 +148,8 @@ pub returns-in-Err-clause-step : goal.returns-in-Err-clause-step
 returns-in-Err-clause-step g c =
     let old = c.args.self.now in
     let shows = controls_show (lists_show (lists.records_of (taken_list.loan-value g.dyn-4).it old.lists)) (records_of (taken_control.loan-value g.dyn-2).it old.controls) in
-    window_is_told _ c.args.call.now (Err c.in-Err.refusal) _ _ (sym (c.is_covered.ensures _) ∙ c.if-is_covered.false) (
-      rw c.in_default.ensures (
+    window_is_told _ c.args.call.now (Err c.in-Err.refusal) _ _ (covered_so c.args.call.now c.args.nature c.requires.nature _ _ _ (c.is_behind_menu.ensures _) c.if-is_behind_menu.false) (
+      rw (narrowed_so c.args.call.now c.args.nature c.requires.nature _ _ _ c.in_default.ensures) (
         record { activity = refl; begun = refl },
         step_showing shows c.args.call.now (Err c.in-Err.refusal) (state_of (taken.loan-value g.dyn-1).it old.windows _) (state_of (taken.loan-value g.dyn-1).it c.perform.new.self _) c.in-Err.ensures.whole.sound.distinct c.in-Err.ensures.step,
       ),

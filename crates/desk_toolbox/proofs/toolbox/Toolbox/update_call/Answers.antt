@@ -9,7 +9,7 @@ use Rattle.list_mgr.specs.WholeLists as lists
 use Rattle.desk_toolbox.proofs.ContentsBeside.{updates_leave, updates_leave_lists}
 use Rattle.desk_toolbox.proofs.MenusBeside.{update_whole}
 use Rattle.desk_toolbox.proofs.TrackedControls.{update_trackable}
-use Rattle.desk_toolbox.proofs.toolbox.Toolbox.tell_update.Goals as goal
+use Rattle.desk_toolbox.proofs.toolbox.Toolbox.update_call.Goals as goal
 
 pub returns-clause-whole : goal.returns-clause-whole
 returns-clause-whole g c stocks whole =

@@ -1,4 +1,4 @@
-use Rattle.std.proofs.Common.{refl, sym, ◌∙◌}
+use Rattle.std.proofs.Common.{refl}
 use Rattle.tb_geom.specs.Pixels.{holds}
 use Rattle.def_iface.specs.contracts.taken_window.TakenWindowDefined.TheImpl as taken
 use Rattle.def_iface.specs.contracts.taken_control.TakenControlDefined.TheImpl as taken_control
@@ -14,13 +14,14 @@ use Rattle.list_mgr.specs.ListDesks.{lists_show}
 use Rattle.list_mgr.specs.WholeLists as lists
 use Rattle.desk_toolbox.proofs.Asked.{no_control_is_told, performed_is_told}
 use Rattle.desk_toolbox.proofs.ControlsAside.{control_leaves_lists, menus_after_control, updates_after_control}
-use Rattle.desk_toolbox.proofs.toolbox.Toolbox.tell_control.Goals as goal
+use Rattle.desk_toolbox.proofs.Natures.{behind_so}
+use Rattle.desk_toolbox.proofs.toolbox.Toolbox.control_call.Goals as goal
 
-pub returns-then-is_hidden_by_menu-clause-step : goal.returns-then-is_hidden_by_menu-clause-step
-returns-then-is_hidden_by_menu-clause-step g c = no_control_is_told _ c.args.call.now _ (sym (c.is_hidden_by_menu.ensures _) ∙ c.if-is_hidden_by_menu.true)
+pub returns-then-is_behind_menu-clause-step : goal.returns-then-is_behind_menu-clause-step
+returns-then-is_behind_menu-clause-step g c = no_control_is_told _ c.args.call.now _ (behind_so _ _ _ _ _ c.requires.asks (c.is_behind_menu.ensures _) c.if-is_behind_menu.true)
 
-pub returns-then-is_hidden_by_menu-clause-whole : goal.returns-then-is_hidden_by_menu-clause-whole
-returns-then-is_hidden_by_menu-clause-whole g c = c.requires.whole.managers
+pub returns-then-is_behind_menu-clause-whole : goal.returns-then-is_behind_menu-clause-whole
+returns-then-is_behind_menu-clause-whole g c = c.requires.whole.managers
 
 pub returns-clause-whole : goal.returns-clause-whole
 returns-clause-whole g c =
@@ -44,4 +45,4 @@ returns-clause-whole g c =
 pub returns-clause-step : goal.returns-clause-step
 returns-clause-step g c =
     let done = c.perform.ensures.step (λ p. holds c.args.self.now.updates.begun p) (lists_show (lists.records_of (taken_list.loan-value g.dyn-4).it c.args.self.now.lists)) _ c.requires.whole.managers.windows c.requires.whole.managers.controls in
-    performed_is_told _ c.args.call.now c.perform.result _ _ (sym (c.is_hidden_by_menu.ensures _) ∙ c.if-is_hidden_by_menu.false) (record { step = done.2 c.requires.whole.right; events = refl; lists = refl; menus = refl })
+    performed_is_told _ c.args.call.now c.perform.result _ _ (behind_so _ _ _ _ _ c.requires.asks (c.is_behind_menu.ensures _) c.if-is_behind_menu.false) (record { step = done.2 c.requires.whole.right; events = refl; lists = refl; menus = refl })
