@@ -50,7 +50,7 @@ use Rattle.window_outline.specs.ShownOutlines.{IsOutlineShown}
 use Rattle.menu_mgr.specs.declared.menus.Menus.{Menus}
 use Rattle.menu_mgr.specs.MenuDesks.{MenuSlot}
 use Rattle.menu_mgr.specs.Pulling.{pulled_of}
-use Rattle.menu_mgr.specs.WholeMenus.{AreLive, AreMenusStocked, AreNoMenus, IsMenuFront, IsPlaced, IsPulledShown, IsWholeMenus, menus_of}
+use Rattle.menu_mgr.specs.WholeMenus.{AreLive, AreMenusStocked, AreNoMenus, IsPlaced, IsPulledShown, IsWholeMenus, menus_of}
 use Rattle.desk_toolbox.specs.FrontMaps.{IsFrontRight}
 use Rattle.desk_toolbox.proofs.Sides.{step_keeps_sides}
 use Rattle.desk_toolbox.proofs.UpdatedDesks.{update_keeps_desk}

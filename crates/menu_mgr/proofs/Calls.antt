@@ -20,7 +20,7 @@ use Rattle.menu_mgr.specs.declared.menus.Menus.{Menus}
 use Rattle.menu_mgr.specs.Leaving.{LeavesDeskOver, LeavesMenus, opened}
 use Rattle.menu_mgr.specs.MenuDesks.{MenuSlot}
 use Rattle.menu_mgr.specs.MenuSteps.{IsMenuStep, is_edit}
-use Rattle.menu_mgr.specs.WholeMenus.{IsMenuFront, IsPulledShown, IsWholeMenus}
+use Rattle.menu_mgr.specs.WholeMenus.{IsMenuFront, IsPulledShown, IsWholeMenus, menu_desk}
 use Rattle.menu_mgr.proofs.MenuKeeps.{menu_keeps}
 use Rattle.menu_mgr.proofs.Steps.{gate_idle}
 
@@ -52,10 +52,12 @@ module _ {V : Type 0} {H : V → Type 0} (loan : TakenBox V H → WindowLoan) {W
       → ((begun : PixelSet) → LeavesDeskOver loan menu_loan kept after (IsMenuStep shape result) t (opened Idle begun) m u (opened Idle begun) n)
       → (front : Overlay) → IsMenuFront menu_loan activity t m front → IsMenuFront menu_loan activity u n front
   front_of_idle kept after shape is changes windows leaves front was =
+      let old = menu_desk menu_loan loan t (opened Idle (λ p. false)) windows.slots m kept in
+      let new = menu_desk menu_loan loan u (opened Idle (λ p. false)) windows.slots n after in
       let step = (leaves (λ p. false) windows.slots windows.whole).2 in
       record {
-        width = was.width ∙ sym (ap nat_abs (menu_keeps (λ d. d.width) (λ d titles. refl) shape result _ _ step));
-        height = was.height ∙ sym (ap nat_abs (menu_keeps (λ d. d.height) (λ d titles. refl) shape result _ _ step));
+        width = was.width ∙ sym (ap nat_abs (menu_keeps (λ d. d.width) (λ d titles. refl) shape result old new step));
+        height = was.height ∙ sym (ap nat_abs (menu_keeps (λ d. d.height) (λ d titles. refl) shape result old new step));
         shown = subst (λ a. IsPulledShown menu_loan a u n front) (sym (is_idle (ap menu_standing is ∙ changes))) tt;
       }
 
