@@ -79,6 +79,7 @@ impl Toolbox {
             Call::Menu(call) => {
                 match self.menus.perform(
                     &mut self.windows,
+                    &mut self.front,
                     &mut self.activity,
                     call,
                     &mut stock.menus,
@@ -118,6 +119,7 @@ impl Toolbox {
             → IsEconomical ⟦<TakenWindow as Defined>⟧.loan call.now self.old.windows self.new.windows }
         ensures aside { (self.new.menus ≡ self.old.menus)
             × ((self.new.updates ≡ self.old.updates) × (self.new.activity ≡ self.old.activity)) }
+        ensures front { self.new.front ≡ self.old.front }
     {
         if self.is_behind_menu(nature.asks) {
             return Ok(WindowReply::Found(Found {

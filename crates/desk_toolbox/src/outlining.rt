@@ -9,7 +9,7 @@ use crate::{Activity, Desk, OutlineCall, OutlineReply, Toolbox, WindowCall};
 use def_iface::Stock;
 use desk_call::MoveWindow;
 use tb_geom::Refusal;
-use window_outline::{let_go, outlined_by};
+use window_outline::{let_go, outlined_by, show_outline};
 
 impl Toolbox {
     /// Answers a call about an outline. Where it ends a drag in the gray region, the window is moved.
@@ -46,8 +46,7 @@ impl Toolbox {
     {
         match outlined_by(&self.windows, self.activity, call) {
             Ok(next) => {
-                self.menus
-                    .show_outline(&self.windows, self.activity, next.activity);
+                show_outline(&mut self.front, &self.windows, self.activity, next.activity);
                 self.activity = next.activity;
                 Ok(next.reply)
             }

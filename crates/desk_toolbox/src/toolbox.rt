@@ -34,6 +34,7 @@ use desk_ground::is_screen;
 use list_mgr::{Contents, Lists};
 use menu_list::MenuList;
 use menu_mgr::Menus;
+use overlay::Overlay;
 use std::alloc::{AllocError, Global};
 use strike_font::Font;
 use tb_geom::{Rect, Refusal};
@@ -48,8 +49,10 @@ pub struct Toolbox {
     pub(crate) windows: WindowManager,
     /// The controls of its windows.
     pub(crate) controls: Controls<TakenControl>,
-    /// Its menus, and the map on which the one lies that is pulled down.
     pub(crate) menus: Menus,
+    /// The map in front of its windows' screen, on which the menu lies that is pulled down, or the outline of a window that is
+    /// dragged or grown.
+    pub(crate) front: Overlay,
     /// The lists of its windows.
     pub(crate) lists: Lists<TakenList>,
     /// What is open between its begin and its end.
@@ -63,6 +66,7 @@ pub struct Toolbox {
 struct DeskParts {
     updates: Updates,
     menus: Menus,
+    front: Overlay,
     events: Events,
 }
 
@@ -73,13 +77,15 @@ impl DeskParts {
         requires height { screens.is_screen_side height ≡ true }
         ensures updates { IfOk result (λ p. (pos p.updates.buffer.width ≡ width)
             × (pos p.updates.buffer.height ≡ height)) }
-        ensures menus { IfOk result (λ p. AreNoMenus width height p.menus) }
+        ensures menus { IfOk result (λ p. AreNoMenus p.menus) }
+        ensures front { IfOk result (λ p. (pos p.front.front.width ≡ width) × (pos p.front.front.height ≡ height)) }
         ensures events { IfOk result (λ p. p.events ≡ first_events) }
     {
         Ok(DeskParts {
             updates: Updates::new(alloc, width, height)?,
             events: Events::new(alloc)?,
-            menus: Menus::new(alloc, width, height, MenuList::new(alloc)?)?,
+            menus: Menus::new(alloc, MenuList::new(alloc)?),
+            front: Overlay::new(alloc, width, height)?,
         })
     }
 }
@@ -134,7 +140,8 @@ impl Toolbox {
     ) -> Result<Toolbox, NotBegun>
         requires width { pos parts.updates.buffer.width ≡ width }
         requires height { pos parts.updates.buffer.height ≡ height }
-        requires menus { AreNoMenus width height parts.menus }
+        requires menus { AreNoMenus parts.menus }
+        requires front { (pos parts.front.front.width ≡ width) × (pos parts.front.front.height ≡ height) }
         ensures begun { IfOk result (λ t. (slots : List WindowSlot) → All IsFull slots
             → IsEmptyDesk ⟦<TakenWindow as Defined>⟧.loan width height bar font t.windows slots) }
         ensures idle { IfOk result (λ t. t.activity ≡ Idle) }
@@ -151,6 +158,7 @@ impl Toolbox {
         let DeskParts {
             updates,
             menus,
+            front,
             events,
         } = parts;
         let none = WindowList::new(Ranks::new(alloc));
@@ -160,6 +168,7 @@ impl Toolbox {
                 windows,
                 controls: Controls::new(alloc),
                 menus,
+                front,
                 lists: Lists::new(alloc),
                 activity: Activity::Idle,
                 updates,
@@ -180,7 +189,7 @@ impl Toolbox {
     {
         match self.activity {
             Activity::Pulling(_) | Activity::Dragging(_) | Activity::Growing(_) => {
-                self.menus.screen()
+                self.front.front()
             }
             _ => self.windows.screen(),
         }

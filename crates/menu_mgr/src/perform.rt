@@ -8,40 +8,47 @@ ghost use Rattle.menu_mgr.specs.Leaving.{LeavesDeskOver, opened};
 ghost use Rattle.desk_call.specs.declared.menu.MenuCall.TheVariants as asks;
 ghost use Rattle.menu_mgr.specs.MenuDesks.{MenuSlot};
 ghost use Rattle.menu_mgr.specs.MenuSteps.{IsMenuStep, is_edit};
-ghost use Rattle.menu_mgr.specs.WholeMenus.{IsWholeMenus};
+ghost use Rattle.menu_mgr.specs.WholeMenus.{IsMenuFront, IsWholeMenus};
 
 use crate::{MenuCall, MenuReply, Menus, NewMenu};
 use def_iface::{Defined, MenuStock, Stocked, TakenMenu, TakenWindow};
 use desk_call::Activity;
 use menu_list::edit;
+use overlay::Overlay;
 use tb_geom::Refusal;
 use window_mgr::WindowManager;
 
 impl Menus {
-    /// Performs one call on these menus beside these windows, which may come while this is open, and gives its answer. A
-    /// refused call changes nothing; which refusal comes first where several would do stands with the call.
+    /// Performs one call on these menus beside these windows, which may come while this is open, and gives its answer. The
+    /// map in front of the windows' screen then shows the menu that is pulled down. A refused call changes nothing; which
+    /// refusal comes first where several would do stands with the call.
     pub fn perform(
         &mut self,
         windows: &mut WindowManager,
+        front: &mut Overlay,
         activity: &mut Activity,
         call: &MenuCall<'_>,
         stock: &mut MenuStock,
     ) -> Result<MenuReply, Refusal>
         requires kept { IsKept ⟦<TakenWindow as Defined>⟧.loan windows.old }
-        requires menus { IsWholeMenus ⟦<TakenMenu as Defined>⟧.loan windows.old activity.old self.old
+        requires menus { IsWholeMenus ⟦<TakenMenu as Defined>⟧.loan activity.old self.old
             (⟦<MenuStock as Stocked>⟧.slots stock.old) }
+        requires front { IsMenuFront ⟦<TakenMenu as Defined>⟧.loan activity.old windows.old self.old front.old }
         requires admitted { gate activity.old (menu_standing call.now) ≡ None }
-        ensures { (begun : PixelSet) → LeavesDeskOver ⟦<TakenWindow as Defined>⟧.loan ⟦<TakenMenu as Defined>⟧.loan
+        ensures step { (begun : PixelSet) → LeavesDeskOver ⟦<TakenWindow as Defined>⟧.loan ⟦<TakenMenu as Defined>⟧.loan
             (⟦<MenuStock as Stocked>⟧.slots stock.old) (⟦<MenuStock as Stocked>⟧.slots stock.new)
             (IsMenuStep call.now result)
             windows.old (opened activity.old begun) self.old windows.new (opened activity.new begun) self.new }
+        ensures front { IsMenuFront ⟦<TakenMenu as Defined>⟧.loan activity.new windows.new self.new front.new }
     {
         match call {
             MenuCall::New(new) => self.make_and_show(windows, new, stock),
             MenuCall::Dispose(menu) => self.end_and_show(windows, *menu, stock),
-            MenuCall::Down(point) => self.press_at(windows, activity, *point),
+            MenuCall::Down(point) => self.press_at(windows, front, activity, *point),
             MenuCall::Move(point) => match *activity {
-                Activity::Pulling(pulled) => self.move_to(windows, activity, pulled, *point),
+                Activity::Pulling(pulled) => {
+                    self.move_to(windows, front, activity, pulled, *point)
+                }
                 _ => unreachable!(),
             },
             MenuCall::Up(point) => match *activity {
@@ -60,7 +67,7 @@ impl Menus {
         stock: &mut MenuStock,
     ) -> Result<MenuReply, Refusal>
         requires kept { IsKept ⟦<TakenWindow as Defined>⟧.loan windows.old }
-        requires menus { IsWholeMenus ⟦<TakenMenu as Defined>⟧.loan windows.old Idle self.old
+        requires menus { IsWholeMenus ⟦<TakenMenu as Defined>⟧.loan Idle self.old
             (⟦<MenuStock as Stocked>⟧.slots stock.old) }
         ensures { (begun : PixelSet) → LeavesDeskOver ⟦<TakenWindow as Defined>⟧.loan ⟦<TakenMenu as Defined>⟧.loan
             (⟦<MenuStock as Stocked>⟧.slots stock.old) (⟦<MenuStock as Stocked>⟧.slots stock.new)
@@ -84,7 +91,7 @@ impl Menus {
         stock: &mut MenuStock,
     ) -> Result<MenuReply, Refusal>
         requires kept { IsKept ⟦<TakenWindow as Defined>⟧.loan windows.old }
-        requires menus { IsWholeMenus ⟦<TakenMenu as Defined>⟧.loan windows.old Idle self.old
+        requires menus { IsWholeMenus ⟦<TakenMenu as Defined>⟧.loan Idle self.old
             (⟦<MenuStock as Stocked>⟧.slots stock.old) }
         ensures { (begun : PixelSet) → LeavesDeskOver ⟦<TakenWindow as Defined>⟧.loan ⟦<TakenMenu as Defined>⟧.loan
             (⟦<MenuStock as Stocked>⟧.slots stock.old) (⟦<MenuStock as Stocked>⟧.slots stock.new)
@@ -110,7 +117,7 @@ impl Menus {
         requires edits { is_edit call.now ≡ true }
         requires few { length self.old.list.menus.items ≤ 16 }
         ensures { (begun : PixelSet) (kept : List MenuSlot)
-            → IsWholeMenus ⟦<TakenMenu as Defined>⟧.loan windows.old Idle self.old kept
+            → IsWholeMenus ⟦<TakenMenu as Defined>⟧.loan Idle self.old kept
             → LeavesDeskOver ⟦<TakenWindow as Defined>⟧.loan ⟦<TakenMenu as Defined>⟧.loan kept kept
             (IsMenuStep call.now result)
             windows.old (opened Idle begun) self.old windows.new (opened Idle begun) self.new }

@@ -9,6 +9,7 @@ ghost use Rattle.desk_call.specs.declared.activity.Activity.TheVariants.{Idle, P
 ghost use Rattle.desk_call.specs.declared.menu.MenuCall.TheVariants as asks;
 ghost use Rattle.menu_list.specs.Lists.{menu_index, titles_of};
 ghost use Rattle.menu_list.specs.Seen.{seen};
+ghost use Rattle.overlay.specs.declared.overlay.Overlay.{Overlay as FrontMap};
 ghost use Rattle.overlay.specs.Overlays.{IsShown, is_menu_place};
 ghost use Rattle.window_mgr.specs.BarShown.{IsBarShown};
 ghost use Rattle.window_mgr.specs.Kept.{IsKept};
@@ -17,13 +18,13 @@ ghost use Rattle.window_mgr.specs.Updating.{LeavesState};
 ghost use Rattle.menu_mgr.specs.Leaving.{AreKeptMenus, LeavesMenus, indexed, of_another, opened};
 ghost use Rattle.menu_mgr.specs.MenuSteps.{IsMenuStep, choice_of};
 ghost use Rattle.menu_mgr.specs.Pulling.{as_pulled, is_pulled_at, item_under, pulled_below, pulled_of, title_under};
-ghost use Rattle.menu_mgr.specs.WholeMenus.{AreLive, IsPlaced, menus_of};
+ghost use Rattle.menu_mgr.specs.WholeMenus.{AreLive, IsMenuFront, IsPlaced, menus_of};
 
 use crate::{Choice, MenuReply, Menus};
 use def_iface::{Defined, TakenMenu, TakenWindow};
 use desk_call::{Activity, PulledMenu};
 use desk_ground::{TitleHit, title_at};
-use overlay::{pulled_place, pulled_rect, shown_size};
+use overlay::{Overlay, pulled_place, pulled_rect, shown_size};
 use tb_geom::{Point, Refusal};
 use window_mgr::{DeskView, WindowManager};
 
@@ -157,14 +158,19 @@ impl Menus {
     }
 
     /// Pulls a menu down below its title, which alone is highlighted then. No item is. Takes no memory.
-    fn pull(&mut self, windows: &mut WindowManager, title: Titled) -> PulledMenu
+    fn pull(
+        &mut self,
+        windows: &mut WindowManager,
+        front: &mut Overlay,
+        title: Titled,
+    ) -> PulledMenu
         requires kept { IsKept ⟦<TakenWindow as Defined>⟧.loan windows.old }
         requires few { length self.old.list.menus.items ≤ 16 }
         requires at { title.at < length self.old.list.menus.items }
         requires near { (pos 0 ≤ℤ title.hit.left) × (title.hit.left ≤ℤ pos 1200000) }
         requires live { AreLive (menus_of ⟦<TakenMenu as Defined>⟧.loan self.old.list.menus.items) }
-        requires width { self.old.overlay.front.width ≡ windows.old.screen.width }
-        requires height { self.old.overlay.front.height ≡ windows.old.screen.height }
+        requires width { front.old.front.width ≡ windows.old.screen.width }
+        requires height { front.old.front.height ≡ windows.old.screen.height }
         ensures menus { self.new.list.menus ≡ self.old.list.menus }
         ensures highlighted { self.new.list.highlighted ≡ Some title.hit.menu }
         ensures alloc { self.new.alloc ≡ self.old.alloc }
@@ -174,13 +180,13 @@ impl Menus {
             let listed = seen ⟦<TakenMenu as Defined>⟧.loan l in
             (result ≡ pulled_below (desk_of ⟦<TakenWindow as Defined>⟧.loan windows.old [])
             (record { hit = title.hit; record_of = listed }))
-            × IsShown windows.new.font (Some (as_pulled result listed)) windows.new.screen self.new.overlay.front) }
+            × IsShown windows.new.font (Some (as_pulled result listed)) windows.new.screen front.new.front) }
         ensures placed { (is_menu_place result.place ≡ true) × (is_menu_size result.size ≡ true) }
     {
         let pulled = self.below(windows, title);
         self.list.highlight(Some(title.hit.menu));
         self.show_titles(windows);
-        self.show_pulled(windows, title.at, pulled);
+        self.show_pulled(windows, front, title.at, pulled);
         pulled
     }
 
@@ -210,7 +216,6 @@ impl Menus {
         ensures menus { self.new.list.menus ≡ self.old.list.menus }
         ensures highlighted { self.new.list.highlighted ≡ (if is_none choice then None else self.old.list.highlighted) }
         ensures alloc { self.new.alloc ≡ self.old.alloc }
-        ensures overlay { self.new.overlay ≡ self.old.overlay }
     {
         if choice.is_none() {
             self.list.highlight(None);
@@ -221,23 +226,25 @@ impl Menus {
     pub(crate) fn press_at(
         &mut self,
         windows: &mut WindowManager,
+        front: &mut Overlay,
         activity: &mut Activity,
         point: Point,
     ) -> Result<MenuReply, Refusal>
         requires kept { IsKept ⟦<TakenWindow as Defined>⟧.loan windows.old }
-        requires menus { AreKeptMenus ⟦<TakenWindow as Defined>⟧.loan ⟦<TakenMenu as Defined>⟧.loan windows.old
-            activity.old self.old }
+        requires menus { AreKeptMenus ⟦<TakenMenu as Defined>⟧.loan activity.old self.old }
+        requires front { IsMenuFront ⟦<TakenMenu as Defined>⟧.loan activity.old windows.old self.old front.old }
         requires idle { activity.old ≡ Idle }
-        ensures { (begun : PixelSet) → LeavesMenus ⟦<TakenWindow as Defined>⟧.loan ⟦<TakenMenu as Defined>⟧.loan
+        ensures step { (begun : PixelSet) → LeavesMenus ⟦<TakenWindow as Defined>⟧.loan ⟦<TakenMenu as Defined>⟧.loan
             (IsMenuStep (asks.Down point) result)
             windows.old (opened activity.old begun) self.old windows.new (opened activity.new begun) self.new }
+        ensures front { IsMenuFront ⟦<TakenMenu as Defined>⟧.loan activity.new windows.new self.new front.new }
     {
         if !point.is_in_range() {
             return Err(Refusal::OutOfRange);
         }
         match self.title_under(windows, point) {
             Some(title) => {
-                *activity = Activity::Pulling(self.pull(windows, title));
+                *activity = Activity::Pulling(self.pull(windows, front, title));
                 Ok(MenuReply::Pulled(Some(title.hit.menu)))
             }
             None => Ok(MenuReply::Pulled(None)),
@@ -248,17 +255,19 @@ impl Menus {
     pub(crate) fn move_to(
         &mut self,
         windows: &mut WindowManager,
+        front: &mut Overlay,
         activity: &mut Activity,
         pulled: PulledMenu,
         point: Point,
     ) -> Result<MenuReply, Refusal>
         requires kept { IsKept ⟦<TakenWindow as Defined>⟧.loan windows.old }
-        requires menus { AreKeptMenus ⟦<TakenWindow as Defined>⟧.loan ⟦<TakenMenu as Defined>⟧.loan windows.old
-            activity.old self.old }
+        requires menus { AreKeptMenus ⟦<TakenMenu as Defined>⟧.loan activity.old self.old }
+        requires front { IsMenuFront ⟦<TakenMenu as Defined>⟧.loan activity.old windows.old self.old front.old }
         requires pulling { activity.old ≡ Pulling pulled }
-        ensures { (begun : PixelSet) → LeavesMenus ⟦<TakenWindow as Defined>⟧.loan ⟦<TakenMenu as Defined>⟧.loan
+        ensures step { (begun : PixelSet) → LeavesMenus ⟦<TakenWindow as Defined>⟧.loan ⟦<TakenMenu as Defined>⟧.loan
             (IsMenuStep (asks.Move point) result)
             windows.old (opened activity.old begun) self.old windows.new (opened activity.new begun) self.new }
+        ensures front { IsMenuFront ⟦<TakenMenu as Defined>⟧.loan activity.new windows.new self.new front.new }
     {
         if !point.is_in_range() {
             return Err(Refusal::OutOfRange);
@@ -266,12 +275,12 @@ impl Menus {
         match self.other_title(windows, pulled, point) {
             Some(title) => {
                 self.dim_pulled(pulled);
-                *activity = Activity::Pulling(self.pull(windows, title));
+                *activity = Activity::Pulling(self.pull(windows, front, title));
                 Ok(MenuReply::Item(None))
             }
             None => {
                 let item = self.item_under(windows, pulled, point);
-                self.tell(windows.parts().font, pulled, item);
+                self.tell(front, windows.parts().font, pulled, item);
                 *activity = Activity::Pulling(PulledMenu { item, ..pulled });
                 Ok(MenuReply::Item(item))
             }
@@ -287,12 +296,14 @@ impl Menus {
         point: Point,
     ) -> Result<MenuReply, Refusal>
         requires kept { IsKept ⟦<TakenWindow as Defined>⟧.loan windows.old }
-        requires menus { AreKeptMenus ⟦<TakenWindow as Defined>⟧.loan ⟦<TakenMenu as Defined>⟧.loan windows.old
-            activity.old self.old }
+        requires menus { AreKeptMenus ⟦<TakenMenu as Defined>⟧.loan activity.old self.old }
         requires pulling { activity.old ≡ Pulling pulled }
-        ensures { (begun : PixelSet) → LeavesMenus ⟦<TakenWindow as Defined>⟧.loan ⟦<TakenMenu as Defined>⟧.loan
+        ensures step { (begun : PixelSet) → LeavesMenus ⟦<TakenWindow as Defined>⟧.loan ⟦<TakenMenu as Defined>⟧.loan
             (IsMenuStep (asks.Up point) result)
             windows.old (opened activity.old begun) self.old windows.new (opened activity.new begun) self.new }
+        ensures front { (front : FrontMap)
+            → IsMenuFront ⟦<TakenMenu as Defined>⟧.loan activity.old windows.old self.old front
+            → IsMenuFront ⟦<TakenMenu as Defined>⟧.loan activity.new windows.new self.new front }
     {
         if !point.is_in_range() {
             return Err(Refusal::OutOfRange);

@@ -20,6 +20,9 @@ paint_front-requires-clause-live g c = rw c.menus.ensures c.requires.whole.manag
 pub paint_front-requires-clause-placed : goal.paint_front-requires-clause-placed
 paint_front-requires-clause-placed g c = rw c.activity.ensures c.requires.whole.managers.menus.placed
 
+pub paint_front-requires-clause-outline : goal.paint_front-requires-clause-outline
+paint_front-requires-clause-outline g c = rw c.activity.ensures c.requires.whole.managers.front.kept
+
 pub returns : goal.returns
 returns g c =
     let fits : SFits w32 c.parts-parts.result.bar = search rules in

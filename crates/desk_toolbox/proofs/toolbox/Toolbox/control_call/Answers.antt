@@ -30,6 +30,9 @@ returns-clause-whole g c =
     let made = done.2 c.requires.whole.right in
     let first = opened self.activity self.updates in
     let last = opened c.perform.new.activity self.updates in
+    let menus =
+    menus_after_control (taken.loan-value g.dyn-1).it (taken_menu.loan-value g.dyn-3).it (taken_control.loan-value g.dyn-2).it (lists_show (lists.records_of (taken_list.loan-value g.dyn-4).it self.lists)) self.windows c.perform.new.windows _ _ first last self.controls c.perform.new.self _ _
+    c.args.call.now c.perform.result c.requires.admitted made self.menus self.front _ (record { menus = c.requires.whole.managers.menus; front = c.requires.whole.managers.front }) in
     record {
       windows = done.0;
       updates = updates_after_control (taken.loan-value g.dyn-1).it (taken_menu.loan-value g.dyn-3).it (taken_control.loan-value g.dyn-2).it (lists_show (lists.records_of (taken_list.loan-value g.dyn-4).it self.lists)) self.windows c.perform.new.windows _ _ first last self.controls c.perform.new.self _ _
@@ -38,8 +41,8 @@ returns-clause-whole g c =
       trackable = c.perform.ensures.trackable;
       lists = control_leaves_lists c.args.call.now c.perform.result _ _ _ (distinct_showing (controls_show (lists_show (lists.records_of (taken_list.loan-value g.dyn-4).it self.lists)) (records_of (taken_control.loan-value g.dyn-2).it self.controls)) (state_of (taken.loan-value g.dyn-1).it self.windows ((stock.slots-value g.dyn-1).it c.args.stock.now.windows)).desk c.requires.whole.managers.windows.sound.distinct)
           c.requires.whole.managers.controls.apart made c.requires.whole.managers.lists;
-      menus = menus_after_control (taken.loan-value g.dyn-1).it (taken_menu.loan-value g.dyn-3).it (taken_control.loan-value g.dyn-2).it (lists_show (lists.records_of (taken_list.loan-value g.dyn-4).it self.lists)) self.windows c.perform.new.windows _ _ first last self.controls c.perform.new.self _ _
-          c.args.call.now c.perform.result c.requires.admitted made self.menus _ c.requires.whole.managers.menus;
+      menus = menus.menus;
+      front = menus.front;
     }
 
 pub returns-clause-step : goal.returns-clause-step

@@ -17,6 +17,9 @@ returns-clause-whole g c =
     let began = opened self.activity self.updates in
     let done = c.perform.ensures began _ c.requires.whole.managers.windows c.requires.whole.managers.controls c.requires.whole.managers.lists in
     let made = done.3 c.requires.whole.right in
+    let menus =
+    menus_after_list loan menu_loan control_loan list_loan self.windows c.perform.new.windows _ _ began self.controls c.perform.new.controls _ _ self.lists c.perform.new.self _ _
+    c.args.call.now c.perform.result c.requires.admitted made self.menus self.front _ (record { menus = c.requires.whole.managers.menus; front = c.requires.whole.managers.front }) in
     record {
       windows = done.0;
       updates = updates_after_list loan menu_loan control_loan list_loan self.windows c.perform.new.windows _ _ began self.controls c.perform.new.controls _ _ self.lists c.perform.new.self _ _
@@ -24,8 +27,8 @@ returns-clause-whole g c =
       controls = done.1;
       trackable = trackable_after_list loan menu_loan control_loan list_loan self.windows c.perform.new.windows _ _ began self.controls c.perform.new.controls _ _ self.lists c.perform.new.self _ _
           c.args.call.now c.perform.result c.requires.admitted made c.requires.whole.managers.trackable;
-      menus = menus_after_list loan menu_loan control_loan list_loan self.windows c.perform.new.windows _ _ began self.controls c.perform.new.controls _ _ self.lists c.perform.new.self _ _
-          c.args.call.now c.perform.result c.requires.admitted made self.menus _ c.requires.whole.managers.menus;
+      menus = menus.menus;
+      front = menus.front;
       lists = done.2;
     }
 

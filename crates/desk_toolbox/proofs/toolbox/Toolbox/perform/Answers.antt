@@ -13,7 +13,7 @@ use Rattle.list_mgr.specs.ListDesks.{lists_show}
 use Rattle.list_mgr.specs.WholeLists as lists
 use Rattle.menu_mgr.proofs.MenusShowing.{menu_step_showing}
 use Rattle.desk_toolbox.proofs.ContentsBeside.{frames_leave, frames_leave_lists, menus_leave, menus_leave_lists}
-use Rattle.desk_toolbox.proofs.MenuStands.{menu_trackable}
+use Rattle.desk_toolbox.proofs.MenuStands.{menu_outlines_none, menu_trackable}
 use Rattle.desk_toolbox.proofs.TrackedControls.{frame_trackable}
 use Rattle.desk_toolbox.proofs.MenusBeside.{frame_whole}
 use Rattle.desk_toolbox.proofs.UpdatesBeside.{updates_after_frame, updates_after_menu}
@@ -37,13 +37,17 @@ returns-in-Ok-perform-clause-whole g c =
     let may = subst (λ call. gate c.args.self.now.activity (standing_of call) ≡ None) c.in-Frame.is c.requires.admitted in
     let before : Opened = record { activity = c.args.self.now.activity; begun = λ p. false } in
     let after : Opened = record { activity = c.perform.new.activity; begun = λ p. false } in
+    let menus =
+    frame_whole _ _ c.args.self.now.windows c.perform.new.windows _ _ _ _ _ before after c.in-Frame.call (Ok c.in-Ok-perform.reply) may done.1
+    (record { menus = c.requires.whole.managers.menus; front = c.requires.whole.managers.front }) in
     record {
       windows = done.0;
       updates = updates_after_frame _ c.args.self.now.windows c.perform.new.windows c.args.self.now.updates _ _ before after c.in-Frame.call (Ok c.in-Ok-perform.reply) may done.1 c.requires.whole.managers.updates;
       controls = frames_leave c.in-Frame.call (Ok c.in-Ok-perform.reply) _ _ _ done.1 c.requires.whole.managers.controls;
       lists = frames_leave_lists c.in-Frame.call (Ok c.in-Ok-perform.reply) _ _ _ done.1 c.requires.whole.managers.lists;
       trackable = frame_trackable _ _ _ c.requires.whole.managers.trackable c.in-Frame.call (Ok c.in-Ok-perform.reply) done.1;
-      menus = frame_whole _ _ c.args.self.now.windows c.perform.new.windows _ _ _ _ before after c.in-Frame.call (Ok c.in-Ok-perform.reply) may done.1 c.requires.whole.managers.menus;
+      menus = menus.menus;
+      front = menus.front;
     }
 
 pub returns-in-Ok-perform-clause-step : goal.returns-in-Ok-perform-clause-step
@@ -68,13 +72,17 @@ returns-in-Err-perform-clause-whole g c =
     let may = subst (λ call. gate c.args.self.now.activity (standing_of call) ≡ None) c.in-Frame.is c.requires.admitted in
     let before : Opened = record { activity = c.args.self.now.activity; begun = λ p. false } in
     let after : Opened = record { activity = c.perform.new.activity; begun = λ p. false } in
+    let menus =
+    frame_whole _ _ c.args.self.now.windows c.perform.new.windows _ _ _ _ _ before after c.in-Frame.call (Err c.in-Err-perform.refusal) may done.1
+    (record { menus = c.requires.whole.managers.menus; front = c.requires.whole.managers.front }) in
     record {
       windows = done.0;
       updates = updates_after_frame _ c.args.self.now.windows c.perform.new.windows c.args.self.now.updates _ _ before after c.in-Frame.call (Err c.in-Err-perform.refusal) may done.1 c.requires.whole.managers.updates;
       controls = frames_leave c.in-Frame.call (Err c.in-Err-perform.refusal) _ _ _ done.1 c.requires.whole.managers.controls;
       lists = frames_leave_lists c.in-Frame.call (Err c.in-Err-perform.refusal) _ _ _ done.1 c.requires.whole.managers.lists;
       trackable = frame_trackable _ _ _ c.requires.whole.managers.trackable c.in-Frame.call (Err c.in-Err-perform.refusal) done.1;
-      menus = frame_whole _ _ c.args.self.now.windows c.perform.new.windows _ _ _ _ before after c.in-Frame.call (Err c.in-Err-perform.refusal) may done.1 c.requires.whole.managers.menus;
+      menus = menus.menus;
+      front = menus.front;
     }
 
 pub returns-in-Err-perform-clause-step : goal.returns-in-Err-perform-clause-step
@@ -95,10 +103,11 @@ returns-in-Err-perform-clause-step g c =
 
 pub returns-in-Ok-perform-2-clause-whole : goal.returns-in-Ok-perform-2-clause-whole
 returns-in-Ok-perform-2-clause-whole g c =
-    let done = c.in-Ok-perform-2.ensures (λ p. holds c.args.self.now.updates.begun p) _ c.requires.whole.managers.windows in
+    let done = c.in-Ok-perform-2.ensures.step (λ p. holds c.args.self.now.updates.begun p) _ c.requires.whole.managers.windows in
     let may = subst (λ call. gate c.args.self.now.activity (standing_of call) ≡ None) c.in-Menu.is c.requires.admitted in
     let before : Opened = record { activity = c.args.self.now.activity; begun = λ p. holds c.args.self.now.updates.begun p } in
     let after : Opened = record { activity = c.perform-in-Menu.new.activity; begun = λ p. holds c.args.self.now.updates.begun p } in
+    let none = menu_outlines_none c.in-Menu.call (Ok c.in-Ok-perform-2.reply) _ _ c.perform-in-Menu.new.windows c.perform-in-Menu.new.front may done.2 in
     record {
       windows = done.0;
       updates = updates_after_menu _ c.args.self.now.windows c.perform-in-Menu.new.windows c.args.self.now.updates _ _ before after _ _ c.in-Menu.call (Ok c.in-Ok-perform-2.reply) may done.2 c.requires.whole.managers.updates;
@@ -106,11 +115,12 @@ returns-in-Ok-perform-2-clause-whole g c =
       lists = menus_leave_lists c.in-Menu.call (Ok c.in-Ok-perform-2.reply) _ _ _ done.2 c.requires.whole.managers.lists;
       trackable = menu_trackable c.in-Menu.call (Ok c.in-Ok-perform-2.reply) _ _ _ may done.2;
       menus = done.1;
+      front = record { menu = c.in-Ok-perform-2.ensures.front; kept = none.0; outline = none.1 };
     }
 
 pub returns-in-Ok-perform-2-clause-step : goal.returns-in-Ok-perform-2-clause-step
 returns-in-Ok-perform-2-clause-step g c =
-    let done = c.in-Ok-perform-2.ensures (λ p. holds c.args.self.now.updates.begun p) _ c.requires.whole.managers.windows in
+    let done = c.in-Ok-perform-2.ensures.step (λ p. holds c.args.self.now.updates.begun p) _ c.requires.whole.managers.windows in
     rw c.in-Menu.is (
       Ok c.in-Ok-perform-2.reply,
       refl,
@@ -124,10 +134,11 @@ returns-in-Ok-perform-2-clause-step g c =
 
 pub returns-in-Err-perform-2-clause-whole : goal.returns-in-Err-perform-2-clause-whole
 returns-in-Err-perform-2-clause-whole g c =
-    let done = c.in-Err-perform-2.ensures (λ p. holds c.args.self.now.updates.begun p) _ c.requires.whole.managers.windows in
+    let done = c.in-Err-perform-2.ensures.step (λ p. holds c.args.self.now.updates.begun p) _ c.requires.whole.managers.windows in
     let may = subst (λ call. gate c.args.self.now.activity (standing_of call) ≡ None) c.in-Menu.is c.requires.admitted in
     let before : Opened = record { activity = c.args.self.now.activity; begun = λ p. holds c.args.self.now.updates.begun p } in
     let after : Opened = record { activity = c.perform-in-Menu.new.activity; begun = λ p. holds c.args.self.now.updates.begun p } in
+    let none = menu_outlines_none c.in-Menu.call (Err c.in-Err-perform-2.refusal) _ _ c.perform-in-Menu.new.windows c.perform-in-Menu.new.front may done.2 in
     record {
       windows = done.0;
       updates = updates_after_menu _ c.args.self.now.windows c.perform-in-Menu.new.windows c.args.self.now.updates _ _ before after _ _ c.in-Menu.call (Err c.in-Err-perform-2.refusal) may done.2 c.requires.whole.managers.updates;
@@ -135,11 +146,12 @@ returns-in-Err-perform-2-clause-whole g c =
       lists = menus_leave_lists c.in-Menu.call (Err c.in-Err-perform-2.refusal) _ _ _ done.2 c.requires.whole.managers.lists;
       trackable = menu_trackable c.in-Menu.call (Err c.in-Err-perform-2.refusal) _ _ _ may done.2;
       menus = done.1;
+      front = record { menu = c.in-Err-perform-2.ensures.front; kept = none.0; outline = none.1 };
     }
 
 pub returns-in-Err-perform-2-clause-step : goal.returns-in-Err-perform-2-clause-step
 returns-in-Err-perform-2-clause-step g c =
-    let done = c.in-Err-perform-2.ensures (λ p. holds c.args.self.now.updates.begun p) _ c.requires.whole.managers.windows in
+    let done = c.in-Err-perform-2.ensures.step (λ p. holds c.args.self.now.updates.begun p) _ c.requires.whole.managers.windows in
     rw c.in-Menu.is (
       Err c.in-Err-perform-2.refusal,
       refl,

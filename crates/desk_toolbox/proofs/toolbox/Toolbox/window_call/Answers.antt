@@ -114,7 +114,9 @@ returns-in-Ok-clause-whole g c =
     let done = c.in-Ok.ensures in
     let told = caught_up_so c.args.call.now c.args.nature c.requires.nature _ mid c.follow.new.windows c.follow.ensures.told _ done.whole in
     let updates = updates_after_window _ old.windows mid old.updates _ _ old.activity c.args.call.now (Ok c.in-Ok.reply) c.requires.admitted done.step c.requires.whole.managers.updates in
-    let menus = window_whole _ _ old.windows mid _ _ _ _ old.activity c.args.call.now (Ok c.in-Ok.reply) c.requires.admitted done.step c.requires.whole.managers.menus in
+    let menus =
+    followed_whole loan menu_loan mid c.follow.new.windows old.menus old.front _ _ _ old.activity c.args.call.now c.requires.admitted told.1
+    (window_whole _ _ old.windows mid _ _ _ _ _ old.activity c.args.call.now (Ok c.in-Ok.reply) c.requires.admitted done.step (record { menus = c.requires.whole.managers.menus; front = c.requires.whole.managers.front })) in
     let before : ToolboxState = toolbox_state loan menu_loan control_loan list_loan old ((stock.all_slots-value g.dyn-1 g.dyn-2 g.dyn-4 g.dyn-3).it c.args.stock.now) in
     let after : ToolboxState = record {
       desk = desk_with (opened old.activity old.updates) (state_showing (controls_show (lists_show (lists.records_of list_loan c.forget.new.lists)) (records_of control_loan c.forget.new.controls)) (state_of loan c.follow.new.windows (window_slots c.perform.new.stock)));
@@ -133,7 +135,8 @@ returns-in-Ok-clause-whole g c =
       controls = right.controls;
       lists = right.lists;
       trackable = left_trackable c.args.call.now before after c.requires.admitted refl step.controls c.requires.whole.managers.trackable;
-      menus = followed_whole loan menu_loan mid c.follow.new.windows old.menus _ _ _ old.activity c.args.call.now c.requires.admitted told.1 menus;
+      menus = menus.menus;
+      front = menus.front;
     }
 
 pub returns-in-Ok-clause-economy : goal.returns-in-Ok-clause-economy
@@ -166,12 +169,16 @@ returns-in-Err-clause-whole g c =
     let o = opened old.activity old.updates in
     let same = refused_keeps_desk None c.args.call.now c.in-Err.refusal (desk_with o (state_of loan old.windows _)) (desk_with o (state_of loan c.perform.new.self _)) (record { activity = refl; begun = refl }, done.step) in
     let windows = ap (λ (d : FullDesk). d.windows) same in
+    let menus =
+    window_whole _ _ old.windows c.perform.new.self _ _ _ _ _ old.activity c.args.call.now (Err c.in-Err.refusal) c.requires.admitted done.step
+    (record { menus = c.requires.whole.managers.menus; front = c.requires.whole.managers.front }) in
     record {
       windows = done.whole;
       updates = updates_after_window _ old.windows c.perform.new.self old.updates _ _ old.activity c.args.call.now (Err c.in-Err.refusal) c.requires.admitted done.step c.requires.whole.managers.updates;
       controls = subst (λ ws. AreWholeControls ws (controls_state control_loan old.controls ((control_stock.slots-value g.dyn-2).it c.args.stock.now.controls))) (sym windows) c.requires.whole.managers.controls;
       trackable = c.requires.whole.managers.trackable;
-      menus = window_whole _ _ old.windows c.perform.new.self _ _ _ _ old.activity c.args.call.now (Err c.in-Err.refusal) c.requires.admitted done.step c.requires.whole.managers.menus;
+      menus = menus.menus;
+      front = menus.front;
       lists = subst (λ ws. AreWholeLists ws (lists_state list_loan old.lists ((list_stock.slots-value g.dyn-4).it c.args.stock.now.lists))) (sym windows) c.requires.whole.managers.lists;
     }
 
