@@ -18,3 +18,4 @@ pub mod Making
 pub mod Ending
 pub mod ItemsClosing
 pub mod ControlClosing
+pub mod Boxed

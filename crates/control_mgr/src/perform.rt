@@ -1,19 +1,17 @@
 //! Calls, one by one.
-ghost use Rattle.std.specs.Prelude.{◌≡◌, [], None};
+ghost use Rattle.std.specs.Prelude.{◌≡◌, None};
 ghost use Rattle.tb_geom.specs.Points.{PixelSet};
 ghost use Rattle.desk_call.specs.Gates.{control_standing, gate};
-ghost use Rattle.window_mgr.specs.Kept.{IsKept};
-ghost use Rattle.window_mgr.specs.Records.{desk_of};
 ghost use Rattle.control_mgr.specs.ControlSteps.{IsControlStep};
 ghost use Rattle.control_mgr.specs.Damages.{IsWhereRight};
 ghost use Rattle.control_mgr.specs.Spots.{opened};
-ghost use Rattle.control_mgr.specs.WholeControls.{AreWholeControls, IsTrackable, LeavesOver, controls_state, records_of};
+ghost use Rattle.control_mgr.specs.WholeControls.{IsTrackable};
 
-use crate::Controls;
-use def_iface::{ControlStock, Defined, Stocked, TakenControl, TakenWindow};
+use crate::{Controls, DeskControls};
+use def_iface::{ControlStock, TakenControl};
 use desk_call::{Activity, ControlCall, ControlReply};
 use tb_geom::Refusal;
-use window_mgr::WindowManager;
+use window_mgr::{DeskWindows, WindowManager};
 
 impl Controls<TakenControl> {
     /// Performs one call on these controls of these windows, which may come while this is open, and gives its answer. A refused
@@ -26,16 +24,14 @@ impl Controls<TakenControl> {
         call: &ControlCall<'_>,
         stock: &mut ControlStock,
     ) -> Result<ControlReply, Refusal>
-        requires kept { IsKept ⟦<TakenWindow as Defined>⟧.loan windows.old }
-        requires whole { AreWholeControls (desk_of ⟦<TakenWindow as Defined>⟧.loan windows.old []).windows
-            (controls_state ⟦<TakenControl as Defined>⟧.loan self.old (⟦<ControlStock as Stocked>⟧.slots stock.old)) }
-        requires trackable { IsTrackable activity.old (records_of ⟦<TakenControl as Defined>⟧.loan self.old) }
+        requires kept { ⟦<WindowManager as DeskWindows>⟧.IsKept windows.old }
+        requires whole { ⟦<Self as DeskControls>⟧.IsWhole windows.old self.old stock.old }
+        requires trackable { IsTrackable activity.old (⟦<Self as DeskControls>⟧.records self.old) }
         requires admitted { gate activity.old (control_standing call.now) ≡ None }
-        ensures step { (begun : PixelSet) → LeavesOver ⟦<TakenControl as Defined>⟧.loan ⟦<TakenWindow as Defined>⟧.loan
-            (⟦<ControlStock as Stocked>⟧.slots stock.old) (⟦<ControlStock as Stocked>⟧.slots stock.new)
+        ensures step { (begun : PixelSet) → ⟦<Self as DeskControls>⟧.LeavesStock stock.old stock.new
             (IsWhereRight (IsControlStep call.now result))
             windows.old (opened activity.old begun) self.old windows.new (opened activity.new begun) self.new }
-        ensures trackable { IsTrackable activity.new (records_of ⟦<TakenControl as Defined>⟧.loan self.new) }
+        ensures trackable { IsTrackable activity.new (⟦<Self as DeskControls>⟧.records self.new) }
     {
         match call {
             ControlCall::New(new) => self.make(windows, new, stock),

@@ -1,24 +1,22 @@
 //! What changes of a control but where it lies: its setting, its highlighting and its title.
-ghost use Rattle.std.specs.Prelude.{◌≡◌, ◌<◌, [], true, pos, length, slice_get, IfSome};
+ghost use Rattle.std.specs.Prelude.{◌≡◌, ◌<◌, true, pos, length, slice_get, IfSome};
 ghost use Rattle.control_values.specs.Highlights.{is_highlight};
 ghost use Rattle.desk_call.specs.declared.control.ControlOf.{ControlOf as Named};
 ghost use Rattle.desk_call.specs.declared.control.ControlCall.TheVariants as asks;
-ghost use Rattle.window_mgr.specs.Kept.{IsKept};
 ghost use Rattle.window_mgr.specs.DeskStates.{Opened};
 ghost use Rattle.control_mgr.specs.ControlSteps.{IsControlStep};
 ghost use Rattle.control_mgr.specs.Damages.{IsPut, IsSettingGiven, IsWhereRight};
 ghost use Rattle.control_mgr.specs.Settled.{MayHaveSetting};
 ghost use Rattle.control_mgr.specs.Spots.{IsSpot, IsSpotOf, with_state};
-ghost use Rattle.control_mgr.specs.WholeControls.{AreBeside, LeavesControls, records_of};
 
-use crate::Controls;
 use crate::spots::ControlAt;
+use crate::{Controls, DeskControls};
 use control_values::{ControlValues, Highlight};
 use def_iface::{Defined, TakenControl, TakenWindow};
 use desk_call::{ControlNumber, ControlOf, ControlReply, ControlTitle};
 use draw_port::ShortText;
 use tb_geom::Refusal;
-use window_mgr::WindowManager;
+use window_mgr::{DeskWindows, WindowManager};
 
 /// What a control shows beside where it lies.
 #[derive(Drop)]
@@ -43,7 +41,7 @@ impl Controls<TakenControl> {
     /// The state of the control at this index.
     pub(crate) fn state(&self, at: usize) -> State
         requires { at < length self.now.list.items.items }
-        ensures { IfSome (slice_get (records_of ⟦<TakenControl as Defined>⟧.loan self.now) at) (λ c.
+        ensures { IfSome (slice_get (⟦<Self as DeskControls>⟧.records self.now) at) (λ c.
             result ≡ record { values = c.kept.values; highlight = c.kept.highlight; title = c.kept.title }) }
     {
         let control = &self.list.items[at];
@@ -56,14 +54,13 @@ impl Controls<TakenControl> {
 
     /// Gives a control this state, and draws it within the damage where it is not to be redrawn. Takes no memory.
     pub(crate) fn put(&mut self, windows: &mut WindowManager, spot: ControlAt, state: State)
-        requires kept { IsKept ⟦<TakenWindow as Defined>⟧.loan windows.old }
-        requires beside { AreBeside ⟦<TakenControl as Defined>⟧.loan ⟦<TakenWindow as Defined>⟧.loan windows.old
-            self.old }
+        requires kept { ⟦<WindowManager as DeskWindows>⟧.IsKept windows.old }
+        requires beside { ⟦<Self as DeskControls>⟧.AreBeside windows.old self.old }
         requires spot { IsSpot ⟦<TakenWindow as Defined>⟧.loan ⟦<TakenControl as Defined>⟧.loan windows.old self.old
             spot }
         ensures { (c : Named) → IsSpotOf ⟦<TakenWindow as Defined>⟧.loan ⟦<TakenControl as Defined>⟧.loan c windows.old
             self.old spot
-            → (o u : Opened) → LeavesControls ⟦<TakenControl as Defined>⟧.loan ⟦<TakenWindow as Defined>⟧.loan
+            → (o u : Opened) → ⟦<Self as DeskControls>⟧.Leaves
             (IsPut c (with_state state)) windows.old o self.old windows.new u self.new }
     {
         say_bounds(state.values, state.highlight);
@@ -84,10 +81,9 @@ impl Controls<TakenControl> {
         control: ControlOf,
         values: ControlValues,
     )
-        requires kept { IsKept ⟦<TakenWindow as Defined>⟧.loan windows.old }
-        requires beside { AreBeside ⟦<TakenControl as Defined>⟧.loan ⟦<TakenWindow as Defined>⟧.loan windows.old
-            self.old }
-        ensures { (o u : Opened) → LeavesControls ⟦<TakenControl as Defined>⟧.loan ⟦<TakenWindow as Defined>⟧.loan
+        requires kept { ⟦<WindowManager as DeskWindows>⟧.IsKept windows.old }
+        requires beside { ⟦<Self as DeskControls>⟧.AreBeside windows.old self.old }
+        ensures { (o u : Opened) → ⟦<Self as DeskControls>⟧.Leaves
             (IsSettingGiven control values) windows.old o self.old windows.new u self.new }
     {
         if let Ok(spot) = self.spot(windows, control) {
@@ -103,10 +99,9 @@ impl Controls<TakenControl> {
         windows: &mut WindowManager,
         set: ControlNumber,
     ) -> Result<ControlReply, Refusal>
-        requires kept { IsKept ⟦<TakenWindow as Defined>⟧.loan windows.old }
-        requires beside { AreBeside ⟦<TakenControl as Defined>⟧.loan ⟦<TakenWindow as Defined>⟧.loan windows.old
-            self.old }
-        ensures { (o : Opened) → LeavesControls ⟦<TakenControl as Defined>⟧.loan ⟦<TakenWindow as Defined>⟧.loan
+        requires kept { ⟦<WindowManager as DeskWindows>⟧.IsKept windows.old }
+        requires beside { ⟦<Self as DeskControls>⟧.AreBeside windows.old self.old }
+        ensures { (o : Opened) → ⟦<Self as DeskControls>⟧.Leaves
             (IsWhereRight (IsControlStep (asks.SetValue set) result)) windows.old o self.old windows.new o self.new }
     {
         let spot = self.spot(windows, set.control)?;
@@ -122,10 +117,9 @@ impl Controls<TakenControl> {
         windows: &mut WindowManager,
         set: ControlNumber,
     ) -> Result<ControlReply, Refusal>
-        requires kept { IsKept ⟦<TakenWindow as Defined>⟧.loan windows.old }
-        requires beside { AreBeside ⟦<TakenControl as Defined>⟧.loan ⟦<TakenWindow as Defined>⟧.loan windows.old
-            self.old }
-        ensures { (o : Opened) → LeavesControls ⟦<TakenControl as Defined>⟧.loan ⟦<TakenWindow as Defined>⟧.loan
+        requires kept { ⟦<WindowManager as DeskWindows>⟧.IsKept windows.old }
+        requires beside { ⟦<Self as DeskControls>⟧.AreBeside windows.old self.old }
+        ensures { (o : Opened) → ⟦<Self as DeskControls>⟧.Leaves
             (IsWhereRight (IsControlStep (asks.SetMinimum set) result)) windows.old o self.old windows.new o self.new }
     {
         let spot = self.spot(windows, set.control)?;
@@ -141,10 +135,9 @@ impl Controls<TakenControl> {
         windows: &mut WindowManager,
         set: ControlNumber,
     ) -> Result<ControlReply, Refusal>
-        requires kept { IsKept ⟦<TakenWindow as Defined>⟧.loan windows.old }
-        requires beside { AreBeside ⟦<TakenControl as Defined>⟧.loan ⟦<TakenWindow as Defined>⟧.loan windows.old
-            self.old }
-        ensures { (o : Opened) → LeavesControls ⟦<TakenControl as Defined>⟧.loan ⟦<TakenWindow as Defined>⟧.loan
+        requires kept { ⟦<WindowManager as DeskWindows>⟧.IsKept windows.old }
+        requires beside { ⟦<Self as DeskControls>⟧.AreBeside windows.old self.old }
+        ensures { (o : Opened) → ⟦<Self as DeskControls>⟧.Leaves
             (IsWhereRight (IsControlStep (asks.SetMaximum set) result)) windows.old o self.old windows.new o self.new }
     {
         let spot = self.spot(windows, set.control)?;
@@ -160,10 +153,9 @@ impl Controls<TakenControl> {
         windows: &mut WindowManager,
         set: ControlNumber,
     ) -> Result<ControlReply, Refusal>
-        requires kept { IsKept ⟦<TakenWindow as Defined>⟧.loan windows.old }
-        requires beside { AreBeside ⟦<TakenControl as Defined>⟧.loan ⟦<TakenWindow as Defined>⟧.loan windows.old
-            self.old }
-        ensures { (o : Opened) → LeavesControls ⟦<TakenControl as Defined>⟧.loan ⟦<TakenWindow as Defined>⟧.loan
+        requires kept { ⟦<WindowManager as DeskWindows>⟧.IsKept windows.old }
+        requires beside { ⟦<Self as DeskControls>⟧.AreBeside windows.old self.old }
+        ensures { (o : Opened) → ⟦<Self as DeskControls>⟧.Leaves
             (IsWhereRight (IsControlStep (asks.Hilite set) result)) windows.old o self.old windows.new o self.new }
     {
         let spot = self.spot(windows, set.control)?;
@@ -179,10 +171,9 @@ impl Controls<TakenControl> {
         windows: &mut WindowManager,
         set: &ControlTitle<'_>,
     ) -> Result<ControlReply, Refusal>
-        requires kept { IsKept ⟦<TakenWindow as Defined>⟧.loan windows.old }
-        requires beside { AreBeside ⟦<TakenControl as Defined>⟧.loan ⟦<TakenWindow as Defined>⟧.loan windows.old
-            self.old }
-        ensures { (o : Opened) → LeavesControls ⟦<TakenControl as Defined>⟧.loan ⟦<TakenWindow as Defined>⟧.loan
+        requires kept { ⟦<WindowManager as DeskWindows>⟧.IsKept windows.old }
+        requires beside { ⟦<Self as DeskControls>⟧.AreBeside windows.old self.old }
+        ensures { (o : Opened) → ⟦<Self as DeskControls>⟧.Leaves
             (IsWhereRight (IsControlStep (asks.SetTitle set.now) result)) windows.old o self.old windows.new o
             self.new }
     {

@@ -11,6 +11,7 @@ pub mod GivenBars
 pub mod Consistent
 pub mod Histories
 pub mod ClassLaws
+pub mod OneClass
 pub mod Shown
 pub mod FrontLaws
 pub mod FindLaws

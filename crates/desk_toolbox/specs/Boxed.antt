@@ -9,7 +9,9 @@ use Rattle.def_iface.specs.declared.stock.Stock.{Stock}
 use Rattle.def_iface.specs.declared.window_def.WindowDef as window_def
 use Rattle.def_iface.specs.Boxed.{all_slots_by, control_loan_by, list_loan_by, menu_loan_by, window_loan_by}
 use Rattle.def_iface.specs.Stocks.{AllSlots}
+use Rattle.desk_call.specs.declared.call.Call.{Call}
 use Rattle.desk_toolbox.specs.declared.toolbox.Toolbox.{Toolbox}
+use Rattle.desk_toolbox.specs.Economy.{IsCallEconomical}
 use Rattle.desk_toolbox.specs.ToolboxStates.{ToolboxState}
 use Rattle.desk_toolbox.specs.WholeToolbox.{AreWholeManagers, IsKeptToolbox, IsWholeToolbox, toolbox_state}
 
@@ -49,3 +51,7 @@ module _ {V : Type 0} {H : V → Type 0} (window : (b : DynBox V Global H) → w
 
   abbrev pub HasWholeManagers : Toolbox V U W X H J K L → Stock V U X W H J L K → Type 0
   HasWholeManagers t stock = HasWholeManagersOver t (all_slots_by window menu control list stock)
+
+  -- a call was economical, between these two
+  abbrev pub IsEconomical : Call → Toolbox V U W X H J K L → Toolbox V U W X H J K L → Type 0
+  IsEconomical call before after = IsCallEconomical (window_loan_by window) call before.windows after.windows

@@ -1,12 +1,12 @@
 //! The answers to calls, each by its manager.
-ghost use Rattle.std.specs.Prelude.{◌≡◌, None, IfOk};
+ghost use Rattle.std.specs.Prelude.{◌≡◌, None};
 ghost use Rattle.def_iface.specs.Stocks.{AllSlots};
 ghost use Rattle.desk_call.specs.declared.window.WindowCall.{WindowCall as Named};
 ghost use Rattle.desk_call.specs.Gates.{control_standing, gate, list_standing, standing_of, update_standing, window_standing};
 ghost use Rattle.desk_call.specs.Natures.{control_asks, nature_of, window_ends, window_nature};
 ghost use Rattle.control_mgr.specs.InUse.{AreStocked};
-ghost use Rattle.control_mgr.specs.WholeControls.{AreLiveControls, controls_state, records_of, slots_of};
-ghost use Rattle.list_mgr.specs.WholeLists.{AreLiveLists, lists_state};
+ghost use Rattle.control_mgr.specs.WholeControls.{AreLiveControls, slots_of};
+ghost use Rattle.list_mgr.specs.WholeLists.{AreLiveLists};
 ghost use Rattle.list_mgr.specs.WholeLists as whole_lists;
 ghost use Rattle.window_frame.specs.Economy.{IsEconomical, windows_of};
 ghost use Rattle.window_frame.specs.Followers.{AreInformed};
@@ -22,13 +22,13 @@ use crate::{
     Call, ControlCall, ControlReply, Desk, EventCall, EventReply, Found, ListCall, ListReply,
     PointInWindow, Reply, Toolbox, UpdateCall, WindowCall, WindowPart, WindowReply,
 };
-use control_mgr::Controls;
+use control_mgr::{Controls, DeskControls};
 use def_iface::{
     ControlStock, Defined, ListStock, Stock, Stocked, StockedAll, TakenControl, TakenList,
     TakenWindow,
 };
 use desk_call::{Asked, Nature};
-use list_mgr::{Contents, Lists};
+use list_mgr::{Contents, DeskLists, Lists};
 use tb_geom::Refusal;
 use window_frame::follow;
 use window_list::picture_place;
@@ -268,25 +268,21 @@ fn forget(
     control_stock: &mut ControlStock,
     list_stock: &mut ListStock,
 )
-    requires live { AreLiveControls (records_of ⟦<TakenControl as Defined>⟧.loan controls.old) }
+    requires live { AreLiveControls (⟦<Controls<TakenControl> as DeskControls>⟧.records controls.old) }
     requires stocked { AreStocked (λ d. d.stage)
-        (slots_of (records_of ⟦<TakenControl as Defined>⟧.loan controls.old))
+        (slots_of (⟦<Controls<TakenControl> as DeskControls>⟧.records controls.old))
         (⟦<ControlStock as Stocked>⟧.slots control_stock.old) }
-    requires live_lists { AreLiveLists (whole_lists.records_of ⟦<TakenList as Defined>⟧.loan lists.old) }
+    requires live_lists { AreLiveLists (⟦<Lists<TakenList> as DeskLists>⟧.records lists.old) }
     requires stocked_lists { AreStocked (λ d. d.stage)
-        (whole_lists.slots_of (whole_lists.records_of ⟦<TakenList as Defined>⟧.loan lists.old))
+        (whole_lists.slots_of (⟦<Lists<TakenList> as DeskLists>⟧.records lists.old))
         (⟦<ListStock as Stocked>⟧.slots list_stock.old) }
     ensures events { (call : Named) → window_ends call ≡ ends → events.new ≡ events_left call events.old }
     ensures controls { (call : Named) → window_ends call ≡ ends → AreControlsLeft call
-        (controls_state ⟦<TakenControl as Defined>⟧.loan controls.old
-        (⟦<ControlStock as Stocked>⟧.slots control_stock.old))
-        (controls_state ⟦<TakenControl as Defined>⟧.loan controls.new
-        (⟦<ControlStock as Stocked>⟧.slots control_stock.new)) }
+        (⟦<Controls<TakenControl> as DeskControls>⟧.state controls.old control_stock.old)
+        (⟦<Controls<TakenControl> as DeskControls>⟧.state controls.new control_stock.new) }
     ensures lists { (call : Named) → window_ends call ≡ ends → AreListsLeft call
-        (lists_state ⟦<TakenList as Defined>⟧.loan lists.old
-        (⟦<ListStock as Stocked>⟧.slots list_stock.old))
-        (lists_state ⟦<TakenList as Defined>⟧.loan lists.new
-        (⟦<ListStock as Stocked>⟧.slots list_stock.new)) }
+        (⟦<Lists<TakenList> as DeskLists>⟧.state lists.old list_stock.old)
+        (⟦<Lists<TakenList> as DeskLists>⟧.state lists.new list_stock.new) }
 {
     if let Some(window) = ends {
         events.forget(window);

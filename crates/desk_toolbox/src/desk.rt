@@ -1,5 +1,6 @@
 //! A Toolbox over its stock, as contracts see the two.
 ghost use Rattle.def_iface.specs.Stocks.{AllSlots};
+ghost use Rattle.desk_call.specs.declared.call.Call.{Call as Named};
 ghost use Rattle.desk_toolbox.specs.Boxed as boxed;
 ghost use Rattle.desk_toolbox.specs.ToolboxStates.{ToolboxState};
 
@@ -35,6 +36,10 @@ pub trait Desk {
 
     /// Each of its managers is whole over slots.
     ghost HasWholeManagersOver: { Self → AllSlots → Type 0 };
+
+    /// A call that moves, sizes, shows, hides, selects, sends behind or disposes of a window was economical, between these two: it
+    /// wrote pixels only where their owner changed, the window moved, or a frame changed. Of other calls it says nothing.
+    ghost IsEconomical: { Named → Self → Self → Type 0 };
 }
 
 impl Desk for Toolbox {
@@ -60,4 +65,6 @@ impl Desk for Toolbox {
     ghost HasWholeManagers = { boxed.HasWholeManagers WindowDef-box MenuDef-box ControlDef-box ListDef-box };
 
     ghost HasWholeManagersOver = { boxed.HasWholeManagersOver WindowDef-box MenuDef-box ControlDef-box ListDef-box };
+
+    ghost IsEconomical = { boxed.IsEconomical WindowDef-box MenuDef-box ControlDef-box ListDef-box };
 }

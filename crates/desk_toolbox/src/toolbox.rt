@@ -4,7 +4,6 @@ ghost use Rattle.tb_geom.specs.Rects.{rect_holds};
 ghost use Rattle.def_iface.specs.WindowSlots.{WindowSlot, IsFull};
 ghost use Rattle.def_iface.specs.Stocks.{AllSlots, AreAllFull};
 ghost use Rattle.desk_ground.specs.Screens as screens;
-ghost use Rattle.window_mgr.specs.Begin.{IsEmptyDesk};
 ghost use Rattle.window_mgr.specs.Closing.{IsClosed};
 ghost use Rattle.window_mgr.specs.FullDesk.{IsRightState};
 ghost use Rattle.window_mgr.specs.Refused.{is_missing};
@@ -39,7 +38,7 @@ use std::alloc::{AllocError, Global};
 use strike_font::Font;
 use tb_geom::{Rect, Refusal};
 use window_list::{Ranks, WindowList};
-use window_mgr::{NotBegun, WindowManager};
+use window_mgr::{DeskWindows, NotBegun, WindowManager};
 use window_update::Updates;
 
 /// A desk: its screen, its windows with their controls and lists, what of them has to be drawn, its menus, what is open, and the events that are to be told.
@@ -103,7 +102,7 @@ impl Toolbox {
         font: Font,
     ) -> Result<Toolbox, NotBegun>
         ensures begun { IfOk result (λ t. (slots : List WindowSlot) → All IsFull slots
-            → IsEmptyDesk ⟦<TakenWindow as Defined>⟧.loan width height bar font t.windows slots) }
+            → ⟦<WindowManager as DeskWindows>⟧.IsEmpty width height bar font t.windows slots) }
         ensures idle { IfOk result (λ t. t.activity ≡ Idle) }
         ensures events { IfOk result (λ t. t.events ≡ first_events) }
         ensures whole { IfOk result (λ t. (stocks : AllSlots) → AreAllFull stocks
@@ -143,7 +142,7 @@ impl Toolbox {
         requires menus { AreNoMenus parts.menus }
         requires front { (pos parts.front.front.width ≡ width) × (pos parts.front.front.height ≡ height) }
         ensures begun { IfOk result (λ t. (slots : List WindowSlot) → All IsFull slots
-            → IsEmptyDesk ⟦<TakenWindow as Defined>⟧.loan width height bar font t.windows slots) }
+            → ⟦<WindowManager as DeskWindows>⟧.IsEmpty width height bar font t.windows slots) }
         ensures idle { IfOk result (λ t. t.activity ≡ Idle) }
         ensures events { IfOk result (λ t. t.events ≡ parts.events) }
         ensures menus { IfOk result (λ t. t.menus ≡ parts.menus) }
@@ -313,7 +312,8 @@ impl Toolbox {
     }
 
     /// Ends the desk: the definition of every window, control, list and menu is disposed of, and put back Closed into its slot,
-    /// while every other slot stays as it was. Takes no memory, and refuses nothing.
+    /// while every other slot stays as it was: so each slot is full again, and a desk can begin with them. Takes no memory, and
+    /// refuses nothing.
     pub fn close(self, stock: &mut Stock)
         requires { ⟦<Self as Desk>⟧.IsWhole self stock.old }
         ensures windows { let old = ⟦<Self as Desk>⟧.state self stock.old in
@@ -326,6 +326,7 @@ impl Toolbox {
             AreAllListsClosed old.lists.lists old.lists.stock (⟦<Stock as StockedAll>⟧.all_slots stock.new).lists }
         ensures menus { let old = ⟦<Self as Desk>⟧.state self stock.old in
             AreMenusClosed old.menus.menus old.menus.stock (⟦<Stock as StockedAll>⟧.all_slots stock.new).menus }
+        ensures full { AreAllFull (⟦<Stock as StockedAll>⟧.all_slots stock.new) }
     {
         let Toolbox {
             windows,

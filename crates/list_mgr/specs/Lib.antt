@@ -19,3 +19,4 @@ pub mod Making
 pub mod NewBars
 pub mod Putting
 pub mod Offers
+pub mod Boxed

@@ -17,6 +17,7 @@
 mod asking;
 mod bars;
 mod changing;
+mod desk_lists;
 mod drawing;
 mod ending;
 mod judging;
@@ -32,6 +33,7 @@ mod putting;
 mod selecting;
 mod spots;
 
+pub use desk_lists::DeskLists;
 pub use drawing::Contents;
 pub use judging::{MOST_LISTS, form_refusal};
 pub use list_record::ListRecord;

@@ -2,25 +2,22 @@
 ghost use Rattle.std.specs.Prelude.{◌≡◌, ◌<◌, length, slice_get, IfSome};
 ghost use Rattle.desk_call.specs.declared.list.ListCall.TheVariants as asks;
 ghost use Rattle.window_items.specs.Items.{edit_at};
-ghost use Rattle.window_mgr.specs.Kept.{IsKept};
-ghost use Rattle.control_mgr.specs.WholeControls.{AreBeside as AreControlsBeside};
 ghost use Rattle.list_mgr.specs.Changing.{IsMark, IsSameOrNot};
 ghost use Rattle.list_mgr.specs.Lines.{IsShownWithBars};
 ghost use Rattle.list_mgr.specs.ListSteps.{IsListStep, with_scroll};
 ghost use Rattle.list_mgr.specs.Spots.{IsSpot};
-ghost use Rattle.list_mgr.specs.WholeLists.{AreBeside, LeavesLists, records_of};
 ghost use Rattle.list_mgr.specs.Within.{IsWhereRight};
 
-use crate::Lists;
 use crate::lines_from::{columns_from, line_number, rows_from};
 use crate::spots::ListAt;
-use control_mgr::Controls;
+use crate::{DeskLists, Lists};
+use control_mgr::{Controls, DeskControls};
 use def_iface::{Defined, TakenControl, TakenList, TakenWindow};
 use desk_call::{ListLines, ListReply, ScrollList};
 use list_view::ListView;
 use scan_region::Region;
 use tb_geom::{Rect, Refusal};
-use window_mgr::WindowManager;
+use window_mgr::{DeskWindows, WindowManager};
 
 /// Whether two views differ.
 fn differ(old: ListView, new: ListView) -> bool
@@ -33,10 +30,10 @@ impl Lists<TakenList> {
     /// Scrolls the list that stands here, as far as there are cells to be seen, and says whether it is scrolled otherwise then.
     fn scroll_by(&mut self, spot: ListAt, columns: i32, rows: i32) -> bool
         requires { spot.list < length self.old.list.items.items }
-        ensures lists { records_of ⟦<TakenList as Defined>⟧.loan self.new
-            ≡ edit_at (with_scroll columns rows) spot.list (records_of ⟦<TakenList as Defined>⟧.loan self.old) }
+        ensures lists { ⟦<Self as DeskLists>⟧.records self.new
+            ≡ edit_at (with_scroll columns rows) spot.list (⟦<Self as DeskLists>⟧.records self.old) }
         ensures next { self.new.list.next ≡ self.old.list.next }
-        ensures changes { IfSome (slice_get (records_of ⟦<TakenList as Defined>⟧.loan self.old) spot.list)
+        ensures changes { IfSome (slice_get (⟦<Self as DeskLists>⟧.records self.old) spot.list)
             (λ x. IsSameOrNot result (with_scroll columns rows x) x) }
     {
         let list = &self.list.items[spot.list];
@@ -62,10 +59,9 @@ impl Lists<TakenList> {
         mark: Option<Region>,
         changes: bool,
     )
-        requires kept { IsKept ⟦<TakenWindow as Defined>⟧.loan windows.old }
-        requires beside { AreControlsBeside ⟦<TakenControl as Defined>⟧.loan ⟦<TakenWindow as Defined>⟧.loan windows.old
-            controls.old }
-        requires lists { AreBeside ⟦<TakenList as Defined>⟧.loan ⟦<TakenWindow as Defined>⟧.loan windows.old self.now }
+        requires kept { ⟦<WindowManager as DeskWindows>⟧.IsKept windows.old }
+        requires beside { ⟦<Controls<TakenControl> as DeskControls>⟧.AreBeside windows.old controls.old }
+        requires lists { ⟦<Self as DeskLists>⟧.AreBeside windows.old self.now }
         requires spot { IsSpot ⟦<TakenWindow as Defined>⟧.loan ⟦<TakenList as Defined>⟧.loan windows.old self.now spot }
         requires mark { IsMark ⟦<TakenList as Defined>⟧.loan ⟦<TakenWindow as Defined>⟧.loan windows.old self.now spot
             mark }
@@ -84,12 +80,10 @@ impl Lists<TakenList> {
         controls: &mut Controls<TakenControl>,
         lines: ListLines,
     ) -> Result<ListReply, Refusal>
-        requires kept { IsKept ⟦<TakenWindow as Defined>⟧.loan windows.old }
-        requires beside { AreControlsBeside ⟦<TakenControl as Defined>⟧.loan ⟦<TakenWindow as Defined>⟧.loan windows.old
-            controls.old }
-        requires lists { AreBeside ⟦<TakenList as Defined>⟧.loan ⟦<TakenWindow as Defined>⟧.loan windows.old self.old }
-        ensures { LeavesLists ⟦<TakenList as Defined>⟧.loan ⟦<TakenWindow as Defined>⟧.loan
-            ⟦<TakenControl as Defined>⟧.loan
+        requires kept { ⟦<WindowManager as DeskWindows>⟧.IsKept windows.old }
+        requires beside { ⟦<Controls<TakenControl> as DeskControls>⟧.AreBeside windows.old controls.old }
+        requires lists { ⟦<Self as DeskLists>⟧.AreBeside windows.old self.old }
+        ensures { ⟦<Self as DeskLists>⟧.Leaves
             (IsWhereRight (IsListStep (asks.AddRows lines) result)) windows.old controls.old self.old windows.new
             controls.new self.new }
     {
@@ -119,12 +113,10 @@ impl Lists<TakenList> {
         controls: &mut Controls<TakenControl>,
         lines: ListLines,
     ) -> Result<ListReply, Refusal>
-        requires kept { IsKept ⟦<TakenWindow as Defined>⟧.loan windows.old }
-        requires beside { AreControlsBeside ⟦<TakenControl as Defined>⟧.loan ⟦<TakenWindow as Defined>⟧.loan windows.old
-            controls.old }
-        requires lists { AreBeside ⟦<TakenList as Defined>⟧.loan ⟦<TakenWindow as Defined>⟧.loan windows.old self.old }
-        ensures { LeavesLists ⟦<TakenList as Defined>⟧.loan ⟦<TakenWindow as Defined>⟧.loan
-            ⟦<TakenControl as Defined>⟧.loan
+        requires kept { ⟦<WindowManager as DeskWindows>⟧.IsKept windows.old }
+        requires beside { ⟦<Controls<TakenControl> as DeskControls>⟧.AreBeside windows.old controls.old }
+        requires lists { ⟦<Self as DeskLists>⟧.AreBeside windows.old self.old }
+        ensures { ⟦<Self as DeskLists>⟧.Leaves
             (IsWhereRight (IsListStep (asks.AddColumns lines) result)) windows.old controls.old self.old windows.new
             controls.new self.new }
     {
@@ -154,12 +146,10 @@ impl Lists<TakenList> {
         controls: &mut Controls<TakenControl>,
         lines: ListLines,
     ) -> Result<ListReply, Refusal>
-        requires kept { IsKept ⟦<TakenWindow as Defined>⟧.loan windows.old }
-        requires beside { AreControlsBeside ⟦<TakenControl as Defined>⟧.loan ⟦<TakenWindow as Defined>⟧.loan windows.old
-            controls.old }
-        requires lists { AreBeside ⟦<TakenList as Defined>⟧.loan ⟦<TakenWindow as Defined>⟧.loan windows.old self.old }
-        ensures { LeavesLists ⟦<TakenList as Defined>⟧.loan ⟦<TakenWindow as Defined>⟧.loan
-            ⟦<TakenControl as Defined>⟧.loan
+        requires kept { ⟦<WindowManager as DeskWindows>⟧.IsKept windows.old }
+        requires beside { ⟦<Controls<TakenControl> as DeskControls>⟧.AreBeside windows.old controls.old }
+        requires lists { ⟦<Self as DeskLists>⟧.AreBeside windows.old self.old }
+        ensures { ⟦<Self as DeskLists>⟧.Leaves
             (IsWhereRight (IsListStep (asks.DeleteRows lines) result)) windows.old controls.old self.old windows.new
             controls.new self.new }
     {
@@ -190,12 +180,10 @@ impl Lists<TakenList> {
         controls: &mut Controls<TakenControl>,
         lines: ListLines,
     ) -> Result<ListReply, Refusal>
-        requires kept { IsKept ⟦<TakenWindow as Defined>⟧.loan windows.old }
-        requires beside { AreControlsBeside ⟦<TakenControl as Defined>⟧.loan ⟦<TakenWindow as Defined>⟧.loan windows.old
-            controls.old }
-        requires lists { AreBeside ⟦<TakenList as Defined>⟧.loan ⟦<TakenWindow as Defined>⟧.loan windows.old self.old }
-        ensures { LeavesLists ⟦<TakenList as Defined>⟧.loan ⟦<TakenWindow as Defined>⟧.loan
-            ⟦<TakenControl as Defined>⟧.loan
+        requires kept { ⟦<WindowManager as DeskWindows>⟧.IsKept windows.old }
+        requires beside { ⟦<Controls<TakenControl> as DeskControls>⟧.AreBeside windows.old controls.old }
+        requires lists { ⟦<Self as DeskLists>⟧.AreBeside windows.old self.old }
+        ensures { ⟦<Self as DeskLists>⟧.Leaves
             (IsWhereRight (IsListStep (asks.DeleteColumns lines) result)) windows.old controls.old self.old windows.new
             controls.new self.new }
     {
@@ -226,12 +214,10 @@ impl Lists<TakenList> {
         controls: &mut Controls<TakenControl>,
         scrolled: ScrollList,
     ) -> Result<ListReply, Refusal>
-        requires kept { IsKept ⟦<TakenWindow as Defined>⟧.loan windows.old }
-        requires beside { AreControlsBeside ⟦<TakenControl as Defined>⟧.loan ⟦<TakenWindow as Defined>⟧.loan windows.old
-            controls.old }
-        requires lists { AreBeside ⟦<TakenList as Defined>⟧.loan ⟦<TakenWindow as Defined>⟧.loan windows.old self.old }
-        ensures { LeavesLists ⟦<TakenList as Defined>⟧.loan ⟦<TakenWindow as Defined>⟧.loan
-            ⟦<TakenControl as Defined>⟧.loan
+        requires kept { ⟦<WindowManager as DeskWindows>⟧.IsKept windows.old }
+        requires beside { ⟦<Controls<TakenControl> as DeskControls>⟧.AreBeside windows.old controls.old }
+        requires lists { ⟦<Self as DeskLists>⟧.AreBeside windows.old self.old }
+        ensures { ⟦<Self as DeskLists>⟧.Leaves
             (IsWhereRight (IsListStep (asks.Scroll scrolled) result)) windows.old controls.old self.old windows.new
             controls.new self.new }
     {

@@ -8,3 +8,4 @@ pub mod WholeMenus
 pub mod MakingSteps
 pub mod Leaving
 pub mod MenuClosing
+pub mod Boxed

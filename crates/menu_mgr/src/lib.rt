@@ -18,6 +18,7 @@
 //! items is highlighted; what it was told last is a part of its meaning. All room but that of items is made when a desk begins.
 #![tactic(auto)]
 
+mod desk_menus;
 mod making;
 mod menus;
 mod painting;
@@ -29,5 +30,6 @@ mod titles;
 pub use desk_call::{
     AppendItems, CheckItem, Choice, InsertMenu, ItemOfMenu, ItemText, MenuCall, MenuReply, NewMenu,
 };
+pub use desk_menus::DeskMenus;
 pub use making::form_refusal;
 pub use menus::Menus;

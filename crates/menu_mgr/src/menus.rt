@@ -2,12 +2,10 @@
 ghost use Rattle.std.specs.Prelude.{◌≡◌, ◌≤◌, [], length, vec_capacity, None};
 ghost use Rattle.menu_list.specs.Lists.{titles_of};
 ghost use Rattle.window_mgr.specs.BarShown.{IsBarShown};
-ghost use Rattle.window_mgr.specs.Kept.{IsKept};
-ghost use Rattle.window_mgr.specs.Updating.{LeavesState};
 ghost use Rattle.menu_mgr.specs.WholeMenus.{AreNoMenus};
 
 use crate::titles::are_shown;
-use def_iface::{Defined, TakenMenu, TakenWindow};
+use def_iface::TakenMenu;
 use menu_list::MenuList;
 use std::alloc::Global;
 use window_mgr::WindowManager;
@@ -33,8 +31,8 @@ impl Menus {
     /// Shows the titles of these menus in the menu bar, which is drawn where it has others. Takes no memory.
     pub(crate) fn show_titles(&self, windows: &mut WindowManager)
         requires few { length self.now.list.menus.items ≤ 16 }
-        requires kept { IsKept ⟦<TakenWindow as Defined>⟧.loan windows.old }
-        ensures { LeavesState ⟦<TakenWindow as Defined>⟧.loan
+        requires kept { ⟦<WindowManager as DeskWindows>⟧.IsKept windows.old }
+        ensures { ⟦<WindowManager as DeskWindows>⟧.LeavesState
             (IsBarShown (titles_of self.now.list.highlighted self.now.list.menus.items)) windows.old windows.new }
     {
         if !are_shown(windows.parts().titles.as_slice(), &self.list) {

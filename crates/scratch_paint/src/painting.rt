@@ -4,8 +4,7 @@ ghost use Rattle.tb_geom.specs.Pixels.{holds};
 ghost use Rattle.bit_blit.specs.Draws.{Draws};
 ghost use Rattle.desk_call.specs.Outlines.{IsOutlineKept};
 ghost use Rattle.vis_update.specs.Records.{record_of};
-ghost use Rattle.window_mgr.specs.Kept.{IsKept};
-ghost use Rattle.window_mgr.specs.Records.{desk_of, desk_showing};
+ghost use Rattle.window_mgr.specs.Records.{desk_showing};
 ghost use Rattle.window_mgr.specs.Whole.{IsSettled};
 ghost use Rattle.menu_mgr.specs.WholeMenus.{AreLive, IsPlaced, menus_of};
 ghost use Rattle.desk_toolbox.specs.Boxed.{no_slots};
@@ -24,7 +23,7 @@ use std::alloc::{AllocError, Global};
 use strike_font::Font;
 use tb_geom::Refusal;
 use window_list::WindowList;
-use window_mgr::{DeskView, WindowManager};
+use window_mgr::{DeskView, DeskWindows, WindowManager};
 use window_paint::Showing;
 
 /// A new map, of the size of the screen, with the whole desk painted from nothing, back to front: what the windows, the menu
@@ -70,10 +69,10 @@ fn paint_base<S: Showing>(
     windows: &WindowManager,
     layers: &S,
 ) -> Result<BitMap, AllocError>
-    requires kept { IsKept ⟦<TakenWindow as Defined>⟧.loan windows.now }
+    requires kept { ⟦<WindowManager as DeskWindows>⟧.IsKept windows.now }
     requires layers { S.is_whole layers.now }
     ensures { IfOk result (IsPaintedDesk
-        (desk_showing (S.shows layers.now) (desk_of ⟦<TakenWindow as Defined>⟧.loan windows.now []))) }
+        (desk_showing (S.shows layers.now) (⟦<WindowManager as DeskWindows>⟧.desk windows.now []))) }
 {
     let DeskView {
         width,
