@@ -41,3 +41,4 @@ pub mod Asked
 pub mod WaitingShown
 pub mod UnderMenus
 pub mod Begun
+pub mod Quiet

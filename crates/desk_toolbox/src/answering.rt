@@ -1,6 +1,7 @@
 //! The answers to calls, each by its manager.
-ghost use Rattle.std.specs.Prelude.{◌≡◌, None};
+ghost use Rattle.std.specs.Prelude.{◌≡◌, [], None, OnErr};
 ghost use Rattle.def_iface.specs.Stocks.{AllSlots};
+ghost use Rattle.desk_call.specs.declared.call.Call.TheVariants as calls;
 ghost use Rattle.desk_call.specs.declared.window.WindowCall.{WindowCall as Named};
 ghost use Rattle.desk_call.specs.Gates.{control_standing, gate, list_standing, standing_of, update_standing, window_standing};
 ghost use Rattle.desk_call.specs.Natures.{control_asks, nature_of, window_ends, window_nature};
@@ -8,9 +9,8 @@ ghost use Rattle.control_mgr.specs.InUse.{AreStocked};
 ghost use Rattle.control_mgr.specs.WholeControls.{AreLiveControls, slots_of};
 ghost use Rattle.list_mgr.specs.WholeLists.{AreLiveLists};
 ghost use Rattle.list_mgr.specs.WholeLists as whole_lists;
-ghost use Rattle.window_frame.specs.Economy.{IsEconomical, windows_of};
 ghost use Rattle.window_frame.specs.Followers.{AreInformed};
-ghost use Rattle.desk_toolbox.specs.Economy.{IsCallEconomical};
+ghost use Rattle.desk_toolbox.specs.Economy.{IsQuietRefusal};
 ghost use Rattle.desk_toolbox.specs.EventSteps.{events_left};
 ghost use Rattle.desk_toolbox.specs.Run.{AreControlsLeft, AreListsLeft, IsAdmitted, IsControlTold, IsEventAnswer};
 ghost use Rattle.desk_toolbox.specs.Run.{IsFormFault, IsListAnswer, IsUpdateTold, IsWindowTold, is_behind_menu};
@@ -32,7 +32,7 @@ use list_mgr::{Contents, DeskLists, Lists};
 use tb_geom::Refusal;
 use window_frame::follow;
 use window_list::picture_place;
-use window_mgr::form_refusal;
+use window_mgr::{DeskWindows, WindowManager, form_refusal};
 use window_update::{first_to_update, update_form_refusal};
 
 impl Toolbox {
@@ -50,8 +50,9 @@ impl Toolbox {
         ensures step { IsAdmitted call.now result
             (⟦<Self as Desk>⟧.state self.old stock.old)
             (⟦<Self as Desk>⟧.state self.new stock.new) }
-        ensures economy { AreInformed (windows_of ⟦<TakenWindow as Defined>⟧.loan self.old.windows)
-            → IsCallEconomical ⟦<TakenWindow as Defined>⟧.loan call.now self.old.windows self.new.windows }
+        ensures economy { AreInformed (⟦<WindowManager as DeskWindows>⟧.desk self.old.windows []).windows
+            → ⟦<Self as Desk>⟧.IsEconomical call.now self.old self.new }
+        ensures quiet { IsQuietRefusal call.now result self.old.windows.screen self.new.windows.screen }
     {
         match call {
             Call::Window(call) => match self.window_call(call, nature, stock) {
@@ -115,8 +116,9 @@ impl Toolbox {
         ensures step { let before = ⟦<Self as Desk>⟧.state self.old stock.old in
             IsWindowTold (is_covered call.now before) call.now result before
             (⟦<Self as Desk>⟧.state self.new stock.new) }
-        ensures economy { AreInformed (windows_of ⟦<TakenWindow as Defined>⟧.loan self.old.windows)
-            → IsEconomical ⟦<TakenWindow as Defined>⟧.loan call.now self.old.windows self.new.windows }
+        ensures economy { AreInformed (⟦<WindowManager as DeskWindows>⟧.desk self.old.windows []).windows
+            → ⟦<Self as Desk>⟧.IsEconomical (calls.Window call.now) self.old self.new }
+        ensures quiet { OnErr result (self.new.windows.screen ≡ self.old.windows.screen) }
         ensures aside { (self.new.menus ≡ self.old.menus)
             × ((self.new.updates ≡ self.old.updates) × (self.new.activity ≡ self.old.activity)) }
         ensures front { self.new.front ≡ self.old.front }

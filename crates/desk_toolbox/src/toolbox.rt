@@ -17,7 +17,7 @@ ghost use Rattle.tb_geom.specs.declared.point.Point.{Point};
 ghost use Rattle.desk_toolbox.specs.Fronts.{screen_of};
 ghost use Rattle.window_update.specs.Rightness.{IsJudgement};
 ghost use Rattle.desk_toolbox.specs.Boxed.{no_slots};
-ghost use Rattle.desk_toolbox.specs.Economy.{IsCallEconomical};
+ghost use Rattle.desk_toolbox.specs.Economy.{IsQuietRefusal};
 ghost use Rattle.desk_toolbox.specs.EventSteps.{first_events};
 ghost use Rattle.desk_toolbox.specs.Reached.{IsConsistent, IsJustBegun};
 ghost use Rattle.desk_toolbox.specs.Run.{IsRunOfCalls, IsStep};
@@ -242,6 +242,7 @@ impl Toolbox {
     /// Performs one call, and gives its answer. A refused call changes nothing; which refusal comes
     /// first where several would do stands with the call. While something is open, a call that may not
     /// come then is refused for that, but first for a name that no table has, or bytes without their form.
+    #[tactic(auto, using(crate::proofs::Quiet::quiet_untouched))]
     pub fn call(&mut self, call: &Call<'_>, stock: &mut Stock) -> Result<Reply, Refusal>
         requires { ⟦<Self as Desk>⟧.IsWhole self.old stock.old }
         ensures whole { ⟦<Self as Desk>⟧.IsWhole self.new stock.new }
@@ -251,7 +252,8 @@ impl Toolbox {
         ensures right { IsRightState (⟦<Self as Desk>⟧.state self.old stock.old).desk.windows
             → IsRightState (⟦<Self as Desk>⟧.state self.new stock.new).desk.windows }
         ensures economy { IsConsistent (⟦<Self as Desk>⟧.state self.old stock.old)
-            → IsCallEconomical ⟦<TakenWindow as Defined>⟧.loan call.now self.old.windows self.new.windows }
+            → ⟦<Self as Desk>⟧.IsEconomical call.now self.old self.new }
+        ensures quiet { IsQuietRefusal call.now result self.old.windows.screen self.new.windows.screen }
     {
         let nature = call.nature();
         match self.activity.admit(nature.standing) {

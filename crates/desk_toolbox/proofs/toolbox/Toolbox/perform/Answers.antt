@@ -205,6 +205,9 @@ returns-in-Ok-clause-economy g c = rw c.in-Window.is c.in-Ok.ensures.economy
 pub returns-in-Err-clause-economy : goal.returns-in-Err-clause-economy
 returns-in-Err-clause-economy g c = rw c.in-Window.is c.in-Err.ensures.economy
 
+pub returns-in-Err-clause-quiet : goal.returns-in-Err-clause-quiet
+returns-in-Err-clause-quiet g c = rw c.in-Window.is c.in-Err.ensures.quiet
+
 pub returns-in-Ok-outline_call-clause-whole : goal.returns-in-Ok-outline_call-clause-whole
 returns-in-Ok-outline_call-clause-whole g c = c.in-Ok-outline_call.ensures.whole
 

@@ -15,6 +15,7 @@ use Rattle.window_mgr.specs.FullDesk.{FullDesk}
 use Rattle.window_mgr.specs.Records.{look_on, state_of, state_showing}
 use Rattle.window_mgr.proofs.KeptLemmas.{kept}
 use Rattle.window_mgr.proofs.StepsShowing.{step_showing}
+use Rattle.window_mgr.proofs.SameDeskLemmas.{on_refusal}
 use Rattle.window_update.specs.WholeUpdates.{opened}
 use Rattle.window_frame.proofs.Economical.{all_economical, economical_untouched, others_if_done, refused_economical}
 use Rattle.window_frame.proofs.FramesShowing.{caught_up_by_showing}
@@ -60,6 +61,9 @@ returns-in-Some-clause-step g c =
 
 pub returns-in-Some-clause-whole : goal.returns-in-Some-clause-whole
 returns-in-Some-clause-whole g c = c.requires.whole.managers
+
+pub returns-in-Some-clause-quiet : goal.returns-in-Some-clause-quiet
+returns-in-Some-clause-quiet g c = on_refusal _ _ refl
 
 pub returns-in-Some-clause-economy : goal.returns-in-Some-clause-economy
 returns-in-Some-clause-economy g c informed = economical_untouched _ c.args.call.now c.args.self.now.windows
@@ -181,6 +185,9 @@ returns-in-Err-clause-whole g c =
       front = menus.front;
       lists = subst (λ ws. AreWholeLists ws (lists_state list_loan old.lists ((list_stock.slots-value g.dyn-4).it c.args.stock.now.lists))) (sym windows) c.requires.whole.managers.lists;
     }
+
+pub returns-in-Err-clause-quiet : goal.returns-in-Err-clause-quiet
+returns-in-Err-clause-quiet g c = c.in-Err.ensures.quiet
 
 pub returns-in-Err-clause-economy : goal.returns-in-Err-clause-economy
 returns-in-Err-clause-economy g c informed = refused_economical _ c.args.call.now c.args.self.now.windows c.perform.new.self c.in-Err.ensures.sparing
