@@ -273,5 +273,5 @@ pub goes_there : {V : Type 0} {H : V → Type 0} (e : Edit) (i : ℕ) (by : Opti
 goes_there e i by ws x at low x_is way = subst (λ b. IsOnItsWay e.at e.place b ws) (sym way) (by_test (same_place x.place e.place) refl)
   where
     by_test : (b : Bool) → same_place x.place e.place ≡ b → IsOnItsWay e.at e.place (if b then None else Some (minus e.place x.place)) ws
-    by_test true same w w_is = sym (same_places x.place e.place same) ∙ ap (λ (z : Window _ _). z.place) (same_at ws i x w low x_is (subst (λ n. IsWindowAt ws n w) at w_is))
+    by_test true same = λ w w_is. sym (same_places x.place e.place same) ∙ ap (λ (z : Window _ _). z.place) (same_at ws i x w low x_is (subst (λ n. IsWindowAt ws n w) at w_is))
     by_test false same = goes_as_far e i (minus e.place x.place) ws x at low x_is refl

@@ -28,6 +28,7 @@ use Rattle.desk_call.specs.declared.window.WindowReply.{WindowReply}
 use Rattle.window_mgr.specs.declared.manager.WindowManager.{WindowManager}
 use Rattle.window_mgr.specs.FullDesk.{FullDesk}
 use Rattle.window_mgr.specs.AnySlots.{IsRearrangedOverAnySlots}
+use Rattle.window_mgr.specs.Sparing.{Spares}
 use Rattle.window_mgr.specs.Arrange.{Arrangement, at_place, with_shown, is_visible, if_visible, if_leading, brought, changed, way_between, way_to, behind_this, without}
 use Rattle.window_mgr.specs.Edits.{records_put, stays_put, IsWindowAt, IsPlaceBehind, IsPlaceable}
 use Rattle.window_mgr.specs.Effects.{Effect, IsEffect, IsArrangement, effect_of}
@@ -171,6 +172,13 @@ module _ {V : Type 0} {H : V → Type 0} (loan : TakenBox V H → WindowLoan) (t
     pub may_arrive : (e : Edit) → e.at ≡ i → e.place ≡ m.place → e.size ≡ x.size → IsPlaceable loan e t.windows.records.items
     may_arrive e at place size w w_is =
         (λ k. refused.may_stand (place k) (size k) (record_of loan (same_at t.windows.records.items i w x low (subst (λ n. IsWindowAt t.windows.records.items n w) at w_is) x_is k))) ∙ stands
+
+  pub move_spares : (m : MoveWindow) (by : Option Point) → s ≡ m.window → by ≡ way_between x.place m.place → Spares loan x.serial by t new
+      → Spares loan m.window (way_to m.place (record_with m.window desk.windows)) t new
+  move_spares m by named by_is spares = subst (λ (y : ℕ × Option Point). Spares loan y.0 y.1 t new) (λ k. ((serial ∙ named) k, (by_is ∙ ap (way_to m.place) (sym here)) k)) spares
+    where
+      here : record_with m.window desk.windows ≡ Some (record_of loan x)
+      here = ap (λ n. record_with n desk.windows) (sym named) ∙ found
 
   pub move_step : (m : MoveWindow) (e : Edit) (activates : Activates) (by : Option Point) (result : Result WindowReply Refusal) → s ≡ m.window → first_refusal (move_refusals m desk) ≡ None
       → e ≡ record { at = i; to = if m.select then front else i; place = m.place; size = x.size; user_state = None; shown = x.shown } → activates ≡ (if m.select then (if leads x then Itself else Nothing) else Nothing) → by ≡ way_between x.place m.place

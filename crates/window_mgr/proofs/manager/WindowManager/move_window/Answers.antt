@@ -1,14 +1,11 @@
 use Rattle.std.proofs.lemmas.List.Edits.{length-remove}
-use Rattle.std.proofs.Common.{◌≡◌, ◌<◌, ℕ, Option, length, arith, refl, sym, ap, rules, ◌∙◌, inl, false, true, None, if◌then◌else◌, subst, Some}
-use Rattle.tb_geom.specs.declared.point.Point.{Point}
+use Rattle.std.proofs.Common.{◌≡◌, ◌<◌, length, arith, refl, sym, ap, rules, ◌∙◌, inl, false, true, None, if◌then◌else◌, subst, Some}
 use Rattle.desk_call.specs.declared.window.WindowCall.TheVariants.{Move}
 use Rattle.window_mgr.specs.declared.arrange.Activates.TheVariants.{Nothing, Itself}
 use Rattle.window_mgr.specs.declared.arrange.Edit.{Edit}
 use Rattle.window_mgr.proofs.PaintLemmas.{settled_in}
 use Rattle.window_mgr.proofs.SameDeskLemmas.{is_refused}
-use Rattle.window_mgr.specs.Arrange.{way_to}
 use Rattle.window_mgr.specs.Edits.{IsWindowAt}
-use Rattle.window_mgr.specs.Sparing.{Spares}
 use Rattle.window_mgr.proofs.EditSeats as seating
 use Rattle.window_mgr.proofs.Steps as steps
 use Rattle.window_mgr.proofs.manager.WindowManager.move_window.Goals as goal
@@ -63,7 +60,5 @@ pub returns-clause-sparing : goal.returns-clause-sparing
 returns-clause-sparing g c =
     let found = c.at-found.result.now in
     let t = c.args.self.now in
-    let serial = c.in-Some.ensures.1 found (search rules) in
-    let there = steps.found _ t t _ c.requires.whole c.in-Some.at c.args.moved.window found c.in-Some.ensures.0 (search rules) serial in
-    subst (λ (y : ℕ × Option Point). Spares _ y.0 y.1 t c.rearrange.new.self) (λ k. (serial k, (c.way-by.ensures ∙ ap (way_to c.args.moved.place) (sym there)) k))
+    steps.move_spares _ t c.rearrange.new.self _ c.requires.whole c.in-Some.at c.args.moved.window found c.in-Some.ensures.0 (search rules) (c.in-Some.ensures.1 found (search rules)) c.args.moved c.way-by.result refl c.way-by.ensures
     (c.rearrange.ensures.sparing found (subst (λ i. IsWindowAt t.windows.records.items i found) (sym (ap (λ (e : Edit). e.at) c.of-edit.ensures)) (search rules)))
