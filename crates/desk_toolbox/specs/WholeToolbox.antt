@@ -51,7 +51,12 @@ module _ {V : Type 0} {H : V → Type 0} (loan : TakenBox V H → WindowLoan) {W
     pub managers : AreWholeManagers t stocks
     pub right : IsRightState (toolbox_state t stocks).desk.windows
 
-  -- a Toolbox by itself: it is whole over some slots
+  -- a Toolbox by itself: its managers are whole over some slots, whatever its screen shows
+  pub record AreKeptManagers (t : Toolbox V U W X H J K L) : Type 0 where
+    pub stocks : AllSlots
+    pub managers : AreWholeManagers t stocks
+
+  -- and it is whole over some slots
   pub record IsKeptToolbox (t : Toolbox V U W X H J K L) : Type 0 where
     pub stocks : AllSlots
     pub whole : IsWholeToolbox t stocks

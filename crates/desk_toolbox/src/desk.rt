@@ -37,6 +37,10 @@ pub trait Desk {
     /// Each of its managers is whole over slots.
     ghost HasWholeManagersOver: { Self → AllSlots → Type 0 };
 
+    /// Each of its managers is whole over some slots, whatever the screen shows: so a screen can be compared with what it should
+    /// show.
+    ghost HasKeptManagers: { Self → Type 0 };
+
     /// A call that moves, sizes, shows, hides, selects, sends behind or disposes of a window was economical, between these two: it
     /// wrote pixels only where their owner changed, the window moved, or a frame changed. Of other calls it says nothing.
     ghost IsEconomical: { Named → Self → Self → Type 0 };
@@ -65,6 +69,8 @@ impl Desk for Toolbox {
     ghost HasWholeManagers = { boxed.HasWholeManagers WindowDef-box MenuDef-box ControlDef-box ListDef-box };
 
     ghost HasWholeManagersOver = { boxed.HasWholeManagersOver WindowDef-box MenuDef-box ControlDef-box ListDef-box };
+
+    ghost HasKeptManagers = { boxed.HasKeptManagers WindowDef-box MenuDef-box ControlDef-box ListDef-box };
 
     ghost IsEconomical = { boxed.IsEconomical WindowDef-box MenuDef-box ControlDef-box ListDef-box };
 }

@@ -30,7 +30,7 @@ use window_paint::Showing;
 /// bar and the desktop show, controls and lists among that, and over it the menu that is pulled down, or the outline of a window
 /// that is dragged or grown. It reads neither the screen's pixels nor any region that the Toolbox keeps.
 pub fn paint(alloc: Global, toolbox: &Toolbox) -> Result<BitMap, AllocError>
-    requires { ⟦<Toolbox as Desk>⟧.IsKept toolbox.now }
+    requires { ⟦<Toolbox as Desk>⟧.HasKeptManagers toolbox.now }
     ensures { IfOk result (IsPaintedScreen (⟦<Toolbox as Desk>⟧.state_over toolbox.now no_slots)) }
 {
     let windows = toolbox.windows();
