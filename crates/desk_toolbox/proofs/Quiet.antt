@@ -1,11 +1,20 @@
--- A call that leaves the screen alone is quiet, whatever it answers.
-use Rattle.std.proofs.Common.{Result, Ok, Err, refl}
+-- A call that leaves windows and screen alone is quiet and economical, whatever it answers.
+use Rattle.std.proofs.Common.{[], Option, None, Some, Result, Ok, Err, refl}
 use Rattle.tb_geom.specs.declared.refusal.Refusal.{Refusal}
 use Rattle.bit_map.specs.Bits.{Bits}
+use Rattle.def_iface.specs.Slots.{TakenBox}
+use Rattle.def_iface.specs.WindowMeaning.{WindowLoan}
+use Rattle.desk_call.specs.declared.activity.Activity.{Activity}
 use Rattle.desk_call.specs.declared.call.Call.{Call}
 use Rattle.desk_call.specs.declared.call.Call.TheVariants.{Window, Update, Frame, Control, List, Menu, Outline, Event}
 use Rattle.desk_call.specs.declared.call.Reply.{Reply}
-use Rattle.desk_toolbox.specs.Economy.{IsQuietRefusal}
+use Rattle.desk_call.specs.declared.window.MoveWindow.{MoveWindow}
+use Rattle.desk_call.specs.declared.window.WindowCall.TheVariants.{Move}
+use Rattle.window_mgr.specs.declared.manager.WindowManager.{WindowManager}
+use Rattle.window_mgr.specs.Records.{desk_of}
+use Rattle.window_frame.proofs.Economical.{economical_untouched}
+use Rattle.window_outline.specs.Outlining.{let_go_of}
+use Rattle.desk_toolbox.specs.Economy.{IsCallEconomical, IsDropEconomical, IsQuietRefusal}
 
 pub quiet_untouched : (call : Call) (result : Result Reply Refusal) (screen : Bits) → IsQuietRefusal call result screen screen
 quiet_untouched (Window call) (Ok answer) screen = tt
@@ -17,3 +26,18 @@ quiet_untouched (List call) result screen = tt
 quiet_untouched (Menu call) result screen = tt
 quiet_untouched (Outline call) result screen = tt
 quiet_untouched (Event call) result screen = tt
+
+module _ {V : Type 0} {H : V → Type 0} (loan : TakenBox V H → WindowLoan) where
+  dropped_nowhere : (drop : Option MoveWindow) (t : WindowManager V H) → IsDropEconomical loan drop t t
+  dropped_nowhere None t = tt
+  dropped_nowhere (Some drop) t = economical_untouched loan (Move drop) t
+
+  pub spared_untouched : (call : Call) (open : Activity) (t : WindowManager V H) → IsCallEconomical loan call open t t
+  spared_untouched (Window call) open t = economical_untouched loan call t
+  spared_untouched (Outline call) open t = dropped_nowhere (let_go_of call open (desk_of loan t [])) t
+  spared_untouched (Update call) open t = tt
+  spared_untouched (Frame call) open t = tt
+  spared_untouched (Control call) open t = tt
+  spared_untouched (List call) open t = tt
+  spared_untouched (Menu call) open t = tt
+  spared_untouched (Event call) open t = tt

@@ -57,4 +57,4 @@ module _ {V : Type 0} {H : V → Type 0} (window : (b : DynBox V Global H) → w
 
   -- a call was economical, between these two
   abbrev pub IsEconomical : Call → Toolbox V U W X H J K L → Toolbox V U W X H J K L → Type 0
-  IsEconomical call before after = IsCallEconomical (window_loan_by window) call before.windows after.windows
+  IsEconomical call before after = IsCallEconomical (window_loan_by window) call before.activity before.windows after.windows

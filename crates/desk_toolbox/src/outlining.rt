@@ -1,14 +1,18 @@
 //! Calls about the outline of a window that is dragged or grown.
-ghost use Rattle.std.specs.Prelude.{◌≡◌, None};
+ghost use Rattle.std.specs.Prelude.{◌≡◌, [], None};
 ghost use Rattle.def_iface.specs.Stocks.{AllSlots};
 ghost use Rattle.desk_call.specs.declared.activity.Standing.TheVariants as Standing;
+ghost use Rattle.desk_call.specs.declared.call.Call.TheVariants as calls;
+ghost use Rattle.desk_call.specs.declared.window.WindowCall.TheVariants as asks;
 ghost use Rattle.desk_call.specs.Gates.{gate, outline_standing};
+ghost use Rattle.window_frame.specs.Followers.{AreInformed};
 ghost use Rattle.desk_toolbox.specs.Run.{IsLetGo, IsOutlineMoved, IsOutlineTold};
 
 use crate::{Activity, Desk, OutlineCall, OutlineReply, Toolbox, WindowCall};
 use def_iface::Stock;
 use desk_call::MoveWindow;
 use tb_geom::Refusal;
+use window_mgr::{DeskWindows, WindowManager};
 use window_outline::{let_go, outlined_by, show_outline};
 
 impl Toolbox {
@@ -24,6 +28,8 @@ impl Toolbox {
         ensures step { IsOutlineTold call.now result
             (⟦<Self as Desk>⟧.state self.old stock.old)
             (⟦<Self as Desk>⟧.state self.new stock.new) }
+        ensures economy { AreInformed (⟦<WindowManager as DeskWindows>⟧.desk self.old.windows []).windows
+            → ⟦<Self as Desk>⟧.IsEconomical (calls.Outline call.now) self.old self.new }
     {
         match let_go(&self.windows, self.activity, call) {
             Some(drop) => self.drop_window(drop, stock),
@@ -62,6 +68,8 @@ impl Toolbox {
         ensures step { IsLetGo drop result
             (⟦<Self as Desk>⟧.state self.old stock.old)
             (⟦<Self as Desk>⟧.state self.new stock.new) }
+        ensures economy { AreInformed (⟦<WindowManager as DeskWindows>⟧.desk self.old.windows []).windows
+            → ⟦<Self as Desk>⟧.IsEconomical (calls.Window (asks.Move drop)) self.old self.new }
     {
         let open = self.activity;
         self.activity = Activity::Idle;

@@ -242,7 +242,7 @@ impl Toolbox {
     /// Performs one call, and gives its answer. A refused call changes nothing; which refusal comes
     /// first where several would do stands with the call. While something is open, a call that may not
     /// come then is refused for that, but first for a name that no table has, or bytes without their form.
-    #[tactic(auto, using(crate::proofs::Quiet::quiet_untouched))]
+    #[tactic(auto, using(crate::proofs::Quiet::quiet_untouched, crate::proofs::Quiet::spared_untouched))]
     pub fn call(&mut self, call: &Call<'_>, stock: &mut Stock) -> Result<Reply, Refusal>
         requires { ⟦<Self as Desk>⟧.IsWhole self.old stock.old }
         ensures whole { ⟦<Self as Desk>⟧.IsWhole self.new stock.new }

@@ -219,3 +219,9 @@ returns-in-Err-outline_call-clause-whole g c = c.in-Err-outline_call.ensures.who
 
 pub returns-in-Err-outline_call-clause-step : goal.returns-in-Err-outline_call-clause-step
 returns-in-Err-outline_call-clause-step g c = rw c.in-Outline.is (Err c.in-Err-outline_call.refusal, refl, c.in-Err-outline_call.ensures.step)
+
+pub returns-in-Ok-outline_call-clause-economy : goal.returns-in-Ok-outline_call-clause-economy
+returns-in-Ok-outline_call-clause-economy g c = rw c.in-Outline.is c.in-Ok-outline_call.ensures.economy
+
+pub returns-in-Err-outline_call-clause-economy : goal.returns-in-Err-outline_call-clause-economy
+returns-in-Err-outline_call-clause-economy g c = rw c.in-Outline.is c.in-Err-outline_call.ensures.economy
