@@ -20,6 +20,7 @@ mod changing;
 mod drawing;
 mod ending;
 mod judging;
+mod line_edit;
 mod lines;
 mod lines_from;
 mod list_record;
