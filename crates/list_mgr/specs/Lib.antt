@@ -13,6 +13,7 @@ pub mod GivenBars
 pub mod BarEnds
 pub mod Spots
 pub mod Lines
+pub mod LineEdits
 pub mod LinesFrom
 pub mod Changing
 pub mod Making

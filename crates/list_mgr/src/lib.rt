@@ -21,6 +21,7 @@ mod desk_lists;
 mod drawing;
 mod ending;
 mod judging;
+mod line_edit;
 mod lines;
 mod lines_from;
 mod list_record;

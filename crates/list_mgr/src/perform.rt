@@ -2,6 +2,7 @@
 ghost use Rattle.list_mgr.specs.ListSteps.{IsListStep};
 ghost use Rattle.list_mgr.specs.Within.{IsWhereRight};
 
+use crate::line_edit::{LineAxis, LineEdit};
 use crate::{DeskLists, Lists};
 use control_mgr::{Controls, DeskControls};
 use def_iface::{ControlStock, ListStock, TakenControl, TakenList};
@@ -31,10 +32,22 @@ impl Lists<TakenList> {
         match call {
             ListCall::New(new) => self.make(windows, controls, new, stock, bars),
             ListCall::Dispose(list) => self.dispose(windows, controls, *list, stock, bars),
-            ListCall::AddRows(lines) => self.add_rows(windows, controls, *lines),
-            ListCall::AddColumns(lines) => self.add_columns(windows, controls, *lines),
-            ListCall::DeleteRows(lines) => self.delete_rows(windows, controls, *lines),
-            ListCall::DeleteColumns(lines) => self.delete_columns(windows, controls, *lines),
+            ListCall::AddRows(lines) => {
+                self.change_lines(windows, controls, LineEdit::add(LineAxis::Rows, *lines))
+            }
+            ListCall::AddColumns(lines) => {
+                self.change_lines(windows, controls, LineEdit::add(LineAxis::Columns, *lines))
+            }
+            ListCall::DeleteRows(lines) => {
+                self.change_lines(windows, controls, LineEdit::delete(LineAxis::Rows, *lines))
+            }
+            ListCall::DeleteColumns(lines) => {
+                self.change_lines(
+                    windows,
+                    controls,
+                    LineEdit::delete(LineAxis::Columns, *lines),
+                )
+            }
             ListCall::SetCell(set) => self.set_cell(windows, set),
             ListCall::AddToCell(added) => self.add_to_cell(windows, added),
             ListCall::ClearCell(cleared) => self.clear_cell(windows, *cleared),
