@@ -294,7 +294,7 @@ fn forget(
 }
 
 /// Why a call is refused for its names and bytes alone, whatever is open.
-pub(crate) fn form_refusal_of(call: &Call<'_>, stock: &Stock) -> Option<Refusal>
+pub fn form_refusal_of(call: &Call<'_>, stock: &Stock) -> Option<Refusal>
     ensures { let stocks = ⟦<Stock as StockedAll>⟧.all_slots stock.now in
         (before : ToolboxState) → before.desk.windows.desk.stock ≡ stocks.windows → before.menus.stock ≡ stocks.menus
         → before.controls.stock ≡ stocks.controls → before.lists.stock ≡ stocks.lists

@@ -22,6 +22,7 @@ mod events;
 mod outlining;
 mod toolbox;
 
+pub use answering::form_refusal_of;
 pub use desk::Desk;
 pub use desk_call::{
     Activity, AppendItems, AreaRef, Call, CheckItem, Choice, ControlCall, ControlInfo,

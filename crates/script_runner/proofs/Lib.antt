@@ -1,6 +1,7 @@
 mod Checked
 mod ChoicesLemmas
 mod Ends
+mod FormFaults
 mod SameImages
 mod Sessions
 mod StockKinds

@@ -25,10 +25,8 @@ answers_right raw s Image text after answered right = subst IsRightToolbox (sym 
 answers_right raw s (Call asked) text after answered right = step_stays_right asked answered.0 s after right answered.1
 
 first_right : (raw : Bool) (s : ToolboxState) (command : Command) (text : List ℕ) (after : ToolboxState) → FirstAnswers raw s command text after → IsRightToolbox s → IsRightToolbox after
-first_right raw s (Version number) text after answered right = answers_right raw s (Version number) text after answered right
 first_right raw s (Desk size) text after answered right = subst IsRightToolbox (sym answered.1) right
-first_right raw s Image text after answered right = answers_right raw s Image text after answered right
-first_right raw s (Call asked) text after answered right = answers_right raw s (Call asked) text after answered right
+first_right raw s command text after answered right = answers_right raw s command text after answered right
 
 opens_right : (raw : Bool) (why : Option Refusal) (font : List ℕ) (stocks : AllSlots) (command : Command) (text : List ℕ) (new : SessionState) → Opens raw why font stocks command text new → IsRightSession new
 opens_right raw (Some e) font stocks command text new opened = subst IsRightSession (sym opened.1) tt

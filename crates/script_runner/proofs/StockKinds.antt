@@ -55,10 +55,8 @@ module _ (raw : Bool) where
   answers_keep s (Call asked) text after answered = step_keeps asked answered.0 s after answered.1
 
   first_keeps : (s : ToolboxState) (command : Command) (text : List ℕ) (after : ToolboxState) → FirstAnswers raw s command text after → desk_kinds after ≡ desk_kinds s
-  first_keeps s (Version number) text after answered = answers_keep s (Version number) text after answered
   first_keeps s (Desk size) text after answered = ap desk_kinds answered.1
-  first_keeps s Image text after answered = answers_keep s Image text after answered
-  first_keeps s (Call asked) text after answered = answers_keep s (Call asked) text after answered
+  first_keeps s command text after answered = answers_keep s command text after answered
 
   opens_keeping : (why : Option Refusal) (font : List ℕ) (stocks : AllSlots) (command : Command) (text : List ℕ) (new : SessionState) → Opens raw why font stocks command text new → session_kinds new ≡ kinds_of stocks
   opens_keeping (Some e) font stocks command text new opened = ap session_kinds opened.1
