@@ -8,7 +8,7 @@ use crate::titles::are_shown;
 use def_iface::TakenMenu;
 use menu_list::MenuList;
 use std::alloc::Global;
-use window_mgr::WindowManager;
+use window_mgr::{DeskWindows, WindowManager};
 
 /// The menus of a desk.
 #[derive(Drop)]

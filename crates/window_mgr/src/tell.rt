@@ -32,7 +32,8 @@ impl WindowManager {
         told: AskedRegion,
     ) -> Result<WindowReply, Refusal>
         requires { ⟦<Self as DeskWindows>⟧.IsKept self.old }
-        ensures { ⟦<Self as DeskWindows>⟧.LeavesState (IsWindowStep (asking told window) result) self.old self.new }
+        ensures step { ⟦<Self as DeskWindows>⟧.LeavesState (IsWindowStep (asking told window) result) self.old self.new }
+        ensures quiet { self.new.screen ≡ self.old.screen }
     {
         let Some(at) = self.find(window) else {
             return Err(Refusal::NoSuchWindow);

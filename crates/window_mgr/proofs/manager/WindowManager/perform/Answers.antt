@@ -58,7 +58,7 @@ pub returns-in-Info : goal.returns-in-Info
 returns-in-Info g c = let done = c.answer_info.ensures _ c.requires in record { whole = done.0; step = rw c.in-Info.is (done.1); sparing = rw c.in-Info.is tt; quiet = on_refusal c.answer_info.result _ refl }
 
 pub returns-in-VisibleRegion : goal.returns-in-VisibleRegion
-returns-in-VisibleRegion g c = let done = c.answer_region.ensures _ c.requires in record { whole = done.0; step = rw c.in-VisibleRegion.is (done.1); sparing = rw c.in-VisibleRegion.is tt; quiet = on_refusal c.answer_region.result _ refl }
+returns-in-VisibleRegion g c = let done = c.answer_region.ensures.step _ c.requires in record { whole = done.0; step = rw c.in-VisibleRegion.is (done.1); sparing = rw c.in-VisibleRegion.is tt; quiet = on_refusal c.answer_region.result _ c.answer_region.ensures.quiet }
 
 pub returns-in-UpdateRegion : goal.returns-in-UpdateRegion
-returns-in-UpdateRegion g c = let done = c.answer_region-in-UpdateRegion.ensures _ c.requires in record { whole = done.0; step = rw c.in-UpdateRegion.is (done.1); sparing = rw c.in-UpdateRegion.is tt; quiet = on_refusal c.answer_region-in-UpdateRegion.result _ refl }
+returns-in-UpdateRegion g c = let done = c.answer_region-in-UpdateRegion.ensures.step _ c.requires in record { whole = done.0; step = rw c.in-UpdateRegion.is (done.1); sparing = rw c.in-UpdateRegion.is tt; quiet = on_refusal c.answer_region-in-UpdateRegion.result _ c.answer_region-in-UpdateRegion.ensures.quiet }
