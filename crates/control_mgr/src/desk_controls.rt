@@ -1,4 +1,4 @@
-//! Controls beside windows, over their stock, as contracts see them.
+//! Controls over their stock, and beside windows, as contracts see them.
 ghost use Rattle.std.specs.Prelude.{List};
 ghost use Rattle.window_mgr.specs.DeskStates.{Opened};
 ghost use Rattle.control_mgr.specs.Boxed as boxed;
@@ -8,14 +8,11 @@ use crate::Controls;
 use def_iface::{ControlDef, ControlStock, TakenControl, WindowDef};
 use window_mgr::WindowManager;
 
-/// The controls of a desk beside its windows, over the stock that their definitions come from, as contracts see them. Where a
-/// clause speaks of any stock, it names the same over slots.
-pub trait DeskControls {
-    /// The windows.
-    type Windows;
+/// The controls of a desk over the stock that their definitions come from, as contracts see them.
+pub trait SeenControls {
     /// What the controls' definitions come from.
     type Stock;
-    /// The boxes that definitions lie in: what these mean, the members say.
+    /// The boxes that these lie in: what they mean, the members say.
     type Boxes;
 
     /// The controls as plain data.
@@ -23,6 +20,27 @@ pub trait DeskControls {
 
     /// Their state: the controls, the serial of the next one, and the stock.
     ghost state: { Self → Self.Stock → ControlsState };
+}
+
+impl SeenControls for Controls<TakenControl> {
+    type Stock = ControlStock;
+
+    type Boxes = Box<dyn ControlDef>;
+
+    ghost records = { boxed.records ControlDef-box };
+
+    ghost state = { boxed.state ControlDef-box };
+}
+
+/// The controls of a desk beside its windows, as contracts see them. Where a clause speaks of any stock, it names the same over
+/// slots.
+pub trait DeskControls {
+    /// The windows.
+    type Windows;
+    /// What the controls' definitions come from.
+    type Stock;
+    /// The boxes that definitions lie in: what these mean, the members say.
+    type Boxes;
 
     /// They and the stock are whole beside these windows, as they are between calls: each is settled, in a window that is
     /// there, and shown by a layer of that.
@@ -51,10 +69,6 @@ impl DeskControls for Controls<TakenControl> {
     type Stock = ControlStock;
 
     type Boxes = (Box<dyn ControlDef>, Box<dyn WindowDef>);
-
-    ghost records = { boxed.records ControlDef-box };
-
-    ghost state = { boxed.state ControlDef-box };
 
     ghost IsWhole = { boxed.IsWhole ControlDef-box WindowDef-box };
 

@@ -6,7 +6,7 @@ ghost use Rattle.list_mgr.specs.Spots.{IsSpot, IsSpotOf};
 ghost use Rattle.list_mgr.specs.Within.{IsWhereRight};
 
 use crate::spots::ListAt;
-use crate::{DeskLists, Lists};
+use crate::{DeskLists, DeskListsWithBars, Lists};
 use control_mgr::{Controls, DeskControls};
 use control_values::ControlValues;
 use def_iface::{Defined, TakenControl, TakenList, TakenWindow};
@@ -45,7 +45,7 @@ impl Lists<TakenList> {
         requires spot { IsSpot ⟦<TakenWindow as Defined>⟧.loan ⟦<TakenList as Defined>⟧.loan windows.old self.now spot }
         ensures { (l : Named) → IsSpotOf ⟦<TakenWindow as Defined>⟧.loan ⟦<TakenList as Defined>⟧.loan l windows.old
             self.now spot
-            → ⟦<Self as DeskLists>⟧.Leaves
+            → ⟦<Self as DeskListsWithBars>⟧.Leaves
             (IsWhereRight (AreBarsSet l)) windows.old controls.old self.now windows.new controls.new self.now }
     {
         let list = &self.list.items[spot.list];

@@ -13,7 +13,7 @@ ghost use Rattle.list_mgr.specs.Offers.{MayGoBack, definition_of, lacks_any, see
 ghost use Rattle.list_mgr.specs.Putting.{AreRoomier};
 
 use crate::judging::{ListTicket, SCROLL, lacks_kind};
-use crate::{DeskLists, Lists};
+use crate::{DeskLists, DeskListsWithBars, Lists};
 use control_mgr::{Controls, DeskControls};
 use def_iface::{ControlStock, Defined, ListStock, Stocked, TakenControl, TakenList, TakenWindow};
 use desk_call::{ListReply, NewList};
@@ -157,7 +157,7 @@ impl Lists<TakenList> {
         requires kept { ⟦<WindowManager as DeskWindows>⟧.IsKept windows.old }
         requires controls { ⟦<Controls<TakenControl> as DeskControls>⟧.IsWhole windows.old controls.old bars.old }
         requires lists { ⟦<Self as DeskLists>⟧.IsWhole windows.old self.old stock.old }
-        ensures { ⟦<Self as DeskLists>⟧.LeavesStocks bars.old bars.new stock.old stock.new
+        ensures { ⟦<Self as DeskListsWithBars>⟧.LeavesStocks bars.old bars.new stock.old stock.new
             (IsListStep (asks.New new.now) result) windows.old controls.old self.old windows.new controls.new self.new }
     {
         if lacks_kind(new, stock, bars) {
@@ -195,7 +195,7 @@ impl Lists<TakenList> {
         ensures made { IfOk result (λ serial. (kept rest held left : _)
             → AreOffered new.now (seen_offers ⟦<TakenControl as Defined>⟧.loan ⟦<TakenList as Defined>⟧.loan offers)
             kept rest held left
-            → ⟦<Self as DeskLists>⟧.LeavesOver held left kept rest
+            → ⟦<Self as DeskListsWithBars>⟧.LeavesOver held left kept rest
             (IsListMade new.now serial) windows.old controls.old self.old windows.new controls.new self.new) }
         ensures refused { IfErr result (λ back. (back.0 ≡ offers)
             × IsNotMade ⟦<TakenControl as Defined>⟧.loan ⟦<TakenList as Defined>⟧.loan ⟦<TakenWindow as Defined>⟧.loan
@@ -247,7 +247,7 @@ impl Lists<TakenList> {
         ensures made { IfOk result (λ _. (kept rest held left : _)
             → AreOffered new.now (seen_offers ⟦<TakenControl as Defined>⟧.loan ⟦<TakenList as Defined>⟧.loan offers)
             kept rest held left
-            → ⟦<Self as DeskLists>⟧.LeavesOver held left kept rest
+            → ⟦<Self as DeskListsWithBars>⟧.LeavesOver held left kept rest
             (IsListMade new.now ticket.serial) windows.old controls.old self.old windows.new controls.new self.new) }
         ensures same { IfErr result (λ back. (back ≡ offers) × (windows.new ≡ windows.old)
             × IsRoomier controls.old controls.new × AreRoomier self.old self.new) }

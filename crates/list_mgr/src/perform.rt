@@ -3,7 +3,7 @@ ghost use Rattle.list_mgr.specs.ListSteps.{IsListStep};
 ghost use Rattle.list_mgr.specs.Within.{IsWhereRight};
 
 use crate::line_edit::{LineAxis, LineEdit};
-use crate::{DeskLists, Lists};
+use crate::{DeskLists, DeskListsWithBars, Lists};
 use control_mgr::{Controls, DeskControls};
 use def_iface::{ControlStock, ListStock, TakenControl, TakenList};
 use desk_call::{ListCall, ListReply};
@@ -25,7 +25,7 @@ impl Lists<TakenList> {
         requires kept { ⟦<WindowManager as DeskWindows>⟧.IsKept windows.old }
         requires controls_whole { ⟦<Controls<TakenControl> as DeskControls>⟧.IsWhole windows.old controls.old bars.old }
         requires lists_whole { ⟦<Self as DeskLists>⟧.IsWhole windows.old self.old stock.old }
-        ensures { ⟦<Self as DeskLists>⟧.LeavesStocks bars.old bars.new stock.old stock.new
+        ensures { ⟦<Self as DeskListsWithBars>⟧.LeavesStocks bars.old bars.new stock.old stock.new
             (IsWhereRight (IsListStep call.now result)) windows.old controls.old self.old windows.new controls.new
             self.new }
     {

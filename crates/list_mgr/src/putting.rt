@@ -10,7 +10,7 @@ ghost use Rattle.list_mgr.specs.Putting.{AreBarsTaken, AreRoomier, IsBarTaken, I
 
 use crate::judging::ListTicket;
 use crate::planning::Planned;
-use crate::{DeskLists, ListRecord, Lists};
+use crate::{DeskLists, DeskListsWithBars, ListRecord, Lists};
 use control_mgr::Controls;
 use def_iface::{Defined, Stage, TakenControl, TakenList, TakenWindow};
 use desk_call::NewList;
@@ -120,7 +120,7 @@ impl Lists<TakenList> {
         requires unbarred { (new.now.vertical_bar ≡ false) × (new.now.horizontal_bar ≡ false) }
         ensures put { IfOk result (λ _. (held before left : _)
             → IsTaken (λ d. d.stage) new.now.kind (⟦<TakenList as Defined>⟧.loan taken) before left
-            → ⟦<Self as DeskLists>⟧.LeavesOver
+            → ⟦<Self as DeskListsWithBars>⟧.LeavesOver
             held held before left (IsListMade new.now ticket.serial) windows.old controls.now self.old windows.new
             controls.now self.new) }
         ensures same { IfErr result (λ back. (back ≡ taken) × (windows.new ≡ windows.old)
@@ -157,7 +157,7 @@ impl Lists<TakenList> {
         ensures put { IfOk result (λ _. (held rest before left : _)
             → IsTaken (λ d. d.stage) scroll_kind (⟦<TakenControl as Defined>⟧.loan bar) held rest
             → IsTaken (λ d. d.stage) new.now.kind (⟦<TakenList as Defined>⟧.loan taken) before left
-            → ⟦<Self as DeskLists>⟧.LeavesOver
+            → ⟦<Self as DeskListsWithBars>⟧.LeavesOver
             held rest before left (IsListMade new.now ticket.serial) windows.old controls.old self.old windows.new
             controls.new self.new) }
         ensures same { IfErr result (λ back. (back ≡ (taken, bar)) × (windows.new ≡ windows.old)
@@ -203,7 +203,7 @@ impl Lists<TakenList> {
             → IsTaken (λ d. d.stage) scroll_kind (⟦<TakenControl as Defined>⟧.loan vertical) held mid
             → IsTaken (λ d. d.stage) scroll_kind (⟦<TakenControl as Defined>⟧.loan horizontal) mid rest
             → IsTaken (λ d. d.stage) new.now.kind (⟦<TakenList as Defined>⟧.loan taken) before left
-            → ⟦<Self as DeskLists>⟧.LeavesOver
+            → ⟦<Self as DeskListsWithBars>⟧.LeavesOver
             held rest before left (IsListMade new.now ticket.serial) windows.old controls.old self.old windows.new
             controls.new self.new) }
         ensures same { IfErr result (λ back. (back ≡ (taken, vertical, horizontal)) × (windows.new ≡ windows.old)

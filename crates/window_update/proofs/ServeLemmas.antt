@@ -41,7 +41,7 @@ use Rattle.window_mgr.proofs.Showing.{update_showing}
 use Rattle.window_mgr.proofs.UpdateSteps.{stays_refreshed}
 use Rattle.window_mgr.proofs.EditSeats.{there_is}
 use Rattle.window_mgr.proofs.TellLemmas as telling
-use Rattle.window_mgr.specs.DeskStates.{Opened, narrowed_to, desk_with}
+use Rattle.window_mgr.specs.DeskStates.{Opened, narrowed_to, desk_with, LeavesDeskShowing}
 use Rattle.window_update.specs.declared.choices.Choices.{Choices}
 use Rattle.window_update.specs.declared.choices.Kinds.{Kinds}
 use Rattle.window_update.specs.declared.updates.Updates.{Updates}
