@@ -11,7 +11,7 @@ ghost use Rattle.control_mgr.specs.ControlSteps.{IsControlStep, found_from, foun
 ghost use Rattle.control_mgr.specs.Judged.{is_within, part_tested, part_under};
 ghost use Rattle.control_mgr.specs.Settled.{AreSettled, IsSettledControl};
 
-use crate::{Control, Controls, DeskControls, SeenControls};
+use crate::{Control, Controls, ControlsOnStock, DeskControls};
 use control_values::ControlPart;
 use def_iface::{Defined, TakenControl};
 use desk_call::{
@@ -88,14 +88,14 @@ fn found_in(control: &Item<Control<TakenControl>>, point: Point) -> Option<Found
 impl Controls<TakenControl> {
     /// Whether the control is there.
     pub fn has(&self, control: ControlOf) -> bool
-        ensures { result ≡ is_some (index_of control (⟦<Self as SeenControls>⟧.records self.now)) }
+        ensures { result ≡ is_some (index_of control (⟦<Self as ControlsOnStock>⟧.records self.now)) }
     {
         self.list.find(control.window, control.control).is_some()
     }
 
     /// How many controls the window has.
     pub fn count(&self, window: u64) -> usize
-        ensures { result ≡ count_of window (⟦<Self as SeenControls>⟧.records self.now) }
+        ensures { result ≡ count_of window (⟦<Self as ControlsOnStock>⟧.records self.now) }
     {
         self.list.count(window)
     }
@@ -161,12 +161,12 @@ impl Controls<TakenControl> {
     /// Which control owns the pixel at a point of the window at this index.
     fn found_at(&self, windows: &WindowManager, at: usize, point: Point) -> Option<FoundControl>
         requires kept { ⟦<WindowManager as DeskWindows>⟧.IsKept windows.now }
-        requires settled { AreSettled (⟦<Self as SeenControls>⟧.records self.now) }
+        requires settled { AreSettled (⟦<Self as ControlsOnStock>⟧.records self.now) }
         requires at { at < length windows.now.windows.records.items }
         requires point { in_plane point ≡ true }
         ensures { (w : _) → IsWindowAt windows.now.windows.records.items at w
             → result ≡ found_from (⟦<WindowManager as DeskWindows>⟧.desk windows.now [])
-            (⟦<Self as SeenControls>⟧.records self.now) w.serial w.place point }
+            (⟦<Self as ControlsOnStock>⟧.records self.now) w.serial w.place point }
     {
         let window = windows.list().at(at);
         let pixel = picture_place(window.place, point);

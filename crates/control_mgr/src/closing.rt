@@ -4,7 +4,7 @@ ghost use Rattle.control_mgr.specs.ControlClosing.{AreAllControlsClosed, IsWindo
 ghost use Rattle.control_mgr.specs.InUse.{AreStocked};
 ghost use Rattle.control_mgr.specs.WholeControls.{AreLiveControls, slots_of};
 
-use crate::{Controls, SeenControls};
+use crate::{Controls, ControlsOnStock};
 use def_iface::{ControlStock, Stocked, TakenControl, put_away};
 use window_items::Items;
 
@@ -12,11 +12,11 @@ impl Controls<TakenControl> {
     /// Ends the controls of a window: the definition of each is disposed of, and put back Closed into its slot. Those of other
     /// windows stay. Takes no memory, and draws nothing: this is for a window that is no more.
     pub fn end_of(&mut self, window: u64, stock: &mut ControlStock)
-        requires live { AreLiveControls (⟦<Self as SeenControls>⟧.records self.old) }
-        requires stocked { AreStocked (λ d. d.stage) (slots_of (⟦<Self as SeenControls>⟧.records self.old))
+        requires live { AreLiveControls (⟦<Self as ControlsOnStock>⟧.records self.old) }
+        requires stocked { AreStocked (λ d. d.stage) (slots_of (⟦<Self as ControlsOnStock>⟧.records self.old))
             (⟦<ControlStock as Stocked>⟧.slots stock.old) }
-        ensures { IsWindowLeft window (⟦<Self as SeenControls>⟧.state self.old stock.old)
-            (⟦<Self as SeenControls>⟧.state self.new stock.new) }
+        ensures { IsWindowLeft window (⟦<Self as ControlsOnStock>⟧.state self.old stock.old)
+            (⟦<Self as ControlsOnStock>⟧.state self.new stock.new) }
     {
         while let Some(control) = self.list.take_of(window) {
             put_away(control.kept.definition, stock);
@@ -26,10 +26,10 @@ impl Controls<TakenControl> {
     /// Ends the desk's controls: the definition of every one is disposed of, and put back Closed into its slot, while every other
     /// slot stays as it was. Takes no memory, and refuses nothing.
     pub fn close(self, stock: &mut ControlStock)
-        requires live { AreLiveControls (⟦<Self as SeenControls>⟧.records self) }
-        requires stocked { AreStocked (λ d. d.stage) (slots_of (⟦<Self as SeenControls>⟧.records self))
+        requires live { AreLiveControls (⟦<Self as ControlsOnStock>⟧.records self) }
+        requires stocked { AreStocked (λ d. d.stage) (slots_of (⟦<Self as ControlsOnStock>⟧.records self))
             (⟦<ControlStock as Stocked>⟧.slots stock.old) }
-        ensures { AreAllControlsClosed (⟦<Self as SeenControls>⟧.records self)
+        ensures { AreAllControlsClosed (⟦<Self as ControlsOnStock>⟧.records self)
             (⟦<ControlStock as Stocked>⟧.slots stock.old) (⟦<ControlStock as Stocked>⟧.slots stock.new) }
     {
         let Controls { list, .. } = self;

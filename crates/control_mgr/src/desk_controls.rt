@@ -9,7 +9,7 @@ use def_iface::{ControlDef, ControlStock, TakenControl, WindowDef};
 use window_mgr::WindowManager;
 
 /// The controls of a desk over the stock that their definitions come from, as contracts see them.
-pub trait SeenControls {
+pub trait ControlsOnStock {
     /// What the controls' definitions come from.
     type Stock;
     /// The boxes that these lie in: what they mean, the members say.
@@ -22,7 +22,7 @@ pub trait SeenControls {
     ghost state: { Self → Self.Stock → ControlsState };
 }
 
-impl SeenControls for Controls<TakenControl> {
+impl ControlsOnStock for Controls<TakenControl> {
     type Stock = ControlStock;
 
     type Boxes = Box<dyn ControlDef>;

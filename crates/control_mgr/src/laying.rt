@@ -11,7 +11,7 @@ ghost use Rattle.control_mgr.specs.Laying.{IsShapeOf, IsLaidOrShort, MayLie, May
 ghost use Rattle.control_mgr.specs.Spots.{IsSpot, IsSpotOf, IsTellable, with_lie};
 
 use crate::spots::ControlAt;
-use crate::{Controls, DeskControls, SeenControls};
+use crate::{Controls, ControlsOnStock, DeskControls};
 use def_iface::{Defined, Size, TakenControl, TakenWindow};
 use desk_call::{ControlOf, ControlReply, MoveControl, SizeControl};
 use std::alloc::{AllocError, Global};
@@ -95,7 +95,7 @@ impl Controls<TakenControl> {
     /// How the control at this index lies.
     fn lie(&self, at: usize) -> Lie
         requires { at < length self.now.list.items.items }
-        ensures { IfSome (slice_get (⟦<Self as SeenControls>⟧.records self.now) at) (λ c.
+        ensures { IfSome (slice_get (⟦<Self as ControlsOnStock>⟧.records self.now) at) (λ c.
             result ≡ record { place = c.kept.place; size = c.kept.size; shown = c.kept.shown }) }
     {
         let control = &self.list.items[at];
@@ -110,7 +110,7 @@ impl Controls<TakenControl> {
     fn may_lie(&self, windows: &WindowManager, spot: ControlAt, lie: Lie) -> bool
         requires window { spot.window < length windows.now.windows.records.items }
         requires control { spot.control < length self.now.list.items.items }
-        ensures { IfSome (slice_get (⟦<Self as SeenControls>⟧.records self.now) spot.control) (λ c.
+        ensures { IfSome (slice_get (⟦<Self as ControlsOnStock>⟧.records self.now) spot.control) (λ c.
             (w : _) → IsWindowAt windows.now.windows.records.items spot.window w
             → result ≡ may_be_placed (Some c.kept.definition.definition) lie.place lie.size w.place) }
     {
@@ -151,10 +151,10 @@ impl Controls<TakenControl> {
     /// Notes that the control at this index lies so, and tells its definition.
     fn put_lie(&mut self, at: usize, lie: Lie)
         requires at { at < length self.old.list.items.items }
-        requires tellable { IfSome (slice_get (⟦<Self as SeenControls>⟧.records self.old) at)
+        requires tellable { IfSome (slice_get (⟦<Self as ControlsOnStock>⟧.records self.old) at)
             (λ c. IsTellable (with_lie lie c)) }
-        ensures changed { IsChangedAt (with_lie lie) at (⟦<Self as SeenControls>⟧.records self.old)
-            (⟦<Self as SeenControls>⟧.records self.new) }
+        ensures changed { IsChangedAt (with_lie lie) at (⟦<Self as ControlsOnStock>⟧.records self.old)
+            (⟦<Self as ControlsOnStock>⟧.records self.new) }
         ensures next { self.new.list.next ≡ self.old.list.next }
         ensures alloc { self.new.alloc ≡ self.old.alloc }
     {

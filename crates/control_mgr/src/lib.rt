@@ -38,7 +38,7 @@ mod tracking;
 
 pub use control::Control;
 pub use controls::Controls;
-pub use desk_controls::{DeskControls, SeenControls};
+pub use desk_controls::{ControlsOnStock, DeskControls};
 pub use drawing::DrawnControl;
 pub use ending::{Ending, layers_left, update_left};
 pub use laying::may_be_placed;

@@ -12,7 +12,7 @@ ghost use Rattle.control_mgr.specs.Making.{IsAddition, IsGrown, IsNotAdded, IsRe
 
 use crate::laying::{Lie, may_be_placed, shape_of};
 use crate::setting::say_bounds;
-use crate::{Control, Controls, DeskControls, SeenControls};
+use crate::{Control, Controls, ControlsOnStock, DeskControls};
 use control_values::{ControlValues, Highlight};
 use def_iface::{ControlStock, Defined, Stage, Stocked, TakenControl, TakenWindow};
 use desk_call::{ControlCall, ControlReply, NewControl};
@@ -97,7 +97,7 @@ impl Controls<TakenControl> {
     fn refusal_without(&self, windows: &WindowManager, new: &NewControl<'_>) -> Refusal
         requires { ⟦<WindowManager as DeskWindows>⟧.IsKept windows.now }
         ensures { first_refusal (judged_refusals new.now None (⟦<WindowManager as DeskWindows>⟧.desk windows.now [])
-            (⟦<Self as SeenControls>⟧.records self.now) self.now.list.next ++ (true, Refusal.NoDefinition)
+            (⟦<Self as ControlsOnStock>⟧.records self.now) self.now.list.next ++ (true, Refusal.NoDefinition)
             ∷ []) ≡ Some result }
     {
         match self.judge(windows, new, None) {

@@ -7,7 +7,7 @@ ghost use Rattle.control_mgr.specs.Damages.{IsWhereRight};
 ghost use Rattle.control_mgr.specs.Spots.{opened};
 ghost use Rattle.control_mgr.specs.WholeControls.{IsTrackable};
 
-use crate::{Controls, DeskControls, SeenControls};
+use crate::{Controls, ControlsOnStock, DeskControls};
 use def_iface::{ControlStock, TakenControl};
 use desk_call::{Activity, ControlCall, ControlReply};
 use tb_geom::Refusal;
@@ -26,12 +26,12 @@ impl Controls<TakenControl> {
     ) -> Result<ControlReply, Refusal>
         requires kept { ⟦<WindowManager as DeskWindows>⟧.IsKept windows.old }
         requires whole { ⟦<Self as DeskControls>⟧.IsWhole windows.old self.old stock.old }
-        requires trackable { IsTrackable activity.old (⟦<Self as SeenControls>⟧.records self.old) }
+        requires trackable { IsTrackable activity.old (⟦<Self as ControlsOnStock>⟧.records self.old) }
         requires admitted { gate activity.old (control_standing call.now) ≡ None }
         ensures step { (begun : PixelSet) → ⟦<Self as DeskControls>⟧.LeavesStock stock.old stock.new
             (IsWhereRight (IsControlStep call.now result))
             windows.old (opened activity.old begun) self.old windows.new (opened activity.new begun) self.new }
-        ensures trackable { IsTrackable activity.new (⟦<Self as SeenControls>⟧.records self.new) }
+        ensures trackable { IsTrackable activity.new (⟦<Self as ControlsOnStock>⟧.records self.new) }
     {
         match call {
             ControlCall::New(new) => self.make(windows, new, stock),

@@ -10,7 +10,7 @@ ghost use Rattle.control_mgr.specs.Settled.{MayHaveSetting};
 ghost use Rattle.control_mgr.specs.Spots.{IsSpot, IsSpotOf, with_state};
 
 use crate::spots::ControlAt;
-use crate::{Controls, DeskControls, SeenControls};
+use crate::{Controls, ControlsOnStock, DeskControls};
 use control_values::{ControlValues, Highlight};
 use def_iface::{Defined, TakenControl, TakenWindow};
 use desk_call::{ControlNumber, ControlOf, ControlReply, ControlTitle};
@@ -41,7 +41,7 @@ impl Controls<TakenControl> {
     /// The state of the control at this index.
     pub(crate) fn state(&self, at: usize) -> State
         requires { at < length self.now.list.items.items }
-        ensures { IfSome (slice_get (⟦<Self as SeenControls>⟧.records self.now) at) (λ c.
+        ensures { IfSome (slice_get (⟦<Self as ControlsOnStock>⟧.records self.now) at) (λ c.
             result ≡ record { values = c.kept.values; highlight = c.kept.highlight; title = c.kept.title }) }
     {
         let control = &self.list.items[at];

@@ -5,7 +5,7 @@ ghost use Rattle.control_mgr.specs.ControlRefusals.{missing_refusals};
 ghost use Rattle.control_mgr.specs.ItemSpots.{IsItemAt, item_refusals};
 ghost use Rattle.control_mgr.specs.Spots.{IsSpotOf};
 
-use crate::{Controls, SeenControls};
+use crate::{Controls, ControlsOnStock};
 use def_iface::{Defined, TakenControl, TakenWindow};
 use desk_call::ControlOf;
 use tb_geom::Refusal;
@@ -58,7 +58,7 @@ impl Controls<TakenControl> {
         control: ControlOf,
     ) -> Result<ControlAt, Refusal>
         ensures { let refusals = missing_refusals control (⟦<WindowManager as DeskWindows>⟧.desk windows.now [])
-            (⟦<Self as SeenControls>⟧.records self.now) in
+            (⟦<Self as ControlsOnStock>⟧.records self.now) in
             MatchResult result
             (λ spot. IsSpotOf ⟦<TakenWindow as Defined>⟧.loan ⟦<TakenControl as Defined>⟧.loan control windows.now
             self.now spot)

@@ -4,7 +4,7 @@ ghost use Rattle.control_mgr.specs.ControlSteps.{IsChangedAt};
 ghost use Rattle.control_mgr.specs.Damages.{IsDamageAt};
 ghost use Rattle.control_mgr.specs.Spots.{IsTellable};
 
-use crate::{Controls, SeenControls};
+use crate::{Controls, ControlsOnStock};
 use def_iface::{ControlChange, TakenControl};
 use draw_port::placed_within;
 use tb_geom::Rect;
@@ -14,11 +14,11 @@ impl Controls<TakenControl> {
     /// control's window: of the pixels outside of it the control shows what it showed.
     pub(crate) fn tell(&mut self, at: usize) -> Rect
         requires at { at < length self.old.list.items.items }
-        requires tellable { IfSome (slice_get (⟦<Self as SeenControls>⟧.records self.old) at) IsTellable }
-        ensures told { IsChangedAt (λ c. c) at (⟦<Self as SeenControls>⟧.records self.old)
-            (⟦<Self as SeenControls>⟧.records self.new) }
-        ensures damage { IsDamageAt result at (⟦<Self as SeenControls>⟧.records self.old)
-            (⟦<Self as SeenControls>⟧.records self.new) }
+        requires tellable { IfSome (slice_get (⟦<Self as ControlsOnStock>⟧.records self.old) at) IsTellable }
+        ensures told { IsChangedAt (λ c. c) at (⟦<Self as ControlsOnStock>⟧.records self.old)
+            (⟦<Self as ControlsOnStock>⟧.records self.new) }
+        ensures damage { IsDamageAt result at (⟦<Self as ControlsOnStock>⟧.records self.old)
+            (⟦<Self as ControlsOnStock>⟧.records self.new) }
         ensures next { self.new.list.next ≡ self.old.list.next }
         ensures alloc { self.new.alloc ≡ self.old.alloc }
     {

@@ -17,7 +17,7 @@ ghost use Rattle.control_mgr.specs.WholeControls.{IsTrackable};
 
 use crate::asking::{is_within, part_tested};
 use crate::spots::ControlAt;
-use crate::{Controls, DeskControls, SeenControls};
+use crate::{Controls, ControlsOnStock, DeskControls};
 use control_values::{ControlPart, ControlValues, Highlight};
 use def_iface::{Defined, TakenControl, TakenWindow};
 use desk_call::{Activity, ControlReply, PointAtControl, TrackedControl};
@@ -72,9 +72,9 @@ impl Controls<TakenControl> {
     /// The part that is tracked, where the point lies in it.
     fn tracked_part(&self, at: usize, tracked: TrackedControl, point: Point) -> Option<ControlPart>
         requires at { at < length self.now.list.items.items }
-        requires settled { AreSettled (⟦<Self as SeenControls>⟧.records self.now) }
+        requires settled { AreSettled (⟦<Self as ControlsOnStock>⟧.records self.now) }
         requires point { in_plane point ≡ true }
-        ensures { result ≡ tracked_part tracked (slice_get (⟦<Self as SeenControls>⟧.records self.now) at) point }
+        ensures { result ≡ tracked_part tracked (slice_get (⟦<Self as ControlsOnStock>⟧.records self.now) at) point }
     {
         let control = &self.list.items[at];
         let inside = if is_thumb(tracked.part) {
@@ -88,10 +88,10 @@ impl Controls<TakenControl> {
     /// The setting of a control whose thumb was dragged so far.
     fn dragged(&self, at: usize, tracked: TrackedControl, point: Point) -> ControlValues
         requires at { at < length self.now.list.items.items }
-        requires settled { AreSettled (⟦<Self as SeenControls>⟧.records self.now) }
+        requires settled { AreSettled (⟦<Self as ControlsOnStock>⟧.records self.now) }
         requires from { in_plane tracked.from ≡ true }
         requires point { in_plane point ≡ true }
-        ensures { IfSome (slice_get (⟦<Self as SeenControls>⟧.records self.now) at)
+        ensures { IfSome (slice_get (⟦<Self as ControlsOnStock>⟧.records self.now) at)
             (λ c. result ≡ dragged tracked point c) }
     {
         let control = &self.list.items[at];
@@ -113,10 +113,10 @@ impl Controls<TakenControl> {
         part: Option<ControlPart>,
     ) -> ControlValues
         requires at { at < length self.now.list.items.items }
-        requires settled { AreSettled (⟦<Self as SeenControls>⟧.records self.now) }
+        requires settled { AreSettled (⟦<Self as ControlsOnStock>⟧.records self.now) }
         requires from { in_plane tracked.from ≡ true }
         requires point { in_plane point ≡ true }
-        ensures { IfSome (slice_get (⟦<Self as SeenControls>⟧.records self.now) at)
+        ensures { IfSome (slice_get (⟦<Self as ControlsOnStock>⟧.records self.now) at)
             (λ c. result ≡ released_setting tracked point part c) }
     {
         if is_thumb(tracked.part) && part.is_some() {
@@ -158,8 +158,8 @@ impl Controls<TakenControl> {
             → (o u : Opened) → ⟦<Self as DeskControls>⟧.Leaves
             (IsWhereRight (IsHighlighted (is_thumb tracked) c highlight)) windows.old o self.old windows.new u
             self.new }
-        ensures there { (c : Named) → index_of c (⟦<Self as SeenControls>⟧.records self.new)
-            ≡ index_of c (⟦<Self as SeenControls>⟧.records self.old) }
+        ensures there { (c : Named) → index_of c (⟦<Self as ControlsOnStock>⟧.records self.new)
+            ≡ index_of c (⟦<Self as ControlsOnStock>⟧.records self.old) }
     {
         if is_thumb(tracked) {
             return;
@@ -180,7 +180,7 @@ impl Controls<TakenControl> {
         ensures step { (begun : PixelSet) → ⟦<Self as DeskControls>⟧.Leaves
             (IsWhereRight (IsControlStep (asks.Track pressed) result))
             windows.old (opened activity.old begun) self.old windows.new (opened activity.new begun) self.new }
-        ensures trackable { IsTrackable activity.new (⟦<Self as SeenControls>⟧.records self.new) }
+        ensures trackable { IsTrackable activity.new (⟦<Self as ControlsOnStock>⟧.records self.new) }
     {
         let spot = self.spot(windows, pressed.control)?;
         if !pressed.point.is_in_range() {
@@ -209,12 +209,12 @@ impl Controls<TakenControl> {
     ) -> Result<ControlReply, Refusal>
         requires kept { ⟦<WindowManager as DeskWindows>⟧.IsKept windows.old }
         requires beside { ⟦<Self as DeskControls>⟧.AreBeside windows.old self.old }
-        requires trackable { IsTrackable (TrackingControl tracked) (⟦<Self as SeenControls>⟧.records self.old) }
+        requires trackable { IsTrackable (TrackingControl tracked) (⟦<Self as ControlsOnStock>⟧.records self.old) }
         ensures step { (begun : PixelSet) → ⟦<Self as DeskControls>⟧.Leaves
             (IsWhereRight (IsControlStep (asks.Step point) result))
             windows.old (opened (TrackingControl tracked) begun) self.old windows.new
             (opened (TrackingControl tracked) begun) self.new }
-        ensures trackable { IsTrackable (TrackingControl tracked) (⟦<Self as SeenControls>⟧.records self.new) }
+        ensures trackable { IsTrackable (TrackingControl tracked) (⟦<Self as ControlsOnStock>⟧.records self.new) }
     {
         if !point.is_in_range() {
             return Err(Refusal::OutOfRange);
@@ -236,11 +236,11 @@ impl Controls<TakenControl> {
         requires kept { ⟦<WindowManager as DeskWindows>⟧.IsKept windows.old }
         requires beside { ⟦<Self as DeskControls>⟧.AreBeside windows.old self.old }
         requires tracking { activity.old ≡ TrackingControl tracked }
-        requires trackable { IsTrackable (TrackingControl tracked) (⟦<Self as SeenControls>⟧.records self.old) }
+        requires trackable { IsTrackable (TrackingControl tracked) (⟦<Self as ControlsOnStock>⟧.records self.old) }
         ensures step { (begun : PixelSet) → ⟦<Self as DeskControls>⟧.Leaves
             (IsWhereRight (IsControlStep (asks.End point) result))
             windows.old (opened activity.old begun) self.old windows.new (opened activity.new begun) self.new }
-        ensures trackable { IsTrackable activity.new (⟦<Self as SeenControls>⟧.records self.new) }
+        ensures trackable { IsTrackable activity.new (⟦<Self as ControlsOnStock>⟧.records self.new) }
     {
         if !point.is_in_range() {
             return Err(Refusal::OutOfRange);

@@ -22,13 +22,13 @@ use crate::{
     Call, ControlCall, ControlReply, Desk, EventCall, EventReply, Found, ListCall, ListReply,
     PointInWindow, Reply, Toolbox, UpdateCall, WindowCall, WindowPart, WindowReply,
 };
-use control_mgr::{Controls, SeenControls};
+use control_mgr::{Controls, ControlsOnStock};
 use def_iface::{
     ControlStock, Defined, ListStock, Stock, Stocked, StockedAll, TakenControl, TakenList,
     TakenWindow,
 };
 use desk_call::{Asked, Nature};
-use list_mgr::{Contents, Lists, SeenLists};
+use list_mgr::{Contents, Lists, ListsOnStock};
 use tb_geom::Refusal;
 use window_frame::follow;
 use window_list::picture_place;
@@ -270,21 +270,21 @@ fn forget(
     control_stock: &mut ControlStock,
     list_stock: &mut ListStock,
 )
-    requires live { AreLiveControls (⟦<Controls<TakenControl> as SeenControls>⟧.records controls.old) }
+    requires live { AreLiveControls (⟦<Controls<TakenControl> as ControlsOnStock>⟧.records controls.old) }
     requires stocked { AreStocked (λ d. d.stage)
-        (slots_of (⟦<Controls<TakenControl> as SeenControls>⟧.records controls.old))
+        (slots_of (⟦<Controls<TakenControl> as ControlsOnStock>⟧.records controls.old))
         (⟦<ControlStock as Stocked>⟧.slots control_stock.old) }
-    requires live_lists { AreLiveLists (⟦<Lists<TakenList> as SeenLists>⟧.records lists.old) }
+    requires live_lists { AreLiveLists (⟦<Lists<TakenList> as ListsOnStock>⟧.records lists.old) }
     requires stocked_lists { AreStocked (λ d. d.stage)
-        (whole_lists.slots_of (⟦<Lists<TakenList> as SeenLists>⟧.records lists.old))
+        (whole_lists.slots_of (⟦<Lists<TakenList> as ListsOnStock>⟧.records lists.old))
         (⟦<ListStock as Stocked>⟧.slots list_stock.old) }
     ensures events { (call : Named) → window_ends call ≡ ends → events.new ≡ events_left call events.old }
     ensures controls { (call : Named) → window_ends call ≡ ends → AreControlsLeft call
-        (⟦<Controls<TakenControl> as SeenControls>⟧.state controls.old control_stock.old)
-        (⟦<Controls<TakenControl> as SeenControls>⟧.state controls.new control_stock.new) }
+        (⟦<Controls<TakenControl> as ControlsOnStock>⟧.state controls.old control_stock.old)
+        (⟦<Controls<TakenControl> as ControlsOnStock>⟧.state controls.new control_stock.new) }
     ensures lists { (call : Named) → window_ends call ≡ ends → AreListsLeft call
-        (⟦<Lists<TakenList> as SeenLists>⟧.state lists.old list_stock.old)
-        (⟦<Lists<TakenList> as SeenLists>⟧.state lists.new list_stock.new) }
+        (⟦<Lists<TakenList> as ListsOnStock>⟧.state lists.old list_stock.old)
+        (⟦<Lists<TakenList> as ListsOnStock>⟧.state lists.new list_stock.new) }
 {
     if let Some(window) = ends {
         events.forget(window);

@@ -10,7 +10,7 @@ use def_iface::{ControlDef, ControlStock, ListDef, ListStock, TakenControl, Take
 use window_mgr::WindowManager;
 
 /// The lists of a desk over the stock that their definitions come from, as contracts see them.
-pub trait SeenLists {
+pub trait ListsOnStock {
     /// What the lists' definitions come from.
     type Stock;
     /// The boxes that these lie in: what they mean, the members say.
@@ -23,7 +23,7 @@ pub trait SeenLists {
     ghost state: { Self → Self.Stock → ListsState };
 }
 
-impl SeenLists for Lists<TakenList> {
+impl ListsOnStock for Lists<TakenList> {
     type Stock = ListStock;
 
     type Boxes = Box<dyn ListDef>;

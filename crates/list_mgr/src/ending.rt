@@ -9,7 +9,7 @@ ghost use Rattle.list_mgr.specs.ListClosing.{AreAllListsClosed, AreListsOfLeft};
 ghost use Rattle.list_mgr.specs.ListSteps.{IsListStep};
 ghost use Rattle.list_mgr.specs.WholeLists.{AreLiveLists, slots_of};
 
-use crate::{DeskLists, DeskListsWithBars, Lists, SeenLists};
+use crate::{DeskLists, DeskListsWithBars, Lists, ListsOnStock};
 use control_mgr::{Controls, DeskControls, Ending, layers_left, update_left};
 use def_iface::{
     ControlStock, Defined, ListStock, Stocked, TakenControl, TakenList, TakenWindow, put_away,
@@ -122,11 +122,11 @@ impl Lists<TakenList> {
     /// Ends the lists of a window: the definition of each is disposed of, and put back Closed into its slot. Those of other windows
     /// stay. Takes no memory, and draws nothing: this is for a window that is no more, whose controls end with it.
     pub fn end_of(&mut self, window: u64, stock: &mut ListStock)
-        requires live { AreLiveLists (⟦<Self as SeenLists>⟧.records self.old) }
-        requires stocked { AreStocked (λ d. d.stage) (slots_of (⟦<Self as SeenLists>⟧.records self.old))
+        requires live { AreLiveLists (⟦<Self as ListsOnStock>⟧.records self.old) }
+        requires stocked { AreStocked (λ d. d.stage) (slots_of (⟦<Self as ListsOnStock>⟧.records self.old))
             (⟦<ListStock as Stocked>⟧.slots stock.old) }
-        ensures { AreListsOfLeft window (⟦<Self as SeenLists>⟧.state self.old stock.old)
-            (⟦<Self as SeenLists>⟧.state self.new stock.new) }
+        ensures { AreListsOfLeft window (⟦<Self as ListsOnStock>⟧.state self.old stock.old)
+            (⟦<Self as ListsOnStock>⟧.state self.new stock.new) }
     {
         while let Some(list) = self.list.take_of(window) {
             put_away(list.kept.definition, stock);
@@ -136,10 +136,10 @@ impl Lists<TakenList> {
     /// Ends the desk's lists: the definition of every one is disposed of, and put back Closed into its slot, while every other slot
     /// stays as it was. Takes no memory, and refuses nothing.
     pub fn close(self, stock: &mut ListStock)
-        requires live { AreLiveLists (⟦<Self as SeenLists>⟧.records self) }
-        requires stocked { AreStocked (λ d. d.stage) (slots_of (⟦<Self as SeenLists>⟧.records self))
+        requires live { AreLiveLists (⟦<Self as ListsOnStock>⟧.records self) }
+        requires stocked { AreStocked (λ d. d.stage) (slots_of (⟦<Self as ListsOnStock>⟧.records self))
             (⟦<ListStock as Stocked>⟧.slots stock.old) }
-        ensures { AreAllListsClosed (⟦<Self as SeenLists>⟧.records self)
+        ensures { AreAllListsClosed (⟦<Self as ListsOnStock>⟧.records self)
             (⟦<ListStock as Stocked>⟧.slots stock.old) (⟦<ListStock as Stocked>⟧.slots stock.new) }
     {
         let Lists { list, .. } = self;

@@ -10,7 +10,7 @@ ghost use Rattle.control_mgr.specs.Laying.{definition_if};
 ghost use Rattle.list_mgr.specs.ListRefusals.{bars_wanted, have_room, lacks_kind, list_form_refusals, may_bar_be_in, may_view_be_in, size_of, view_of};
 ghost use Rattle.list_mgr.specs.Making.{IsListTicket, judged_by, lie_refusals, number_refusals, room_refusals};
 
-use crate::{Lists, SeenLists};
+use crate::{Lists, ListsOnStock};
 use control_mgr::{Controls, MOST_CONTROLS, may_be_placed};
 use def_iface::{
     ControlStock, Defined, ListStock, Size, Stocked, TakenControl, TakenList, TakenWindow,
@@ -191,7 +191,7 @@ impl Lists<TakenList> {
         next_control: Option<u64>,
     ) -> Result<u64, Refusal>
         ensures { let refusals = room_refusals new.now controls next_control
-            (⟦<Self as SeenLists>⟧.records self.now) self.now.list.next in
+            (⟦<Self as ListsOnStock>⟧.records self.now) self.now.list.next in
             MatchResult result (λ serial. (self.now.list.next ≡ Some serial) × (first_refusal refusals ≡ None))
             (λ e. first_refusal refusals ≡ Some e) }
     {

@@ -34,7 +34,7 @@ mod putting;
 mod selecting;
 mod spots;
 
-pub use desk_lists::{DeskLists, DeskListsWithBars, SeenLists};
+pub use desk_lists::{DeskLists, DeskListsWithBars, ListsOnStock};
 pub use drawing::Contents;
 pub use judging::{MOST_LISTS, form_refusal};
 pub use list_record::ListRecord;

@@ -12,7 +12,7 @@ ghost use Rattle.list_mgr.specs.Within.{IsWhereRight};
 use crate::line_edit::{LineChange, LineEdit};
 use crate::lines_from::{line_number, lines_from};
 use crate::spots::ListAt;
-use crate::{DeskLists, DeskListsWithBars, Lists, SeenLists};
+use crate::{DeskLists, DeskListsWithBars, Lists, ListsOnStock};
 use control_mgr::{Controls, DeskControls};
 use def_iface::{Defined, TakenControl, TakenList, TakenWindow};
 use desk_call::{ListReply, ScrollList};
@@ -32,10 +32,10 @@ impl Lists<TakenList> {
     /// Scrolls the list that stands here, as far as there are cells to be seen, and says whether it is scrolled otherwise then.
     fn scroll_by(&mut self, spot: ListAt, columns: i32, rows: i32) -> bool
         requires { spot.list < length self.old.list.items.items }
-        ensures lists { ⟦<Self as SeenLists>⟧.records self.new
-            ≡ edit_at (with_scroll columns rows) spot.list (⟦<Self as SeenLists>⟧.records self.old) }
+        ensures lists { ⟦<Self as ListsOnStock>⟧.records self.new
+            ≡ edit_at (with_scroll columns rows) spot.list (⟦<Self as ListsOnStock>⟧.records self.old) }
         ensures next { self.new.list.next ≡ self.old.list.next }
-        ensures changes { IfSome (slice_get (⟦<Self as SeenLists>⟧.records self.old) spot.list)
+        ensures changes { IfSome (slice_get (⟦<Self as ListsOnStock>⟧.records self.old) spot.list)
             (λ x. IsSameOrNot result (with_scroll columns rows x) x) }
     {
         let list = &self.list.items[spot.list];
@@ -54,10 +54,10 @@ impl Lists<TakenList> {
     /// scrolled otherwise then.
     fn scroll_back(&mut self, spot: ListAt, change: LineChange) -> bool
         requires { spot.list < length self.old.list.items.items }
-        ensures lists { ⟦<Self as SeenLists>⟧.records self.new
-            ≡ edit_at (scrolled_after change) spot.list (⟦<Self as SeenLists>⟧.records self.old) }
+        ensures lists { ⟦<Self as ListsOnStock>⟧.records self.new
+            ≡ edit_at (scrolled_after change) spot.list (⟦<Self as ListsOnStock>⟧.records self.old) }
         ensures next { self.new.list.next ≡ self.old.list.next }
-        ensures changes { IfSome (slice_get (⟦<Self as SeenLists>⟧.records self.old) spot.list)
+        ensures changes { IfSome (slice_get (⟦<Self as ListsOnStock>⟧.records self.old) spot.list)
             (λ x. IsSameOrNot result (scrolled_after change x) x) }
     {
         match change {

@@ -4,7 +4,7 @@ ghost use Rattle.tb_geom.specs.Refusals.{first_refusal};
 ghost use Rattle.list_mgr.specs.ListRefusals.{missing_refusals};
 ghost use Rattle.list_mgr.specs.Spots.{IsSpotOf};
 
-use crate::{Lists, SeenLists};
+use crate::{Lists, ListsOnStock};
 use control_mgr::spot_of;
 use def_iface::{Defined, TakenList, TakenWindow};
 use desk_call::ListOf;
@@ -22,7 +22,7 @@ impl Lists<TakenList> {
     /// Where this list stands.
     pub(crate) fn spot(&self, windows: &WindowManager, list: ListOf) -> Result<ListAt, Refusal>
         ensures { let refusals = missing_refusals list (⟦<WindowManager as DeskWindows>⟧.desk windows.now [])
-            (⟦<Self as SeenLists>⟧.records self.now) in
+            (⟦<Self as ListsOnStock>⟧.records self.now) in
             MatchResult result
             (λ spot. IsSpotOf ⟦<TakenWindow as Defined>⟧.loan ⟦<TakenList as Defined>⟧.loan list windows.now self.now
             spot)

@@ -12,7 +12,7 @@ use window_mgr::WindowManager;
 
 /// The menus of a desk over the stock that their definitions come from, as contracts see them. Where a clause speaks of any
 /// stock, it names the same over slots.
-pub trait SeenMenus {
+pub trait MenusOnStock {
     /// What the menus' definitions come from.
     type Stock;
     /// The boxes that these lie in: what they mean, the members say.
@@ -31,7 +31,7 @@ pub trait SeenMenus {
     ghost AreKept: { Activity → Self → Type 0 };
 }
 
-impl SeenMenus for Menus {
+impl MenusOnStock for Menus {
     type Stock = MenuStock;
 
     type Boxes = Box<dyn MenuDef>;

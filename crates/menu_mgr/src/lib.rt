@@ -30,6 +30,6 @@ mod titles;
 pub use desk_call::{
     AppendItems, CheckItem, Choice, InsertMenu, ItemOfMenu, ItemText, MenuCall, MenuReply, NewMenu,
 };
-pub use desk_menus::{DeskMenus, SeenMenus};
+pub use desk_menus::{DeskMenus, MenusOnStock};
 pub use making::form_refusal;
 pub use menus::Menus;

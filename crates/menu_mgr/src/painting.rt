@@ -6,7 +6,7 @@ ghost use Rattle.menu_mgr.specs.WholeMenus.{AreLive};
 ghost use Rattle.menu_mgr.specs.Pulling.{pulled_of};
 ghost use Rattle.overlay.specs.Overlays.{IsShown, is_menu_place};
 
-use crate::{Menus, SeenMenus};
+use crate::{Menus, MenusOnStock};
 use bit_map::BitMap;
 use desk_call::PulledMenu;
 use overlay::draw_pulled;
@@ -16,10 +16,10 @@ impl Menus {
     /// Draws the menu that is pulled down over a base image. It takes no memory, and does not read the map in front on which
     /// that is shown.
     pub fn paint_pulled(&self, map: &mut BitMap, font: &Font, pulled: PulledMenu)
-        requires live { AreLive (⟦<Self as SeenMenus>⟧.menus self.now) }
+        requires live { AreLive (⟦<Self as MenusOnStock>⟧.menus self.now) }
         requires place { is_menu_place pulled.place ≡ true }
         requires size { is_menu_size pulled.size ≡ true }
-        ensures { IsShown font.now (pulled_of (Pulling pulled) (⟦<Self as SeenMenus>⟧.menus self.now)) map.old map.new }
+        ensures { IsShown font.now (pulled_of (Pulling pulled) (⟦<Self as MenusOnStock>⟧.menus self.now)) map.old map.new }
     {
         if let Some(at) = self.list.find(i32::from(pulled.menu)) {
             let listed = &self.list.menus[at];

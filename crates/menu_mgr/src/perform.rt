@@ -8,7 +8,7 @@ ghost use Rattle.desk_call.specs.declared.menu.MenuCall.TheVariants as asks;
 ghost use Rattle.menu_mgr.specs.MenuDesks.{MenuSlot};
 ghost use Rattle.menu_mgr.specs.MenuSteps.{IsMenuStep, is_edit};
 
-use crate::{DeskMenus, MenuCall, MenuReply, Menus, NewMenu, SeenMenus};
+use crate::{DeskMenus, MenuCall, MenuReply, Menus, MenusOnStock, NewMenu};
 use def_iface::MenuStock;
 use desk_call::Activity;
 use menu_list::edit;
@@ -29,7 +29,7 @@ impl Menus {
         stock: &mut MenuStock,
     ) -> Result<MenuReply, Refusal>
         requires kept { ⟦<WindowManager as DeskWindows>⟧.IsKept windows.old }
-        requires menus { ⟦<Self as SeenMenus>⟧.IsWhole activity.old self.old stock.old }
+        requires menus { ⟦<Self as MenusOnStock>⟧.IsWhole activity.old self.old stock.old }
         requires front { ⟦<Self as DeskMenus>⟧.IsFront activity.old windows.old self.old front.old }
         requires admitted { gate activity.old (menu_standing call.now) ≡ None }
         ensures step { (begun : PixelSet) → ⟦<Self as DeskMenus>⟧.LeavesStock stock.old stock.new
@@ -63,7 +63,7 @@ impl Menus {
         stock: &mut MenuStock,
     ) -> Result<MenuReply, Refusal>
         requires kept { ⟦<WindowManager as DeskWindows>⟧.IsKept windows.old }
-        requires menus { ⟦<Self as SeenMenus>⟧.IsWhole Idle self.old stock.old }
+        requires menus { ⟦<Self as MenusOnStock>⟧.IsWhole Idle self.old stock.old }
         ensures { (begun : PixelSet) → ⟦<Self as DeskMenus>⟧.LeavesStock stock.old stock.new
             (IsMenuStep (asks.New new.now) result)
             windows.old (opened Idle begun) self.old windows.new (opened Idle begun) self.new }
@@ -85,7 +85,7 @@ impl Menus {
         stock: &mut MenuStock,
     ) -> Result<MenuReply, Refusal>
         requires kept { ⟦<WindowManager as DeskWindows>⟧.IsKept windows.old }
-        requires menus { ⟦<Self as SeenMenus>⟧.IsWhole Idle self.old stock.old }
+        requires menus { ⟦<Self as MenusOnStock>⟧.IsWhole Idle self.old stock.old }
         ensures { (begun : PixelSet) → ⟦<Self as DeskMenus>⟧.LeavesStock stock.old stock.new
             (IsMenuStep (asks.Dispose menu) result)
             windows.old (opened Idle begun) self.old windows.new (opened Idle begun) self.new }
@@ -109,7 +109,7 @@ impl Menus {
         requires edits { is_edit call.now ≡ true }
         requires few { length self.old.list.menus.items ≤ 16 }
         ensures { (begun : PixelSet) (kept : List MenuSlot)
-            → ⟦<Self as SeenMenus>⟧.IsWholeOver Idle self.old kept
+            → ⟦<Self as MenusOnStock>⟧.IsWholeOver Idle self.old kept
             → ⟦<Self as DeskMenus>⟧.LeavesOver kept kept
             (IsMenuStep call.now result)
             windows.old (opened Idle begun) self.old windows.new (opened Idle begun) self.new }

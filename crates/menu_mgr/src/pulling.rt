@@ -17,7 +17,7 @@ ghost use Rattle.menu_mgr.specs.MenuSteps.{IsMenuStep, choice_of};
 ghost use Rattle.menu_mgr.specs.Pulling.{as_pulled, is_pulled_at, item_under, pulled_below, pulled_of, title_under};
 ghost use Rattle.menu_mgr.specs.WholeMenus.{AreLive, IsPlaced};
 
-use crate::{Choice, DeskMenus, MenuReply, Menus, SeenMenus};
+use crate::{Choice, DeskMenus, MenuReply, Menus, MenusOnStock};
 use def_iface::{Defined, TakenMenu};
 use desk_call::{Activity, PulledMenu};
 use desk_ground::{TitleHit, title_at};
@@ -112,7 +112,7 @@ impl Menus {
         requires size { is_menu_size pulled.size ≡ true }
         requires point { in_plane point ≡ true }
         ensures { result ≡ item_under (⟦<WindowManager as DeskWindows>⟧.desk windows.now []) pulled
-            (⟦<Self as SeenMenus>⟧.menus self.now) point }
+            (⟦<Self as MenusOnStock>⟧.menus self.now) point }
     {
         let at = self.index_of(pulled.menu)?;
         let area = pulled_rect(pulled.place, pulled.size);
@@ -130,7 +130,7 @@ impl Menus {
     pub fn has_point(&self, windows: &WindowManager, activity: Activity, point: Point) -> bool
         requires { IsPlaced activity }
         ensures { result ≡ is_pulled_at (⟦<WindowManager as DeskWindows>⟧.desk windows.now [])
-            (pulled_of activity (⟦<Self as SeenMenus>⟧.menus self.now)) point }
+            (pulled_of activity (⟦<Self as MenusOnStock>⟧.menus self.now)) point }
     {
         match activity {
             Activity::Pulling(pulled) => self.is_over(windows, pulled, point),
@@ -143,7 +143,7 @@ impl Menus {
         requires place { is_menu_place pulled.place ≡ true }
         requires size { is_menu_size pulled.size ≡ true }
         ensures { result ≡ is_pulled_at (⟦<WindowManager as DeskWindows>⟧.desk windows.now [])
-            (pulled_of (Pulling pulled) (⟦<Self as SeenMenus>⟧.menus self.now)) point }
+            (pulled_of (Pulling pulled) (⟦<Self as MenusOnStock>⟧.menus self.now)) point }
     {
         match self.index_of(pulled.menu) {
             Some(_) => {
@@ -165,7 +165,7 @@ impl Menus {
         requires few { length self.old.list.menus.items ≤ 16 }
         requires at { title.at < length self.old.list.menus.items }
         requires near { (pos 0 ≤ℤ title.hit.left) × (title.hit.left ≤ℤ pos 1200000) }
-        requires live { AreLive (⟦<Self as SeenMenus>⟧.menus self.old) }
+        requires live { AreLive (⟦<Self as MenusOnStock>⟧.menus self.old) }
         requires width { front.old.front.width ≡ windows.old.screen.width }
         requires height { front.old.front.height ≡ windows.old.screen.height }
         ensures menus { self.new.list.menus ≡ self.old.list.menus }
@@ -228,7 +228,7 @@ impl Menus {
         point: Point,
     ) -> Result<MenuReply, Refusal>
         requires kept { ⟦<WindowManager as DeskWindows>⟧.IsKept windows.old }
-        requires menus { ⟦<Self as SeenMenus>⟧.AreKept activity.old self.old }
+        requires menus { ⟦<Self as MenusOnStock>⟧.AreKept activity.old self.old }
         requires front { ⟦<Self as DeskMenus>⟧.IsFront activity.old windows.old self.old front.old }
         requires idle { activity.old ≡ Idle }
         ensures step { (begun : PixelSet) → ⟦<Self as DeskMenus>⟧.Leaves
@@ -258,7 +258,7 @@ impl Menus {
         point: Point,
     ) -> Result<MenuReply, Refusal>
         requires kept { ⟦<WindowManager as DeskWindows>⟧.IsKept windows.old }
-        requires menus { ⟦<Self as SeenMenus>⟧.AreKept activity.old self.old }
+        requires menus { ⟦<Self as MenusOnStock>⟧.AreKept activity.old self.old }
         requires front { ⟦<Self as DeskMenus>⟧.IsFront activity.old windows.old self.old front.old }
         requires pulling { activity.old ≡ Pulling pulled }
         ensures step { (begun : PixelSet) → ⟦<Self as DeskMenus>⟧.Leaves
@@ -293,7 +293,7 @@ impl Menus {
         point: Point,
     ) -> Result<MenuReply, Refusal>
         requires kept { ⟦<WindowManager as DeskWindows>⟧.IsKept windows.old }
-        requires menus { ⟦<Self as SeenMenus>⟧.AreKept activity.old self.old }
+        requires menus { ⟦<Self as MenusOnStock>⟧.AreKept activity.old self.old }
         requires pulling { activity.old ≡ Pulling pulled }
         ensures step { (begun : PixelSet) → ⟦<Self as DeskMenus>⟧.Leaves
             (IsMenuStep (asks.Up point) result)

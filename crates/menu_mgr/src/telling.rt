@@ -11,7 +11,7 @@ ghost use Rattle.menu_mgr.specs.MenuSteps.{IsTold, IsToldAt};
 ghost use Rattle.menu_mgr.specs.Pulling.{as_pulled, pulled_of};
 ghost use Rattle.menu_mgr.specs.WholeMenus.{AreLive};
 
-use crate::{Menus, SeenMenus};
+use crate::{Menus, MenusOnStock};
 use def_iface::{Defined, MenuChange, TakenMenu};
 use desk_call::PulledMenu;
 use overlay::Overlay;
@@ -28,7 +28,7 @@ impl Menus {
         pulled: PulledMenu,
     )
         requires at { at < length self.now.list.menus.items }
-        requires live { AreLive (⟦<Self as SeenMenus>⟧.menus self.now) }
+        requires live { AreLive (⟦<Self as MenusOnStock>⟧.menus self.now) }
         requires place { is_menu_place pulled.place ≡ true }
         requires size { is_menu_size pulled.size ≡ true }
         requires width { front.old.front.width ≡ windows.now.screen.width }
@@ -49,9 +49,9 @@ impl Menus {
 
     /// Tells the definition of the pulled menu, which is about to be put away, that no item is highlighted. Takes no memory.
     pub(crate) fn dim_pulled(&mut self, pulled: PulledMenu)
-        requires live { AreLive (⟦<Self as SeenMenus>⟧.menus self.old) }
-        ensures told { IsTold pulled None (⟦<Self as SeenMenus>⟧.menus self.old)
-            (⟦<Self as SeenMenus>⟧.menus self.new) }
+        requires live { AreLive (⟦<Self as MenusOnStock>⟧.menus self.old) }
+        ensures told { IsTold pulled None (⟦<Self as MenusOnStock>⟧.menus self.old)
+            (⟦<Self as MenusOnStock>⟧.menus self.new) }
         ensures highlighted { self.new.list.highlighted ≡ self.old.list.highlighted }
         ensures room { vec_capacity self.old.list.menus ≤ vec_capacity self.new.list.menus }
         ensures alloc { self.new.alloc ≡ self.old.alloc }
@@ -70,20 +70,20 @@ impl Menus {
         pulled: PulledMenu,
         item: Option<u8>,
     )
-        requires live { AreLive (⟦<Self as SeenMenus>⟧.menus self.old) }
+        requires live { AreLive (⟦<Self as MenusOnStock>⟧.menus self.old) }
         requires place { is_menu_place pulled.place ≡ true }
         requires size { is_menu_size pulled.size ≡ true }
         requires screen { (front.old.front.width ≤ 1024) × (front.old.front.height ≤ 1024) }
-        ensures told { IsTold pulled item (⟦<Self as SeenMenus>⟧.menus self.old)
-            (⟦<Self as SeenMenus>⟧.menus self.new) }
+        ensures told { IsTold pulled item (⟦<Self as MenusOnStock>⟧.menus self.old)
+            (⟦<Self as MenusOnStock>⟧.menus self.new) }
         ensures highlighted { self.new.list.highlighted ≡ self.old.list.highlighted }
         ensures room { vec_capacity self.old.list.menus ≤ vec_capacity self.new.list.menus }
         ensures alloc { self.new.alloc ≡ self.old.alloc }
         ensures front { (base : Bits)
             → IsShown font.now (pulled_of (Pulling pulled)
-            (⟦<Self as SeenMenus>⟧.menus self.old)) base front.old.front
+            (⟦<Self as MenusOnStock>⟧.menus self.old)) base front.old.front
             → IsShown font.now (pulled_of (Pulling pulled)
-            (⟦<Self as SeenMenus>⟧.menus self.new)) base front.new.front }
+            (⟦<Self as MenusOnStock>⟧.menus self.new)) base front.new.front }
     {
         if let Some(at) = self.index_of(pulled.menu) {
             self.tell_at(front, font, at, pulled, item);
@@ -100,20 +100,20 @@ impl Menus {
         item: Option<u8>,
     )
         requires at { at < length self.old.list.menus.items }
-        requires live { AreLive (⟦<Self as SeenMenus>⟧.menus self.old) }
+        requires live { AreLive (⟦<Self as MenusOnStock>⟧.menus self.old) }
         requires place { is_menu_place pulled.place ≡ true }
         requires size { is_menu_size pulled.size ≡ true }
         requires screen { (front.old.front.width ≤ 1024) × (front.old.front.height ≤ 1024) }
-        ensures told { IsToldAt (Some at) item (⟦<Self as SeenMenus>⟧.menus self.old)
-            (⟦<Self as SeenMenus>⟧.menus self.new) }
+        ensures told { IsToldAt (Some at) item (⟦<Self as MenusOnStock>⟧.menus self.old)
+            (⟦<Self as MenusOnStock>⟧.menus self.new) }
         ensures highlighted { self.new.list.highlighted ≡ self.old.list.highlighted }
         ensures room { vec_capacity self.old.list.menus ≤ vec_capacity self.new.list.menus }
         ensures alloc { self.new.alloc ≡ self.old.alloc }
         ensures front { (base : Bits)
             → IsShown font.now (option_map (as_pulled pulled)
-            (slice_get (⟦<Self as SeenMenus>⟧.menus self.old) at)) base front.old.front
+            (slice_get (⟦<Self as MenusOnStock>⟧.menus self.old) at)) base front.old.front
             → IsShown font.now (option_map (as_pulled pulled)
-            (slice_get (⟦<Self as SeenMenus>⟧.menus self.new) at)) base front.new.front }
+            (slice_get (⟦<Self as MenusOnStock>⟧.menus self.new) at)) base front.new.front }
     {
         let listed = &mut self.list.menus[at];
         let damage = listed.definition.told(MenuChange::Highlighted(item));
