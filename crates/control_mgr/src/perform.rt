@@ -1,12 +1,13 @@
 //! Calls, one by one.
-ghost use Rattle.std.specs.Prelude.{◌≡◌, None};
+ghost use Rattle.std.specs.Prelude.{◌≡◌, [], None};
 ghost use Rattle.tb_geom.specs.Points.{PixelSet};
 ghost use Rattle.desk_call.specs.Gates.{control_standing, gate};
 ghost use Rattle.control_mgr.specs.ControlSteps.{IsControlStep};
 ghost use Rattle.control_mgr.specs.Damages.{IsWhereRight};
 ghost use Rattle.control_mgr.specs.Spots.{opened};
-ghost use Rattle.control_mgr.specs.WholeControls.{IsTrackable};
+ghost use Rattle.control_mgr.specs.WholeControls.{AreWholeControls, IsTrackable};
 
+use crate::setting::WhichNumber;
 use crate::{Controls, ControlsOnStock, DeskControls};
 use def_iface::{ControlStock, TakenControl};
 use desk_call::{Activity, ControlCall, ControlReply};
@@ -25,7 +26,8 @@ impl Controls<TakenControl> {
         stock: &mut ControlStock,
     ) -> Result<ControlReply, Refusal>
         requires kept { ⟦<WindowManager as DeskWindows>⟧.IsKept windows.old }
-        requires whole { ⟦<Self as DeskControls>⟧.IsWhole windows.old self.old stock.old }
+        requires whole { AreWholeControls (⟦<WindowManager as DeskWindows>⟧.desk windows.old []).windows
+            (⟦<Self as ControlsOnStock>⟧.state self.old stock.old) }
         requires trackable { IsTrackable activity.old (⟦<Self as ControlsOnStock>⟧.records self.old) }
         requires admitted { gate activity.old (control_standing call.now) ≡ None }
         ensures step { (begun : PixelSet) → ⟦<Self as DeskControls>⟧.LeavesStock stock.old stock.new
@@ -40,9 +42,9 @@ impl Controls<TakenControl> {
             ControlCall::Hide(control) => self.show(windows, *control, false),
             ControlCall::Move(moved) => self.move_control(windows, *moved),
             ControlCall::Size(sized) => self.size_control(windows, *sized),
-            ControlCall::SetValue(set) => self.set_value(windows, *set),
-            ControlCall::SetMinimum(set) => self.set_minimum(windows, *set),
-            ControlCall::SetMaximum(set) => self.set_maximum(windows, *set),
+            ControlCall::SetValue(set) => self.set_number(windows, WhichNumber::Value, *set),
+            ControlCall::SetMinimum(set) => self.set_number(windows, WhichNumber::Minimum, *set),
+            ControlCall::SetMaximum(set) => self.set_number(windows, WhichNumber::Maximum, *set),
             ControlCall::Hilite(set) => self.hilite(windows, *set),
             ControlCall::SetTitle(set) => self.set_title(windows, set),
             ControlCall::Get(control) => self.get(windows, *control),

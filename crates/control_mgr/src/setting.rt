@@ -1,11 +1,12 @@
 //! What changes of a control but where it lies: its setting, its highlighting and its title.
-ghost use Rattle.std.specs.Prelude.{◌≡◌, ◌<◌, true, pos, length, slice_get, IfSome};
+ghost use Rattle.std.specs.Prelude.{◌≡◌, ◌<◌, true, pos, length, slice_get, IfSome, IfErr, is_ok, if◌then◌else◌};
 ghost use Rattle.control_values.specs.Highlights.{is_highlight};
 ghost use Rattle.desk_call.specs.declared.control.ControlOf.{ControlOf as Named};
 ghost use Rattle.desk_call.specs.declared.control.ControlCall.TheVariants as asks;
 ghost use Rattle.window_mgr.specs.DeskStates.{Opened};
 ghost use Rattle.control_mgr.specs.ControlSteps.{IsControlStep};
 ghost use Rattle.control_mgr.specs.Damages.{IsPut, IsSettingGiven, IsWhereRight};
+ghost use Rattle.control_mgr.specs.Numbers.{call_of, may_have_number, with_number};
 ghost use Rattle.control_mgr.specs.Settled.{MayHaveSetting};
 ghost use Rattle.control_mgr.specs.Spots.{IsSpot, IsSpotOf, with_state};
 
@@ -24,6 +25,30 @@ pub(crate) struct State {
     pub values: ControlValues,
     pub highlight: Highlight,
     pub title: ShortText,
+}
+
+/// Which number of a control's setting a call sets.
+#[derive(Clone, Copy)]
+pub(crate) enum WhichNumber {
+    Value,
+    Minimum,
+    Maximum,
+}
+
+impl WhichNumber {
+    /// Sets this number of a setting, by which its value is moved between the other two. OutOfRange as that setter says.
+    fn set_in(self, values: &mut ControlValues, number: i32) -> Result<(), Refusal>
+        ensures setting { values.new ≡ (if may_have_number self number values.old
+            then with_number self number values.old else values.old) }
+        ensures in_range { is_ok result ≡ may_have_number self number values.old }
+        ensures refused { IfErr result (λ e. e ≡ Refusal.OutOfRange) }
+    {
+        match self {
+            WhichNumber::Value => values.set_value(number),
+            WhichNumber::Minimum => values.set_minimum(number),
+            WhichNumber::Maximum => values.set_maximum(number),
+        }
+    }
 }
 
 /// Reads a setting and a highlighting: each is one that a control may have.
@@ -93,56 +118,21 @@ impl Controls<TakenControl> {
         }
     }
 
-    /// Sets the value of a control.
-    pub(crate) fn set_value(
+    /// Sets the value of a control, its minimum or its maximum.
+    pub(crate) fn set_number(
         &mut self,
         windows: &mut WindowManager,
+        which: WhichNumber,
         set: ControlNumber,
     ) -> Result<ControlReply, Refusal>
         requires kept { ⟦<WindowManager as DeskWindows>⟧.IsKept windows.old }
         requires beside { ⟦<Self as DeskControls>⟧.AreBeside windows.old self.old }
         ensures { (o : Opened) → ⟦<Self as DeskControls>⟧.Leaves
-            (IsWhereRight (IsControlStep (asks.SetValue set) result)) windows.old o self.old windows.new o self.new }
+            (IsWhereRight (IsControlStep (call_of which set) result)) windows.old o self.old windows.new o self.new }
     {
         let spot = self.spot(windows, set.control)?;
         let mut state = self.state(spot.control);
-        state.values.set_value(set.number)?;
-        self.put(windows, spot, state);
-        Ok(ControlReply::Done)
-    }
-
-    /// Sets the minimum of a control.
-    pub(crate) fn set_minimum(
-        &mut self,
-        windows: &mut WindowManager,
-        set: ControlNumber,
-    ) -> Result<ControlReply, Refusal>
-        requires kept { ⟦<WindowManager as DeskWindows>⟧.IsKept windows.old }
-        requires beside { ⟦<Self as DeskControls>⟧.AreBeside windows.old self.old }
-        ensures { (o : Opened) → ⟦<Self as DeskControls>⟧.Leaves
-            (IsWhereRight (IsControlStep (asks.SetMinimum set) result)) windows.old o self.old windows.new o self.new }
-    {
-        let spot = self.spot(windows, set.control)?;
-        let mut state = self.state(spot.control);
-        state.values.set_minimum(set.number)?;
-        self.put(windows, spot, state);
-        Ok(ControlReply::Done)
-    }
-
-    /// Sets the maximum of a control.
-    pub(crate) fn set_maximum(
-        &mut self,
-        windows: &mut WindowManager,
-        set: ControlNumber,
-    ) -> Result<ControlReply, Refusal>
-        requires kept { ⟦<WindowManager as DeskWindows>⟧.IsKept windows.old }
-        requires beside { ⟦<Self as DeskControls>⟧.AreBeside windows.old self.old }
-        ensures { (o : Opened) → ⟦<Self as DeskControls>⟧.Leaves
-            (IsWhereRight (IsControlStep (asks.SetMaximum set) result)) windows.old o self.old windows.new o self.new }
-    {
-        let spot = self.spot(windows, set.control)?;
-        let mut state = self.state(spot.control);
-        state.values.set_maximum(set.number)?;
+        which.set_in(&mut state.values, set.number)?;
         self.put(windows, spot, state);
         Ok(ControlReply::Done)
     }

@@ -61,8 +61,8 @@ returns-in_err-first g c =
     let none = ap (λ y. first_refusal (edit_refusals edit y.kept.cells)) (sym same) ∙ sym c.in_default.ensures in
     let e = err_from_is_err_and c.from_residual-in_err-first.result c.from_residual-in_err-first.ensures.1 in
     let short = edit_short edit.change edit.axis edit.lines (edit_refusals edit x.kept.cells) _ none c.in_err-first.ensures.0 in
-    short_lines _ list_loan _ (call_of edit) t m c.args.controls.now (with_cells_there _ list_loan edit.lines.list t m spot is x read c.perform-first.new.cells)
-    (kept_there _ list_loan edit.lines.list t m spot is x read c.perform-first.new.cells c.in_err-first.ensures.1)
+    short_lines _ list_loan _ (call_of edit) t m c.args.controls.now (with_cells_there _ list_loan edit.lines.list t m spot is x read c.perform.new.cells)
+    (kept_there _ list_loan edit.lines.list t m spot is x read c.perform.new.cells c.in_err-first.ensures.1)
     refl c.from_residual-in_err-first.result e.0 e.1 (e.2 ∙ short.0) (λ kept. short.1 _)
     (λ o slots cs kept. edit_judged _ list_loan edit.change edit.axis edit.lines t m spot is x read o slots cs kept ∙ none)
 
@@ -74,7 +74,7 @@ line_number-requires g c =
     let done = c.in_ok-first.ensures in
     let grid = read_grid _ list_loan edit.lines.list c.args.windows.now c.args.self.now c.in_ok-spot.spot c.in_ok-spot.ensures x c.index_mut.ensures.value c.requires.lists in
     let first = done.0 in
-    let low = edit_low edit.change edit.axis edit.lines x.kept.cells grid done.1.1 in
+    let low = edit_low edit.change edit.axis edit.lines x.kept.cells grid done.2 in
     omega (arith, first, low)
 
 pub lines_from-within-requires-clause-least : goal.lines_from-within-requires-clause-least
@@ -88,7 +88,7 @@ lines_from-within-requires-clause-most g c =
     let done = c.in_ok-first.ensures in
     let grid = read_grid _ list_loan edit.lines.list c.args.windows.now c.args.self.now c.in_ok-spot.spot c.in_ok-spot.ensures x c.index_mut.ensures.value c.requires.lists in
     let first = done.0 in
-    let low = edit_low edit.change edit.axis edit.lines x.kept.cells grid done.1.1 in
+    let low = edit_low edit.change edit.axis edit.lines x.kept.cells grid done.2 in
     rw c.line_number.ensures (omega (arith, ints, first, low))
 
 pub show_with_bars-requires-clause-lists : goal.show_with_bars-requires-clause-lists
@@ -102,7 +102,7 @@ show_with_bars-requires-clause-lists g c =
     let x = c.index_mut.result.now in
     let done = c.in_ok-first.ensures in
     let back = c.scroll_back-scrolled.ensures in
-    let change = edit_change _ list_loan edit.lines.list t m spot c.in_ok-spot.ensures x c.index_mut.ensures.value c.perform-first.new.cells edit done.1.1 done.1.0 n back.lists back.next in
+    let change = edit_change _ list_loan edit.lines.list t m spot c.in_ok-spot.ensures x c.index_mut.ensures.value c.perform.new.cells edit done.2 done.1 n back.lists back.next in
     beside_changed _ list_loan edit.lines.list t m n spot (with_edit edit) change c.requires.lists
 
 pub show_with_bars-requires-clause-spot : goal.show_with_bars-requires-clause-spot
@@ -116,7 +116,7 @@ show_with_bars-requires-clause-spot g c =
     let x = c.index_mut.result.now in
     let done = c.in_ok-first.ensures in
     let back = c.scroll_back-scrolled.ensures in
-    let change = edit_change _ list_loan edit.lines.list t m spot c.in_ok-spot.ensures x c.index_mut.ensures.value c.perform-first.new.cells edit done.1.1 done.1.0 n back.lists back.next in
+    let change = edit_change _ list_loan edit.lines.list t m spot c.in_ok-spot.ensures x c.index_mut.ensures.value c.perform.new.cells edit done.2 done.1 n back.lists back.next in
     spot_changed _ list_loan edit.lines.list t m n spot (with_edit edit) change
 
 pub show_with_bars-requires-clause-mark : goal.show_with_bars-requires-clause-mark
@@ -130,7 +130,7 @@ show_with_bars-requires-clause-mark g c =
     let x = c.index_mut.result.now in
     let done = c.in_ok-first.ensures in
     let back = c.scroll_back-scrolled.ensures in
-    let change = edit_change _ list_loan edit.lines.list t m spot c.in_ok-spot.ensures x c.index_mut.ensures.value c.perform-first.new.cells edit done.1.1 done.1.0 n back.lists back.next in
+    let change = edit_change _ list_loan edit.lines.list t m spot c.in_ok-spot.ensures x c.index_mut.ensures.value c.perform.new.cells edit done.2 done.1 n back.lists back.next in
     mark_changed _ list_loan edit.lines.list t m n spot (with_edit edit) change c.in_ok-mark.mark c.in_ok-mark.ensures
 
 pub returns : goal.returns
@@ -144,20 +144,20 @@ returns g c =
     let is = c.in_ok-spot.ensures in
     let x = c.index_mut.result.now in
     let read = c.index_mut.ensures.value in
-    let cells = c.perform-first.new.cells in
+    let cells = c.perform.new.cells in
     let done = c.in_ok-first.ensures in
-    let allowed = done.1.1 in
+    let allowed = done.2 in
     let back = c.scroll_back-scrolled.ensures in
     let within = c.lines_from-within.result in
     let number : SFits w32 c.line_number.result = search rules in
     let from = simp to_z-of_z at c.lines_from-within.ensures in
-    let change = edit_change _ list_loan edit.lines.list t m spot is x read cells edit allowed done.1.0 n back.lists back.next in
+    let change = edit_change _ list_loan edit.lines.list t m spot is x read cells edit allowed done.1 n back.lists back.next in
     rw c.reply.ensures
     (relined_lines _ list_loan _ (call_of edit) t m c.args.controls.now edit.lines.list (with_edit edit) (reply_of edit.change c.in_ok-first.first) c.show_with_bars.new.windows c.show_with_bars.new.controls n
     (λ o slots cs kept. edit_judged _ list_loan edit.change edit.axis edit.lines t m spot is x read o slots cs kept ∙ allowed)
     (edit_effect _ list_loan edit.change edit.axis edit.lines t m spot is x read c.in_ok-first.first done.0)
     (relined_over _ list_loan edit.lines.list t m n spot (with_edit edit) change _ within
-    (edit_shown _ list_loan edit.lines.list t m spot is x read edit cells done.1.0 allowed c.index-2.result.now c.index-2.ensures within c.scroll_back-scrolled.result
+    (edit_shown _ list_loan edit.lines.list t m spot is x read edit cells done.1 allowed c.index-2.result.now c.index-2.ensures within c.scroll_back-scrolled.result
     (subst (λ z. AreLinesFrom edit.axis c.scroll_back-scrolled.result c.index-2.result.now.kept.view z within) (c.line_number.ensures ∙ ap (λ k. pos k) done.0) from)
     back.changes)
     c.in_ok-mark.mark true c.in_ok-mark.ensures
