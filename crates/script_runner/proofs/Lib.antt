@@ -2,6 +2,7 @@ mod Checked
 mod ChoicesLemmas
 mod Ends
 mod FormFaults
+mod KeptSessions
 mod SameImages
 mod Sessions
 mod StockKinds

@@ -4,7 +4,7 @@ use Rattle.tb_geom.specs.declared.refusal.Refusal.{Refusal}
 use Rattle.watched_io.specs.Writes.{Output, Sends}
 use Rattle.script_runner.specs.declared.answer_writer.AnswerWriter.{AnswerWriter}
 
--- the writer writes to what it wrote to, and is raw where it was
+-- the writer still writes to the same sink, and is raw where it was
 abbrev pub IsSameWriter : {S : Type 0} → AnswerWriter S → AnswerWriter S → Type 0
 IsSameWriter old new = (new.sink.ghost_name ≡ old.sink.ghost_name) × (new.raw ≡ old.raw)
 

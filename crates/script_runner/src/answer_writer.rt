@@ -21,7 +21,7 @@ use watched_io::{Sink, send, send_all};
 pub struct AnswerWriter<'a, S> {
     /// What their bytes are written to.
     pub sink: &'a mut S,
-    /// Whether the run is raw: then no reply is written, and images are in the format P4, which is P1 else.
+    /// Whether the run is raw: then no reply is written, and images are in the format P4. Else they are in the format P1.
     pub raw: bool,
 }
 

@@ -185,7 +185,9 @@ fn first_answer<S: Sink>(
 {
     match command {
         Command::Desk(_) => writer.done(),
-        _ => answer_on(desk, command, stock, writer),
+        Command::Version(_) => answer_on(desk, command, stock, writer),
+        Command::Image => answer_on(desk, command, stock, writer),
+        Command::Call(_) => answer_on(desk, command, stock, writer),
     }
 }
 
