@@ -1,5 +1,5 @@
 -- What a desk makes of a call by its nature.
-use Rattle.std.proofs.Common.{◌≡◌, ℕ, Bool, Option, None, refl, sym, ap, ◌∙◌, subst}
+use Rattle.std.proofs.Common.{◌≡◌, ℕ, Bool, Option, refl, sym, ap, ◌∙◌, subst}
 use Rattle.tb_geom.specs.Points.{PixelSet}
 use Rattle.def_iface.specs.Slots.{TakenBox}
 use Rattle.def_iface.specs.WindowMeaning.{WindowLoan}
@@ -9,7 +9,7 @@ use Rattle.desk_call.specs.declared.call.Call.TheVariants.{Window, Update, Frame
 use Rattle.desk_call.specs.declared.nature.Asked.{Asked}
 use Rattle.desk_call.specs.declared.nature.Nature.{Nature}
 use Rattle.desk_call.specs.declared.window.WindowCall.{WindowCall}
-use Rattle.desk_call.specs.Gates.{gate, standing_of, window_standing}
+use Rattle.desk_call.specs.Gates.{standing_of, window_standing}
 use Rattle.desk_call.specs.Natures.{nature_of, window_asks, window_ends, window_nature}
 use Rattle.window_mgr.specs.declared.manager.WindowManager.{WindowManager}
 use Rattle.window_mgr.specs.DeskStates.{narrowed, narrowed_to}
@@ -19,7 +19,7 @@ use Rattle.desk_toolbox.specs.Run.{is_behind_menu, is_covered}
 use Rattle.desk_toolbox.specs.ToolboxStates.{ToolboxState}
 
 -- a call's nature says when the call may come
-standing_so : (call : Call) → (nature_of call).standing ≡ standing_of call
+pub standing_so : (call : Call) → (nature_of call).standing ≡ standing_of call
 standing_so (Window call) = refl
 standing_so (Update call) = refl
 standing_so (Frame call) = refl
@@ -28,9 +28,6 @@ standing_so (List call) = refl
 standing_so (Menu call) = refl
 standing_so (Outline call) = refl
 standing_so (Event call) = refl
-
-pub admitted_so : (activity : Activity) (call : Call) (nature : Nature) → nature ≡ nature_of call → gate activity nature.standing ≡ None → gate activity (standing_of call) ≡ None
-admitted_so activity call nature its admitted = ap (gate activity) (sym (ap (λ (n : Nature). n.standing) its ∙ standing_so call)) ∙ admitted
 
 -- what is asked for is a point of the menu, or not
 pub behind_so : (asks own : Asked) (s : ToolboxState) (told value : Bool) → asks ≡ own → told ≡ is_behind_menu asks s → told ≡ value → is_behind_menu own s ≡ value
