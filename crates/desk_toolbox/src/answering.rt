@@ -23,10 +23,7 @@ use crate::{
     PointInWindow, Reply, Toolbox, UpdateCall, WindowCall, WindowPart, WindowReply,
 };
 use control_mgr::{Controls, ControlsOnStock};
-use def_iface::{
-    ControlStock, Defined, ListStock, Stock, Stocked, StockedAll, TakenControl, TakenList,
-    TakenWindow,
-};
+use def_iface::{ControlStock, ListStock, Stock, Stocked, StockedAll, TakenControl, TakenList};
 use desk_call::{Asked, Nature};
 use list_mgr::{Contents, Lists, ListsOnStock};
 use tb_geom::Refusal;
