@@ -32,12 +32,12 @@ module _ {V : Type 0} {H : V → Type 0} (loan : TakenBox V H → WindowLoan) wh
   dropped_nowhere None t = tt
   dropped_nowhere (Some drop) t = economical_untouched loan (Move drop) t
 
-  pub spared_untouched : (call : Call) (open : Activity) (t : WindowManager V H) → IsCallEconomical loan call open t t
-  spared_untouched (Window call) open t = economical_untouched loan call t
-  spared_untouched (Outline call) open t = dropped_nowhere (let_go_of call open (desk_of loan t [])) t
-  spared_untouched (Update call) open t = tt
-  spared_untouched (Frame call) open t = tt
-  spared_untouched (Control call) open t = tt
-  spared_untouched (List call) open t = tt
-  spared_untouched (Menu call) open t = tt
-  spared_untouched (Event call) open t = tt
+  pub spared_untouched : (call : Call) (activity : Activity) (t : WindowManager V H) → IsCallEconomical loan call activity t t
+  spared_untouched (Window call) activity t = economical_untouched loan call t
+  spared_untouched (Outline call) activity t = dropped_nowhere (let_go_of call activity (desk_of loan t [])) t
+  spared_untouched (Update call) activity t = tt
+  spared_untouched (Frame call) activity t = tt
+  spared_untouched (Control call) activity t = tt
+  spared_untouched (List call) activity t = tt
+  spared_untouched (Menu call) activity t = tt
+  spared_untouched (Event call) activity t = tt

@@ -30,6 +30,6 @@ module _ {V : Type 0} {H : V → Type 0} (loan : TakenBox V H → WindowLoan) wh
   -- while this was open, a call that moves, sizes, shows, hides, selects, sends behind or disposes of a window was economical, and
   -- one that ended a drag; of the other calls nothing is said
   abbrev pub IsCallEconomical : Call → Activity → WindowManager V H → WindowManager V H → Type 0
-  IsCallEconomical (Window call) open old new = IsEconomical loan call old new
-  IsCallEconomical (Outline call) open old new = IsDropEconomical (let_go_of call open (desk_of loan old [])) old new
-  IsCallEconomical _ open old new = Unit {0}
+  IsCallEconomical (Window call) activity old new = IsEconomical loan call old new
+  IsCallEconomical (Outline call) activity old new = IsDropEconomical (let_go_of call activity (desk_of loan old [])) old new
+  IsCallEconomical _ activity old new = Unit {0}
