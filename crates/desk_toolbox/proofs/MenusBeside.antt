@@ -1,6 +1,6 @@
 -- The menus of a desk stay whole, and the map in front right, beside the calls of the other managers: while a menu is pulled
 -- down, or an outline is shown, only calls may come that ask.
-use Rattle.std.proofs.Common.{◌≡◌, ◌⊎◌, ⊎_elim, inl, inr, ℕ, ℤ, ◌≤◌, Bool, true, false, ◌&&◌, if◌then◌else◌, nat_abs, List, [], length, Option, None, Some, Result, Ok, Err, refl, sym, ap, ◌∙◌, subst, arith}
+use Rattle.std.proofs.Common.{◌≡◌, ◌⊎◌, ⊎_elim, inl, inr, ℕ, ℤ, pos, ◌≤◌, Bool, true, false, ◌&&◌, if◌then◌else◌, nat_abs, List, [], length, Option, None, Some, Result, Ok, Err, refl, sym, ap, ◌∙◌, subst, arith}
 use Rattle.tb_geom.specs.declared.point.Point.{Point}
 use Rattle.tb_geom.specs.declared.rect.Rect.{Rect}
 use Rattle.tb_geom.specs.declared.refusal.Refusal.{Refusal}
@@ -191,9 +191,9 @@ outlined_on : (bar other : ℤ) (lines : List Rect) (a b : PixelSet) (p : Point)
 outlined_on bar other lines a b p same e = λ i. if outline_holds (sym same i) lines p then xor_bit (pattern_bit gray p) (sym e i) else sym e i
 
 -- the menus are whole, and the map in front is right
-pub record AreMenusInFront {V : Type 0} {H : V → Type 0} {W : Type 0} {K : W → Type 0} (menu_loan : TakenBox W K → MenuLoan) (activity : Activity) (t : WindowManager V H) (m : Menus W K) (front : Overlay) (kept : List MenuSlot) : Type 0 where
+pub record AreMenusInFront {V : Type 0} {H : V → Type 0} {W : Type 0} {K : W → Type 0} (menu_loan : TakenBox W K → MenuLoan) (activity : Activity) (t : WindowManager V H) (m : Menus W K) (map : Overlay) (kept : List MenuSlot) : Type 0 where
   pub menus : IsWholeMenus menu_loan activity m kept
-  pub front : IsFrontRight menu_loan activity t m front
+  pub front : IsFrontRight menu_loan activity t m map
 
 -- `loan` says what a window's definition that was taken means, and `menu_loan` what a menu's
 module _ {V : Type 0} {H : V → Type 0} (loan : TakenBox V H → WindowLoan) {W : Type 0} {K : W → Type 0} (menu_loan : TakenBox W K → MenuLoan) where

@@ -4,4 +4,4 @@ use Rattle.desk_toolbox.proofs.Natures.{standing_so}
 use Rattle.desk_toolbox.proofs.toolbox.nature_of.Goals as goal
 
 pub returns-clause-standing : goal.returns-clause-standing
-returns-clause-standing g c = ap (λ (n : Nature). n.standing) c.nature.ensures ∙ standing_so c.args.call.now
+returns-clause-standing c = ap (λ (n : Nature). n.standing) c.nature.ensures ∙ standing_so c.args.call.now
