@@ -1,4 +1,4 @@
-use Rattle.std.proofs.Common.{refl, ap, ◌≡◌, None, Ok, Err, sym, subst}
+use Rattle.std.proofs.Common.{refl, ap, ◌≡◌, None, Some, Ok, Err, sym, subst}
 use Rattle.std.proofs.lemmas.List.Elements.{All-weaker}
 use Rattle.def_iface.specs.contracts.taken_control.ControlStockStocked.TheImpl as control_stock
 use Rattle.def_iface.specs.contracts.taken_list.ListStockStocked.TheImpl as list_stock
@@ -56,7 +56,7 @@ returns-in-Some-clause-step g c =
     toolbox_state (taken.loan-value g.dyn-1).it (taken_menu.loan-value g.dyn-3).it (taken_control.loan-value g.dyn-2).it (taken_list.loan-value g.dyn-4).it
     c.args.self.now ((stock.all_slots-value g.dyn-1 g.dyn-2 g.dyn-4 g.dyn-3).it c.args.stock.now) in
     window_is_told _ c.args.call.now c.in-Some.answer _ _ (covered_so c.args.call.now c.args.nature c.requires.nature _ _ _ (c.is_behind_menu.ensures _) c.if-is_behind_menu.false)
-    (narrowed_made c.args.call.now c.in-Some.answer state c.in-Some.ensures.0 (narrowed_so c.args.call.now c.args.nature c.requires.nature _ _ _ c.in-Some.ensures.1) c.in-Some.ensures.2 refl)
+    (narrowed_made c.args.call.now c.in-Some.answer state c.in-Some.ensures.0 (narrowed_so c.args.call.now c.args.nature c.requires.nature c.args.self.now.activity (opened c.args.self.now.activity c.args.self.now.updates).begun (Some c.in-Some.ensures.0) c.in-Some.ensures.1) c.in-Some.ensures.2 refl)
 
 pub returns-in-Some-clause-whole : goal.returns-in-Some-clause-whole
 returns-in-Some-clause-whole g c = c.requires.whole.managers
@@ -86,7 +86,7 @@ returns-in-Ok-clause-step g c =
     window_is_told _ c.args.call.now (Ok c.in-Ok.reply) _ _ (covered_so c.args.call.now c.args.nature c.requires.nature _ _ _ (c.is_behind_menu.ensures _) c.if-is_behind_menu.false)
     (record {
       middle = _;
-      answered = rw (narrowed_so c.args.call.now c.args.nature c.requires.nature _ _ _ c.in_default.ensures) (
+      answered = rw (narrowed_so c.args.call.now c.args.nature c.requires.nature c.args.self.now.activity (opened c.args.self.now.activity c.args.self.now.updates).begun None c.in_default.ensures) (
         record { activity = refl; begun = refl },
         step_showing shows c.args.call.now (Ok c.in-Ok.reply) (state_of loan old.windows _) (state_of loan c.perform.new.self _) done.whole.sound.distinct done.step,
       );
@@ -149,7 +149,7 @@ returns-in-Err-clause-step g c =
     let old = c.args.self.now in
     let shows = controls_show (lists_show (lists.records_of (taken_list.loan-value g.dyn-4).it old.lists)) (records_of (taken_control.loan-value g.dyn-2).it old.controls) in
     window_is_told _ c.args.call.now (Err c.in-Err.refusal) _ _ (covered_so c.args.call.now c.args.nature c.requires.nature _ _ _ (c.is_behind_menu.ensures _) c.if-is_behind_menu.false) (
-      rw (narrowed_so c.args.call.now c.args.nature c.requires.nature _ _ _ c.in_default.ensures) (
+      rw (narrowed_so c.args.call.now c.args.nature c.requires.nature c.args.self.now.activity (opened c.args.self.now.activity c.args.self.now.updates).begun None c.in_default.ensures) (
         record { activity = refl; begun = refl },
         step_showing shows c.args.call.now (Err c.in-Err.refusal) (state_of (taken.loan-value g.dyn-1).it old.windows _) (state_of (taken.loan-value g.dyn-1).it c.perform.new.self _) c.in-Err.ensures.whole.sound.distinct c.in-Err.ensures.step,
       ),
