@@ -6,6 +6,7 @@ pub mod ContentsBeside
 pub mod ContentsLeft
 pub mod Sides
 pub mod EachManager
+pub mod AskingCalls
 pub mod Runs
 pub mod Totals
 pub mod Recounts

@@ -74,16 +74,7 @@ covers_or_not (Dragging d) = inr refl
 covers_or_not (Growing g) = inr refl
 covers_or_not (Pulling m) = inr refl
 
--- a call on windows comes then only if it asks
-window_asks : (call : WindowCall) (a : Activity) → gate a Changes ≡ Some Busy → gate a (window_standing call) ≡ None → window_standing call ≡ Asks
-window_asks (asks.Find p) a busy may = refl
-window_asks asks.Front a busy may = refl
-window_asks (asks.Info s) a busy may = refl
-window_asks (asks.VisibleRegion s) a busy may = refl
-window_asks (asks.UpdateRegion s) a busy may = refl
-window_asks _ a busy may = absurd (cc)
-
--- and one about updates or frames never does
+-- a call about updates or frames never comes then
 pub update_comes_then : (call : UpdateCall) (a : Activity) → gate a (update_standing call) ≡ None → CoversNone a
 update_comes_then call Idle may = tt
 update_comes_then call (Updating s) may = tt
@@ -160,19 +151,6 @@ frame_effect_pulls_none (EndGoAway p) Done before after wrong was = absurd wrong
 pub frame_pulls_none : (call : FrameCall) (answer : Result FrameReply Refusal) (before after : DeskState) → gate before.activity (frame_standing call) ≡ None → IsFrameStep call answer before after → CoversNone after.activity
 frame_pulls_none call (Ok answer) before after may step = frame_effect_pulls_none call answer before after step.1 (frame_comes_then call before.activity may)
 frame_pulls_none call (Err e) before after may step = subst CoversNone (sym step.1.activity) (frame_comes_then call before.activity may)
-
--- a call that asks changes nothing
-asking_changes_nothing : (call : WindowCall) (answer : WindowReply) (before after : FullState) → IsEffect (effect_of call before.desk) answer before after → window_standing call ≡ Asks → IsUnchanged before after
-asking_changes_nothing (asks.Find p) answer before after done e = done.1
-asking_changes_nothing asks.Front answer before after done e = done.1
-asking_changes_nothing (asks.Info s) answer before after done e = done.1
-asking_changes_nothing (asks.VisibleRegion s) answer before after done e = done.1
-asking_changes_nothing (asks.UpdateRegion s) answer before after done e = done.1
-asking_changes_nothing _ answer before after done e = absurd (cc)
-
-pub asked_changes_nothing : (call : WindowCall) (answer : Result WindowReply Refusal) (before after : FullState) → IsWindowStep call answer before after → window_standing call ≡ Asks → IsUnchanged before after
-asked_changes_nothing call (Ok answer) before after step e = asking_changes_nothing call answer before after step.1 e
-asked_changes_nothing call (Err e) before after step asked = step.1
 
 pub same_state : (before after : FullState) → after ≡ before → IsUnchanged before after
 same_state before after same = record {

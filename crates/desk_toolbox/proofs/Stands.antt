@@ -198,17 +198,8 @@ answer_misleads_none None call answer activity before after step none =
     counted_none (misled activity) (effect_of call before.windows.desk) before.windows.desk after.windows.desk (λ n floating. refl) (done_counts call answer before.windows after.windows step.1.1) none
 answer_misleads_none (Some set) call answer activity before after step none = ap (λ (d : FullDesk). total (misled activity) d.windows) step.1.windows.desk ∙ none
 
--- a call that asks leaves the desk
-asking_keeps : (call : WindowCall) (answer : WindowReply) (before after : FullState) → IsEffect (effect_of call before.desk) answer before after → window_standing call ≡ Asks → after.desk ≡ before.desk
-asking_keeps (asks.Find p) answer before after done e = done.1.desk
-asking_keeps asks.Front answer before after done e = done.1.desk
-asking_keeps (asks.Info s) answer before after done e = done.1.desk
-asking_keeps (asks.VisibleRegion s) answer before after done e = done.1.desk
-asking_keeps (asks.UpdateRegion s) answer before after done e = done.1.desk
-asking_keeps _ answer before after done e = absurd (cc)
-
 answer_keeps_desk : (asked : Option PixelSet) (call : WindowCall) (answer : WindowReply) (before after : DeskState) → IsWindowAnswer asked call (Ok answer) before after → window_standing call ≡ Asks → after.windows.desk ≡ before.windows.desk
-answer_keeps_desk None call answer before after step e = asking_keeps call answer before.windows after.windows step.1.1 e
+answer_keeps_desk None call answer before after step e = (asked_changes_nothing call (Ok answer) before.windows after.windows step.1 e).desk
 answer_keeps_desk (Some set) call answer before after step e = step.1.windows.desk
 
 -- where definitions were told, they know, and else nothing changed

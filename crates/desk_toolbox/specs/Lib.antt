@@ -10,4 +10,5 @@ pub mod Classes
 pub mod Reached
 pub mod Activations
 pub mod Economy
+pub mod EconomicalRuns
 pub mod Boxed

@@ -257,13 +257,17 @@ IsStep call answer before after = IsGated (gate before.desk.activity (standing_o
 
 -- ---- runs
 
--- from the first state these calls may have these answers and leave the last state: each step begins as the one before
--- it ended
+-- from the first state these calls may have these answers and lead to the last state, where each call makes such a step:
+-- each step begins as the one before it ended
+module _ {S : Type 0} (Step : Call → Result Reply Refusal → S → S → Type 0) where
+  abbrev pub IsRunOf : S → List Call → List (Result Reply Refusal) → S → Type 0
+  IsRunOf first [] [] last = last ≡ first
+  IsRunOf first (call ∷ calls) (answer ∷ answers) last = (middle : S) × Step call answer first middle × IsRunOf middle calls answers last
+  IsRunOf first [] (answer ∷ answers) last = ⊥
+  IsRunOf first (call ∷ calls) [] last = ⊥
+
 abbrev pub IsRunOfCalls : ToolboxState → List Call → List (Result Reply Refusal) → ToolboxState → Type 0
-IsRunOfCalls first [] [] last = last ≡ first
-IsRunOfCalls first (call ∷ calls) (answer ∷ answers) last = (middle : ToolboxState) × IsStep call answer first middle × IsRunOfCalls middle calls answers last
-IsRunOfCalls first [] (answer ∷ answers) last = ⊥
-IsRunOfCalls first (call ∷ calls) [] last = ⊥
+IsRunOfCalls = IsRunOf IsStep
 
 -- the serial of the window that was made, if one was
 abbrev pub serial_made : WindowReply → List ℕ

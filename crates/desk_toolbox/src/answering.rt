@@ -52,48 +52,27 @@ impl Toolbox {
         ensures quiet { IsQuietRefusal call.now result self.old.windows.screen self.new.windows.screen }
     {
         match call {
-            Call::Window(call) => match self.window_call(call, nature, stock) {
-                Ok(reply) => Ok(Reply::Window(reply)),
-                Err(refusal) => Err(refusal),
-            },
-            Call::Update(call) => match self.update_call(call) {
-                Ok(reply) => Ok(Reply::Window(reply)),
-                Err(refusal) => Err(refusal),
-            },
+            Call::Window(call) => self.window_call(call, nature, stock).map(Reply::Window),
+            Call::Update(call) => self.update_call(call).map(Reply::Window),
             Call::Frame(call) => {
-                match window_frame::perform(&mut self.windows, &mut self.activity, call) {
-                    Ok(reply) => Ok(Reply::Frame(reply)),
-                    Err(refusal) => Err(refusal),
-                }
+                window_frame::perform(&mut self.windows, &mut self.activity, call).map(Reply::Frame)
             }
-            Call::Control(call) => match self.control_call(call, nature.asks, stock) {
-                Ok(reply) => Ok(Reply::Control(reply)),
-                Err(refusal) => Err(refusal),
-            },
-            Call::List(call) => match self.list_call(call, stock) {
-                Ok(reply) => Ok(Reply::List(reply)),
-                Err(refusal) => Err(refusal),
-            },
-            Call::Menu(call) => {
-                match self.menus.perform(
+            Call::Control(call) => self
+                .control_call(call, nature.asks, stock)
+                .map(Reply::Control),
+            Call::List(call) => self.list_call(call, stock).map(Reply::List),
+            Call::Menu(call) => self
+                .menus
+                .perform(
                     &mut self.windows,
                     &mut self.front,
                     &mut self.activity,
                     call,
                     &mut stock.menus,
-                ) {
-                    Ok(reply) => Ok(Reply::Menu(reply)),
-                    Err(refusal) => Err(refusal),
-                }
-            }
-            Call::Outline(call) => match self.outline_call(call, stock) {
-                Ok(reply) => Ok(Reply::Outline(reply)),
-                Err(refusal) => Err(refusal),
-            },
-            Call::Event(call) => match self.answer_event(*call) {
-                Ok(reply) => Ok(Reply::Event(reply)),
-                Err(refusal) => Err(refusal),
-            },
+                )
+                .map(Reply::Menu),
+            Call::Outline(call) => self.outline_call(call, stock).map(Reply::Outline),
+            Call::Event(call) => self.answer_event(*call).map(Reply::Event),
         }
     }
 

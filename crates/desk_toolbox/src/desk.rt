@@ -1,6 +1,9 @@
 //! A Toolbox over its stock, as contracts see the two.
+ghost use Rattle.std.specs.Prelude.{List, Result};
+ghost use Rattle.tb_geom.specs.declared.refusal.Refusal.{Refusal};
 ghost use Rattle.def_iface.specs.Stocks.{AllSlots};
 ghost use Rattle.desk_call.specs.declared.call.Call.{Call as Named};
+ghost use Rattle.desk_call.specs.declared.call.Reply.{Reply};
 ghost use Rattle.desk_toolbox.specs.Boxed as boxed;
 ghost use Rattle.desk_toolbox.specs.ToolboxStates.{ToolboxState};
 
@@ -45,6 +48,10 @@ pub trait Desk {
     /// between these two: it wrote pixels only where their owner changed, the window moved, or a frame was to be drawn. Of other
     /// calls it says nothing.
     ghost IsEconomical: { Named → Self → Self → Type 0 };
+
+    /// These calls, answered so, led from the first desk to the last one, and each was economical where the desk that it
+    /// began on was consistent. A call on windows that was refused wrote nothing.
+    ghost IsEconomicalRun: { List Named → List (Result Reply Refusal) → Self → Self.Stock → Self → Self.Stock → Type 0 };
 }
 
 impl Desk for Toolbox {
@@ -74,4 +81,6 @@ impl Desk for Toolbox {
     ghost HasKeptManagers = { boxed.HasKeptManagers WindowDef-box MenuDef-box ControlDef-box ListDef-box };
 
     ghost IsEconomical = { boxed.IsEconomical WindowDef-box MenuDef-box ControlDef-box ListDef-box };
+
+    ghost IsEconomicalRun = { boxed.IsEconomicalRun WindowDef-box MenuDef-box ControlDef-box ListDef-box };
 }
