@@ -7,6 +7,7 @@ mod SameImages
 mod Sessions
 mod StockKinds
 mod RawRuns
+mod RepliesOut
 mod RightSessions
 mod FirstVersions
 mod Taken
