@@ -3,7 +3,7 @@ ghost use Rattle.std.specs.Prelude.{◌≡◌, true, false, IfOk, IfErr, Err};
 ghost use Rattle.tb_geom.specs.declared.point.Point.{Point};
 ghost use Rattle.tb_geom.specs.Rects.{is_in_range};
 ghost use Rattle.tb_geom.specs.Pixels.{holds};
-ghost use Rattle.shape_strips.specs.Rounds.{no_corner, whole};
+ghost use Rattle.shape_strips.specs.Rounds.{no_corner, oval_corner};
 ghost use Rattle.shape_strips.specs.Frames.{frame_holds, inside_holds};
 
 use crate::strip_region;
@@ -34,14 +34,14 @@ pub fn frame_round_rect_region(
 /// The frame of an oval, within its rectangle (*Inside Macintosh* I, "QuickDraw": `FrameOval`). It refuses as
 /// `frame_round_rect_region` does.
 pub fn frame_oval_region(alloc: Global, rect: Rect, pen: Pen) -> Result<Region, Refusal>
-    ensures pixels { IfOk result (λ region. (p : Point) → holds region p ≡ frame_holds rect (whole rect) pen p) }
+    ensures pixels { IfOk result (λ region. (p : Point) → holds region p ≡ frame_holds rect (oval_corner rect) pen p) }
     ensures out_of_range { is_in_range rect ≡ false → result ≡ Err Refusal.OutOfRange }
     ensures refused { is_in_range rect ≡ true → IfErr result (λ e. e ≡ Refusal.NoMemory) }
 {
     if !rect.is_in_range() {
         return Err(Refusal::OutOfRange);
     }
-    Ok(frame(alloc, rect, Corner::whole(rect), pen)?)
+    Ok(frame(alloc, rect, Corner::of_oval(rect), pen)?)
 }
 
 /// The frame of a rectangle, within it (*Inside Macintosh* I, "QuickDraw": `FrameRect`). It refuses as

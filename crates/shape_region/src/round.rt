@@ -35,6 +35,6 @@ pub fn oval_region(alloc: Global, rect: Rect) -> Result<Region, Refusal>
     if !rect.is_in_range() {
         return Err(Refusal::OutOfRange);
     }
-    let corner = Corner::whole(rect);
+    let corner = Corner::of_oval(rect);
     Ok(strip_region(alloc, &RoundStrip { rect, corner })?)
 }

@@ -52,8 +52,8 @@ min-same : (n : ℕ) → min n n ≡ n
 min-same n = omega arith
 
 -- the columns left of a pixel and right of it
-away_whole : (low x high : ℤ) → low ≤ℤ x → x <ℤ high → away (min (count_to low high) (count_to low high)) (count_to low x) (count_to (x +ℤ pos 1) high) ≡ abs_diff (count_to low x) (count_to (x +ℤ pos 1) high)
-away_whole low x high l m = from (count_to low high) (count_to low x) (count_to (x +ℤ pos 1) high) (count-is low high (omega (arith, ints))) (count-is low x l) (count-is (x +ℤ pos 1) high (omega (arith, ints)))
+away_of_oval : (low x high : ℤ) → low ≤ℤ x → x <ℤ high → away (min (count_to low high) (count_to low high)) (count_to low x) (count_to (x +ℤ pos 1) high) ≡ abs_diff (count_to low x) (count_to (x +ℤ pos 1) high)
+away_of_oval low x high l m = from (count_to low high) (count_to low x) (count_to (x +ℤ pos 1) high) (count-is low high (omega (arith, ints))) (count-is low x l) (count-is (x +ℤ pos 1) high (omega (arith, ints)))
   where
     from : (w a b : ℕ) → pos w ≡ high -ℤ low → pos a ≡ x -ℤ low → pos b ≡ high -ℤ (x +ℤ pos 1) → away (min w w) a b ≡ abs_diff a b
     from w a b e f g = let all : w ≡ a + b + 1 = omega (arith, ints) in omega arith
@@ -72,7 +72,7 @@ oval_centres r p = when_true (rect_holds r p) _ _ (λ e.
     let columns = row_of r.left p.h r.right both.0 in
     let rows = row_of r.top p.v r.bottom both.1 in
     λ i. in_oval (min-same (count_to r.left r.right) i) (min-same (count_to r.top r.bottom) i)
-    (away_whole r.left p.h r.right columns.0 columns.1 i) (away_whole r.top p.v r.bottom rows.0 rows.1 i))
+    (away_of_oval r.left p.h r.right columns.0 columns.1 i) (away_of_oval r.top p.v r.bottom rows.0 rows.1 i))
 
 -- ---- mirrors
 

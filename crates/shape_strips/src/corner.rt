@@ -14,7 +14,7 @@ pub struct Corner {
 }
 
 impl Corner {
-    ghost use Rattle.shape_strips.specs.Rounds.{no_corner, whole};
+    ghost use Rattle.shape_strips.specs.Rounds.{no_corner, oval_corner};
 
     /// The corner of a plain rectangle.
     pub fn none() -> Corner
@@ -27,9 +27,9 @@ impl Corner {
     }
 
     /// The corner that makes the rectangle an oval, which touches its four sides.
-    pub fn whole(rect: Rect) -> Corner
+    pub fn of_oval(rect: Rect) -> Corner
         requires { is_in_range rect ≡ true }
-        ensures { result ≡ whole rect }
+        ensures { result ≡ oval_corner rect }
     {
         Corner {
             width: count(rect.left, rect.right) as u16,

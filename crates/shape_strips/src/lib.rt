@@ -4,7 +4,7 @@
 //! A pixel is in a round shape where its centre is: in the oval of a corner, or between the corners. Distances are counted in
 //! half pixels from the middle of that oval, so that centres are at whole numbers and nothing is rounded (`specs::Ovals`,
 //! `specs::Rounds`). A `Corner` is the size of the oval. It counts as no wider and no higher than the shape; one that is as
-//! wide and as high makes an oval (`Corner::whole`), and one without width or height a rectangle (`laws`).
+//! wide and as high makes an oval (`Corner::of_oval`), and one without width or height a rectangle (`laws`).
 //!
 //! A frame is a round shape less its inside. A pixel is inside where the shape that is smaller by the pen on each side has it,
 //! and the whole shape has it and the four pixels beside it (`specs::Frames`). The second condition closes the frames of flat

@@ -46,8 +46,9 @@ impl Oval {
     }
 }
 
-/// How far, in half pixels, a column lies from those that corners of `corner` columns leave alone, with `before` columns of
-/// the shape left of it and `after` right of it; 0 in those columns. So too with rows.
+/// How far, in half pixels, the centre of a column lies from the middle of the oval of the nearer corner, which is `corner`
+/// columns wide; 0 between the corners. The shape has `before` columns left of this one and `after` right of it. So too with
+/// rows.
 pub fn away(corner: u64, before: u64, after: u64) -> u64
     requires before { before < 32768 }
     requires after { after < 32768 }

@@ -1,51 +1,47 @@
 //! Regions of round shapes, frames and insides.
 
+use crate::sizes::{SIZES, bordered, corner, pen, sized};
 use crate::slow::{Framed, Inside, Round};
 use scan_region::Region;
 use shape_region::{
     frame_oval_region, frame_rect_region, frame_round_rect_region, inside_region, oval_region,
     round_rect_region, strip_region,
 };
-use shape_strips::{Corner, Pen, RoundStrip};
+use shape_strips::{Pen, RoundStrip};
 use std::alloc::Global;
 use std::test::Fail;
 use tb_geom::{Rect, Refusal};
-use test_pixels::pixels::{Pixels, is_region_of, picture};
+use test_pixels::pixels::{is_region_of, picture};
 use test_pixels::rect;
 
-/// The sizes of the corners that are tried.
-const CORNERS: [(u16, u16); 3] = [(0, 0), (3, 5), (99, 99)];
-
-/// The sizes of the pens that shapes are framed with.
-const PENS: [(u16, u16); 3] = [(1, 1), (2, 0), (3, 1)];
-
-/// A corner of this size.
-fn corner(width: u16, height: u16) -> Corner {
-    Corner { width, height }
-}
-
-/// A pen of this size.
-fn pen(width: u16, height: u16) -> Pen {
-    Pen { width, height }
-}
-
-/// Where the shapes that are tried lie, and a border around them.
-const AROUND: Rect = rect!(-2, -3, 7, 6);
-
-/// Whether a shape, its frames and their insides are made of the pixels that a slow program gives.
-fn is_made(alloc: Global, shape: Round) -> Result<bool, Refusal> {
+/// Whether a frame and its inside are made of the pixels that a slow program gives.
+fn is_framed(alloc: Global, shape: Round, pen: Pen) -> Result<bool, Refusal> {
     let Round { rect, corner } = shape;
-    let made = round_rect_region(alloc, rect, corner)?;
-    if !is_region_of(alloc, &made, &shape, AROUND)? {
-        return Ok(false);
-    }
-    for (width, height) in PENS {
-        let pen = pen(width, height);
-        let framed = Framed { shape, pen };
-        let frame = frame_round_rect_region(alloc, rect, corner, pen)?;
-        let inside = inside_region(alloc, rect, corner, pen)?;
-        let is_frame = is_region_of(alloc, &frame, &framed, AROUND)?;
-        if !is_frame || !is_region_of(alloc, &inside, &Inside(framed), AROUND)? {
+    let framed = Framed { shape, pen };
+    let sides = bordered(rect);
+    let frame = frame_round_rect_region(alloc, rect, corner, pen)?;
+    let inside = inside_region(alloc, rect, corner, pen)?;
+    Ok(is_region_of(alloc, &frame, &framed, sides)?
+        && is_region_of(alloc, &inside, &Inside(framed), sides)?)
+}
+
+/// Whether a shape, its frames and their insides are.
+fn is_made(alloc: Global, shape: Round) -> Result<bool, Refusal> {
+    let made = round_rect_region(alloc, shape.rect, shape.corner)?;
+    Ok(
+        is_region_of(alloc, &made, &shape, bordered(shape.rect))?
+            && is_framed(alloc, shape, pen(1, 1))?
+            && is_framed(alloc, shape, pen(2, 0))?
+            && is_framed(alloc, shape, pen(3, 2))?,
+    )
+}
+
+/// Whether shapes of this size with several corners are.
+fn are_made(alloc: Global, width: u16, height: u16) -> Result<bool, Refusal> {
+    let rect = sized(width, height);
+    for (width, height) in [(0, 0), (3, 5), (16, 16), (99, 99)] {
+        let corner = corner(width, height);
+        if !is_made(alloc, Round { rect, corner })? {
             return Ok(false);
         }
     }
@@ -53,15 +49,37 @@ fn is_made(alloc: Global, shape: Round) -> Result<bool, Refusal> {
 }
 
 #[test]
-fn all_small_shapes_are_made_of_their_pixels(rt: HostRuntime) -> Result<(), Fail> {
+fn small_shapes_are_made_of_their_pixels(rt: HostRuntime) -> Result<(), Fail> {
     let alloc = rt.alloc();
-    for right in -2..6 {
-        for bottom in -2..5 {
-            let rect = rect!(-1, -2, right, bottom);
-            for (width, height) in CORNERS {
-                let corner = corner(width, height);
-                assert!(rt; is_made(alloc, Round { rect, corner })?);
-            }
+    for width in 0..SIZES {
+        for height in 0..SIZES {
+            assert!(rt; are_made(alloc, width, height)?);
+        }
+    }
+    Ok(())
+}
+
+/// Whether an oval and its frame are made of the pixels that a slow program gives.
+fn is_oval(alloc: Global, width: u16, height: u16) -> Result<bool, Refusal> {
+    let rect = sized(width, height);
+    let shape = Round {
+        rect,
+        corner: corner(width, height),
+    };
+    let pen = pen(1, 1);
+    let oval = oval_region(alloc, rect)?;
+    let frame = frame_oval_region(alloc, rect, pen)?;
+    let sides = bordered(rect);
+    Ok(is_region_of(alloc, &oval, &shape, sides)?
+        && is_region_of(alloc, &frame, &Framed { shape, pen }, sides)?)
+}
+
+#[test]
+fn every_small_oval_is_made_of_its_pixels(rt: HostRuntime) -> Result<(), Fail> {
+    let alloc = rt.alloc();
+    for width in 0..SIZES {
+        for height in 0..SIZES {
+            assert!(rt; is_oval(alloc, width, height)?);
         }
     }
     Ok(())

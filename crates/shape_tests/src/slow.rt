@@ -18,13 +18,27 @@ pub struct Framed {
     pub pen: Pen,
 }
 
-/// How far, in half pixels, the centre of a place lies from the places between two corners: `size` is theirs, no larger than
-/// the `side`, and the place is `from` places after the first and `to` places before the last one.
-fn distance(size: u16, side: i32, from: i32, to: i32) -> (i64, i64) {
-    let size = i64::from(size).min(i64::from(side));
-    let place = i64::from(from.min(to));
-    let apart = size.wrapping_sub(1).wrapping_sub(place.wrapping_mul(2));
-    (size, apart.max(0))
+/// The inside that a frame leaves.
+#[derive(Clone, Copy)]
+pub struct Inside(pub Framed);
+
+/// A side of an oval that rounds corners: its length, no longer than the shape's `side`.
+fn fitted(length: u16, side: i32) -> i64 {
+    i64::from(length).min(i64::from(side))
+}
+
+/// How far, in half pixels, the centre of a place lies from the middle of the oval of the corner that it lies in, whose
+/// side is `length` long; 0 between the corners. There are `before` places before it and `after` places after it.
+fn apart(length: i64, before: i32, after: i32) -> i64 {
+    let from_start = i64::from(before).wrapping_mul(2).wrapping_add(1);
+    let from_end = i64::from(after).wrapping_mul(2).wrapping_add(1);
+    if from_start < length {
+        length.wrapping_sub(from_start)
+    } else if from_end < length {
+        length.wrapping_sub(from_end)
+    } else {
+        0
+    }
 }
 
 impl Round {
@@ -34,25 +48,19 @@ impl Round {
         if !r.contains(Point { h, v }) {
             return false;
         }
-        let (width, x) = distance(
-            self.corner.width,
-            r.right.wrapping_sub(r.left),
+        let width = fitted(self.corner.width, r.right.wrapping_sub(r.left));
+        let height = fitted(self.corner.height, r.bottom.wrapping_sub(r.top));
+        let across = apart(
+            width,
             h.wrapping_sub(r.left),
             r.right.wrapping_sub(1).wrapping_sub(h),
         );
-        let (height, y) = distance(
-            self.corner.height,
-            r.bottom.wrapping_sub(r.top),
+        let down = apart(
+            height,
             v.wrapping_sub(r.top),
             r.bottom.wrapping_sub(1).wrapping_sub(v),
         );
-        let across = x.wrapping_mul(height);
-        let down = y.wrapping_mul(width);
-        let both = width.wrapping_mul(height);
-        across
-            .wrapping_mul(across)
-            .wrapping_add(down.wrapping_mul(down))
-            <= both.wrapping_mul(both)
+        is_in_oval(width, height, across, down)
     }
 
     /// Whether it has the four pixels beside one.
@@ -74,22 +82,29 @@ impl Round {
                 bottom: self.rect.bottom.wrapping_sub(height),
             },
             corner: Corner {
-                width: self
-                    .corner
-                    .width
-                    .saturating_sub(pen.width.saturating_mul(2)),
-                height: self
-                    .corner
-                    .height
-                    .saturating_sub(pen.height.saturating_mul(2)),
+                width: less_twice(self.corner.width, pen.width),
+                height: less_twice(self.corner.height, pen.height),
             },
         }
     }
 }
 
+/// Whether a place so many half pixels from the middle of an oval of this size lies in the oval.
+fn is_in_oval(width: i64, height: i64, across: i64, down: i64) -> bool {
+    let x = across.wrapping_mul(height);
+    let y = down.wrapping_mul(width);
+    let most = width.wrapping_mul(height);
+    x.wrapping_mul(x).wrapping_add(y.wrapping_mul(y)) <= most.wrapping_mul(most)
+}
+
+/// A side of a corner, less a side of a pen twice.
+fn less_twice(side: u16, pen: u16) -> u16 {
+    side.saturating_sub(pen.saturating_mul(2))
+}
+
 impl Framed {
     /// Whether the inside that the frame leaves has a pixel.
-    pub fn inside_has(&self, h: i32, v: i32) -> bool {
+    fn inside_has(&self, h: i32, v: i32) -> bool {
         self.shape.less(self.pen).has(h, v) && self.shape.has(h, v) && self.shape.surrounds(h, v)
     }
 }
@@ -102,18 +117,11 @@ impl Pixels for Round {
 
 impl Pixels for Framed {
     fn byte(&self, Point { h, v }: Point) -> u8 {
-        mark(
-            self.pen.width > 0
-                && self.pen.height > 0
-                && self.shape.has(h, v)
-                && !self.inside_has(h, v),
-        )
+        let Pen { width, height } = self.pen;
+        let draws = width > 0 && height > 0;
+        mark(draws && self.shape.has(h, v) && !self.inside_has(h, v))
     }
 }
-
-/// The inside that a frame leaves.
-#[derive(Clone, Copy)]
-pub struct Inside(pub Framed);
 
 impl Pixels for Inside {
     fn byte(&self, Point { h, v }: Point) -> u8 {

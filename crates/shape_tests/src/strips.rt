@@ -1,24 +1,12 @@
 //! Strips, row by row.
 
+use crate::sizes::{SIZES, bordered, corner, pen, sized};
 use crate::slow::{Framed, Inside, Round};
 use shape_strips::{Corner, InsideStrip, Pen, RoundStrip, Run, Strip};
 use std::test::Fail;
-use tb_geom::Point;
-use test_pixels::pixels::{Pixels, are_alike, mark};
+use tb_geom::{Point, Rect};
+use test_pixels::pixels::{Pixels, mark};
 use test_pixels::rect;
-
-/// The pixels of a strip, by its runs.
-#[derive(Drop)]
-struct Runs<'a, S> {
-    strip: &'a S,
-}
-
-impl<S: Strip> Pixels for Runs<'_, S> {
-    fn byte(&self, Point { h, v }: Point) -> u8 {
-        let run = self.strip.run(v);
-        mark(run.left <= h && h < run.right)
-    }
-}
 
 #[test]
 fn runs_share_columns(rt: HostRuntime) -> Result<(), Fail> {
@@ -32,82 +20,126 @@ fn runs_share_columns(rt: HostRuntime) -> Result<(), Fail> {
 }
 
 #[test]
-fn corners_and_pens_have_sizes(rt: HostRuntime) -> Result<(), Fail> {
-    assert!(rt;
-        Corner::none()
-            == Corner {
-                width: 0,
-                height: 0
-            }
-    );
-    assert!(rt;
-        Corner::whole(rect!(-3, 2, 4, 7))
-            == Corner {
-                width: 7,
-                height: 5
-            }
-    );
-    assert!(rt;
-        Corner::whole(rect!(4, 7, -3, 7))
-            == Corner {
-                width: 0,
-                height: 0
-            }
-    );
-    assert!(rt;
-        Pen {
-            width: 1,
-            height: 2
-        }
-        .has_size()
-    );
-    assert!(rt;
-        !Pen {
-            width: 0,
-            height: 2
-        }
-        .has_size()
-    );
-    assert!(rt;
-        !Pen {
-            width: 1,
-            height: 0
-        }
-        .has_size()
-    );
+fn corners_have_sizes(rt: HostRuntime) -> Result<(), Fail> {
+    assert!(rt; Corner::none() == corner(0, 0));
+    assert!(rt; Corner::of_oval(rect!(-3, 2, 4, 7)) == corner(7, 5));
+    assert!(rt; Corner::of_oval(rect!(4, 7, -3, 7)) == corner(0, 0));
     Ok(())
 }
 
 #[test]
-fn a_round_shape_is_its_runs(rt: HostRuntime) -> Result<(), Fail> {
-    let rect = rect!(-5, -2, 8, 7);
-    let corner = Corner {
-        width: 9,
-        height: 6,
-    };
+fn pens_have_sizes(rt: HostRuntime) -> Result<(), Fail> {
+    assert!(rt; pen(1, 2).has_size());
+    assert!(rt; !pen(0, 2).has_size());
+    assert!(rt; !pen(1, 0).has_size());
+    Ok(())
+}
+
+/// Whether a run is the row `v` of a set, in the columns of the sides.
+fn is_row<P: Pixels>(run: Run, of: &P, v: i32, sides: Rect) -> bool {
+    for h in sides.left..sides.right {
+        let has = run.left <= h && h < run.right;
+        if of.byte(Point { h, v }) != mark(has) {
+            return false;
+        }
+    }
+    true
+}
+
+/// Whether the runs of a strip are the rows of a set, within the sides.
+fn are_rows<S: Strip, P: Pixels>(strip: &S, of: &P, sides: Rect) -> bool {
+    for v in sides.top..sides.bottom {
+        if !is_row(strip.run(v), of, v, sides) {
+            return false;
+        }
+    }
+    true
+}
+
+/// Whether the runs of a round shape are those of the slow program.
+fn is_round(shape: Round) -> bool {
+    let Round { rect, corner } = shape;
+    if !rect.is_in_range() {
+        return false;
+    }
     let strip = RoundStrip { rect, corner };
-    assert!(rt; strip.bounds() == rect);
-    let runs = Runs { strip: &strip };
-    assert!(rt; are_alike(&runs, &Round { rect, corner }, rect!(-7, -4, 10, 9)));
+    strip.bounds() == rect && are_rows(&strip, &shape, bordered(rect))
+}
+
+/// Whether so are the runs of its inside.
+fn is_inside(shape: Round, pen: Pen) -> bool {
+    let Round { rect, corner } = shape;
+    if !rect.is_in_range() {
+        return false;
+    }
+    let strip = InsideStrip { rect, corner, pen };
+    let inside = Inside(Framed { shape, pen });
+    strip.bounds() == rect && are_rows(&strip, &inside, bordered(rect))
+}
+
+/// Whether all shapes of a rectangle with corners as high as this, and their insides, have the right runs.
+fn are_shapes(rect: Rect, width: u16, corner_height: u16) -> bool {
+    for corner_width in 0..=width {
+        let shape = Round {
+            rect,
+            corner: corner(corner_width, corner_height),
+        };
+        if !is_round(shape) || !is_inside(shape, pen(1, 1)) {
+            return false;
+        }
+    }
+    true
+}
+
+/// Whether all shapes of this size have.
+fn are_shapes_of(width: u16, height: u16) -> bool {
+    for corner_height in 0..=height {
+        if !are_shapes(sized(width, height), width, corner_height) {
+            return false;
+        }
+    }
+    true
+}
+
+#[test]
+fn every_small_shape_and_its_inside_is_its_runs(rt: HostRuntime) -> Result<(), Fail> {
+    for width in 0..SIZES {
+        for height in 0..SIZES {
+            assert!(rt; are_shapes_of(width, height));
+        }
+    }
+    Ok(())
+}
+
+/// The sizes of further pens.
+const PENS: [(u16, u16); 6] = [(0, 2), (1, 0), (2, 1), (1, 3), (5, 5), (99, 1)];
+
+/// Whether the insides that these pens leave of an oval, and of a shape with other corners, have the right runs.
+fn are_insides(rect: Rect) -> bool {
+    for (width, height) in PENS {
+        for corner in [Corner::none(), corner(7, 4), corner(99, 99)] {
+            if !is_inside(Round { rect, corner }, pen(width, height)) {
+                return false;
+            }
+        }
+    }
+    true
+}
+
+#[test]
+fn insides_of_other_pens_are_their_runs(rt: HostRuntime) -> Result<(), Fail> {
+    for width in 0..SIZES {
+        for height in 0..SIZES {
+            assert!(rt; are_insides(sized(width, height)));
+        }
+    }
     Ok(())
 }
 
 #[test]
-fn an_inside_is_its_runs(rt: HostRuntime) -> Result<(), Fail> {
-    let rect = rect!(-5, -2, 15, 1);
-    let corner = Corner {
-        width: 20,
-        height: 3,
-    };
-    let pen = Pen {
-        width: 1,
-        height: 1,
-    };
-    let strip = InsideStrip { rect, corner, pen };
-    assert!(rt; strip.bounds() == rect);
-    let shape = Round { rect, corner };
-    let inside = Inside(Framed { shape, pen });
-    let runs = Runs { strip: &strip };
-    assert!(rt; are_alike(&runs, &inside, rect!(-7, -4, 17, 3)));
+fn shapes_turned_inside_out_have_no_pixel(rt: HostRuntime) -> Result<(), Fail> {
+    let rect = rect!(4, 2, -3, 7);
+    let corner = corner(5, 5);
+    assert!(rt; are_rows(&RoundStrip { rect, corner }, &Round { rect, corner }, rect!(-5, 0, 9, 9)));
     Ok(())
 }
