@@ -1,6 +1,7 @@
 //! Insides of frames as strips.
-ghost use Rattle.std.specs.Prelude.{◌≡◌, true, ◌-◌, ◌*◌, ℤ};
-ghost use Rattle.tb_geom.specs.Rects.{is_in_range};
+ghost use Rattle.std.specs.Prelude.{◌≡◌, true, false, ◌-◌, ◌*◌, ℤ};
+ghost use Rattle.tb_geom.specs.declared.point.Point.{Point};
+ghost use Rattle.tb_geom.specs.Rects.{is_in_range, rect_holds};
 ghost use Rattle.shape_strips.specs.Runs.{run_holds};
 ghost use Rattle.shape_strips.specs.Rounds.{round_holds};
 ghost use Rattle.shape_strips.specs.Frames.{inset_corner, inset_rect, inside_holds};
@@ -68,7 +69,11 @@ impl InsideStrip {
 impl Strip for InsideStrip {
     ghost pixels = { λ s. inside_holds s.rect s.corner s.pen };
 
-    fn bounds(&self) -> Rect {
+    fn bounds(&self) -> Rect
+        ensures in_range { is_in_range result ≡ true }
+        ensures around { (p : Point) → rect_holds result p ≡ false → inside_holds self.now.rect self.now.corner self.now.pen p ≡ false }
+        ensures own { result ≡ self.now.rect }
+    {
         self.rect
     }
 

@@ -1,6 +1,7 @@
 //! Round shapes as strips.
-ghost use Rattle.std.specs.Prelude.{◌≡◌, true, ◌-◌, ◌*◌, ◌<◌, ℕ, nat_le, ◌≤ℤ◌, ◌<ℤ◌};
-ghost use Rattle.tb_geom.specs.Rects.{is_in_range};
+ghost use Rattle.std.specs.Prelude.{◌≡◌, true, false, ◌-◌, ◌*◌, ◌<◌, ℕ, nat_le, ◌≤ℤ◌, ◌<ℤ◌};
+ghost use Rattle.tb_geom.specs.declared.point.Point.{Point};
+ghost use Rattle.tb_geom.specs.Rects.{is_in_range, rect_holds};
 ghost use Rattle.shape_strips.specs.Ovals.{in_oval};
 ghost use Rattle.shape_strips.specs.Rounds.{down, fitted, round_holds};
 
@@ -49,7 +50,11 @@ impl RoundStrip {
 impl Strip for RoundStrip {
     ghost pixels = { λ s. round_holds s.rect s.corner };
 
-    fn bounds(&self) -> Rect {
+    fn bounds(&self) -> Rect
+        ensures in_range { is_in_range result ≡ true }
+        ensures around { (p : Point) → rect_holds result p ≡ false → round_holds self.now.rect self.now.corner p ≡ false }
+        ensures own { result ≡ self.now.rect }
+    {
         self.rect
     }
 
