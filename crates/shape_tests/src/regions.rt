@@ -31,7 +31,6 @@ fn is_made(alloc: Global, shape: Round) -> Result<bool, Refusal> {
     Ok(
         is_region_of(alloc, &made, &shape, bordered(shape.rect))?
             && is_framed(alloc, shape, pen(1, 1))?
-            && is_framed(alloc, shape, pen(2, 0))?
             && is_framed(alloc, shape, pen(3, 2))?,
     )
 }
@@ -39,7 +38,7 @@ fn is_made(alloc: Global, shape: Round) -> Result<bool, Refusal> {
 /// Whether shapes of this size with several corners are.
 fn are_made(alloc: Global, width: u16, height: u16) -> Result<bool, Refusal> {
     let rect = sized(width, height);
-    for (width, height) in [(0, 0), (3, 5), (16, 16), (99, 99)] {
+    for (width, height) in [(3, 5), (16, 16)] {
         let corner = corner(width, height);
         if !is_made(alloc, Round { rect, corner })? {
             return Ok(false);
@@ -49,7 +48,7 @@ fn are_made(alloc: Global, width: u16, height: u16) -> Result<bool, Refusal> {
 }
 
 #[test]
-fn small_shapes_are_made_of_their_pixels(rt: HostRuntime) -> Result<(), Fail> {
+fn round_rectangles_are_made_of_their_pixels(rt: HostRuntime) -> Result<(), Fail> {
     let alloc = rt.alloc();
     for width in 0..SIZES {
         for height in 0..SIZES {
@@ -108,6 +107,28 @@ fn ovals_are_drawn(rt: HostRuntime) -> Result<(), Fail> {
     assert!(rt; shows(alloc, &oval_region(alloc, EIGHT)?, EIGHT, OVAL)?);
     let frame = frame_oval_region(alloc, EIGHT, pen(1, 1))?;
     assert!(rt; shows(alloc, &frame, EIGHT, OVAL_FRAME)?);
+    Ok(())
+}
+
+/// An oval of 7 by 5 pixels.
+const ODD_OVAL: &'static [u8] = b".#####.\n#######\n#######\n#######\n.#####.\n";
+
+/// An oval of 8 by 2 pixels, which does not touch its left and its right side.
+const FLAT_OVAL: &'static [u8] = b".######.\n.######.\n";
+
+/// A rectangle of 8 by 6 pixels with corners of 4 by 6.
+const ROUND: &'static [u8] = b".######.\n########\n########\n########\n########\n.######.\n";
+
+#[test]
+fn shapes_of_other_sizes_are_drawn(rt: HostRuntime) -> Result<(), Fail> {
+    let alloc = rt.alloc();
+    let sides = rect!(0, 0, 7, 5);
+    assert!(rt; shows(alloc, &oval_region(alloc, sides)?, sides, ODD_OVAL)?);
+    let sides = rect!(0, 0, 8, 2);
+    assert!(rt; shows(alloc, &oval_region(alloc, sides)?, sides, FLAT_OVAL)?);
+    let sides = rect!(0, 0, 8, 6);
+    let shape = round_rect_region(alloc, sides, corner(4, 6))?;
+    assert!(rt; shows(alloc, &shape, sides, ROUND)?);
     Ok(())
 }
 

@@ -77,35 +77,21 @@ fn is_inside(shape: Round, pen: Pen) -> bool {
     strip.bounds() == rect && are_rows(&strip, &inside, bordered(rect))
 }
 
-/// Whether all shapes of a rectangle with corners as high as this, and their insides, have the right runs.
-fn are_shapes(rect: Rect, width: u16, corner_height: u16) -> bool {
-    for corner_width in 0..=width {
-        let shape = Round {
-            rect,
-            corner: corner(corner_width, corner_height),
-        };
-        if !is_round(shape) || !is_inside(shape, pen(1, 1)) {
-            return false;
-        }
-    }
-    true
-}
-
-/// Whether all shapes of this size have.
-fn are_shapes_of(width: u16, height: u16) -> bool {
-    for corner_height in 0..=height {
-        if !are_shapes(sized(width, height), width, corner_height) {
-            return false;
-        }
-    }
-    true
+/// Whether an oval of this size and its inside have the right runs, and the round rectangles that have its corners and are
+/// wider and higher by so much.
+fn are_shapes(width: u16, height: u16, more: u16) -> bool {
+    let rect = sized(width.saturating_add(more), height.saturating_add(more));
+    let corner = corner(width, height);
+    let shape = Round { rect, corner };
+    is_round(shape) && is_inside(shape, pen(1, 1))
 }
 
 #[test]
-fn every_small_shape_and_its_inside_is_its_runs(rt: HostRuntime) -> Result<(), Fail> {
+fn shapes_with_every_small_corner_are_their_runs(rt: HostRuntime) -> Result<(), Fail> {
     for width in 0..SIZES {
         for height in 0..SIZES {
-            assert!(rt; are_shapes_of(width, height));
+            assert!(rt; are_shapes(width, height, 0));
+            assert!(rt; are_shapes(width, height, 1));
         }
     }
     Ok(())
@@ -114,7 +100,7 @@ fn every_small_shape_and_its_inside_is_its_runs(rt: HostRuntime) -> Result<(), F
 /// The sizes of further pens.
 const PENS: [(u16, u16); 6] = [(0, 2), (1, 0), (2, 1), (1, 3), (5, 5), (99, 1)];
 
-/// Whether the insides that these pens leave of an oval, and of a shape with other corners, have the right runs.
+/// Whether the insides that these pens leave of an oval, and of shapes with other corners, have the right runs.
 fn are_insides(rect: Rect) -> bool {
     for (width, height) in PENS {
         for corner in [Corner::none(), corner(7, 4), corner(99, 99)] {
@@ -128,8 +114,8 @@ fn are_insides(rect: Rect) -> bool {
 
 #[test]
 fn insides_of_other_pens_are_their_runs(rt: HostRuntime) -> Result<(), Fail> {
-    for width in 0..SIZES {
-        for height in 0..SIZES {
+    for width in 0..12 {
+        for height in 0..12 {
             assert!(rt; are_insides(sized(width, height)));
         }
     }
