@@ -12,9 +12,9 @@ use shape_strips::{Corner, InsideStrip, Pen, RoundStrip};
 use std::alloc::{AllocError, Global};
 use tb_geom::{Rect, Refusal};
 
-/// The frame of a rectangle with rounded corners, within it (*Inside Macintosh* I, "QuickDraw": `FrameRoundRect`): the shape
-/// less its inside. A pen without width or height draws nothing. OutOfRange exactly where a side of the rectangle lies
-/// outside -16384..=16383, also of an empty one; else it refuses only for want of memory.
+/// The frame of a rectangle with rounded corners, within it (*Inside Macintosh* I, "QuickDraw": `FrameRoundRect`):
+/// the shape less its inside. A pen without width or height draws nothing. OutOfRange exactly where a side of the
+/// rectangle lies outside -16384..=16383, also of an empty one; else it refuses only for want of memory.
 pub fn frame_round_rect_region(
     alloc: Global,
     rect: Rect,

@@ -12,8 +12,8 @@ use std::alloc::Global;
 use tb_geom::{Rect, Refusal};
 
 /// The pixels of a rectangle with rounded corners (*Inside Macintosh* I, "QuickDraw": `PaintRoundRect`). OutOfRange
-/// exactly where a side of the rectangle lies outside -16384..=16383, also of an empty one; else it refuses only for want
-/// of memory.
+/// exactly where a side of the rectangle lies outside -16384..=16383, also of an empty one; else it refuses only for
+/// want of memory.
 pub fn round_rect_region(alloc: Global, rect: Rect, corner: Corner) -> Result<Region, Refusal>
     ensures pixels { IfOk result (λ region. (p : Point) → holds region p ≡ round_holds rect corner p) }
     ensures out_of_range { is_in_range rect ≡ false → result ≡ Err Refusal.OutOfRange }
@@ -25,8 +25,8 @@ pub fn round_rect_region(alloc: Global, rect: Rect, corner: Corner) -> Result<Re
     Ok(strip_region(alloc, &RoundStrip { rect, corner })?)
 }
 
-/// The pixels of a rectangle whose centres lie in the oval that touches its four sides (*Inside Macintosh* I, "QuickDraw":
-/// `PaintOval`). It refuses as `round_rect_region` does.
+/// The pixels of a rectangle whose centres lie in the oval that touches its four sides (*Inside Macintosh* I,
+/// "QuickDraw": `PaintOval`). It refuses as `round_rect_region` does.
 pub fn oval_region(alloc: Global, rect: Rect) -> Result<Region, Refusal>
     ensures pixels { IfOk result (λ region. (p : Point) → holds region p ≡ oval_holds rect p) }
     ensures out_of_range { is_in_range rect ≡ false → result ≡ Err Refusal.OutOfRange }

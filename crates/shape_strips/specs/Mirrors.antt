@@ -11,7 +11,7 @@ mirrored_across r p = record { h = (r.left +ℤ r.right) -ℤ (p.h +ℤ pos 1); 
 abbrev pub mirrored_down : Rect → Point → Point
 mirrored_down r p = record { h = p.h; v = (r.top +ℤ r.bottom) -ℤ (p.v +ℤ pos 1) }
 
--- on the other side of the diagonal from the upper left corner: as far from the left side as p is from the top, and from the
--- top as p is from the left side
+-- on the other side of the diagonal from the upper left corner: as far from the left side as p is from the top, and
+-- from the top as p is from the left side
 abbrev pub mirrored_diagonally : Rect → Point → Point
 mirrored_diagonally r p = record { h = r.left +ℤ (p.v -ℤ r.top); v = r.top +ℤ (p.h -ℤ r.left) }

@@ -8,7 +8,7 @@ square n = n * n
 unfoldable pub in_oval : ℕ → ℕ → ℕ → ℕ → Bool
 in_oval w k x y = nat_le (square (x * k) + square (y * w)) (square (w * k))
 
--- how far, in half pixels, the centre of a column lies from the middle of an oval of o columns that rounds the nearer corner,
--- where the shape has a columns before this one and b after it; 0 between the corners. So too with rows
+-- how far, in half pixels, the centre of a column lies from the middle of an oval of o columns that rounds the nearer
+-- corner, where the shape has a columns before this one and b after it; 0 between the corners. So too with rows
 abbrev pub away : ℕ → ℕ → ℕ → ℕ
 away o a b = o - 1 - 2 * min a b

@@ -11,7 +11,8 @@ use Rattle.shape_strips.specs.Ovals.{in_oval, away}
 abbrev pub fitted : Rect → Corner → Corner
 fitted r c = record { width = min c.width (count_to r.left r.right); height = min c.height (count_to r.top r.bottom) }
 
--- how far, in half pixels, the centre of a pixel in column h lies beside the middle of its corner's oval; 0 between the corners
+-- how far, in half pixels, the centre of a pixel in column h lies beside the middle of its corner's oval; 0 between
+-- the corners
 abbrev pub across : Rect → Corner → ℤ → ℕ
 across r c h = away c.width (count_to r.left h) (count_to (h +ℤ pos 1) r.right)
 

@@ -71,7 +71,8 @@ impl Strip for InsideStrip {
 
     fn bounds(&self) -> Rect
         ensures in_range { is_in_range result ≡ true }
-        ensures around { (p : Point) → rect_holds result p ≡ false → inside_holds self.now.rect self.now.corner self.now.pen p ≡ false }
+        ensures around { (p : Point) → rect_holds result p ≡ false
+            → inside_holds self.now.rect self.now.corner self.now.pen p ≡ false }
         ensures own { result ≡ self.now.rect }
     {
         self.rect

@@ -19,8 +19,8 @@ pub fn shapes_without_corners_are_rectangles()
         → round_holds r c p ≡ rect_holds r p }
 {}
 
-/// The centre of a pixel of an oval lies as many half pixels beside the oval's middle as it has more columns on one side
-/// than on the other, and above or below it likewise with rows.
+/// The centre of a pixel of an oval lies as many half pixels beside the oval's middle as it has more columns on one
+/// side than on the other, and above or below it likewise with rows.
 #[tactic(auto, using(crate::proofs::LawLemmas::oval_centres))]
 pub fn ovals_are_the_centres_in_them()
     ensures { (r : Rect) (p : Point) → oval_holds r p ≡ (rect_holds r p

@@ -25,8 +25,8 @@ impl Oval {
         across * across + down * down <= both * both
     }
 
-    /// How many pixels a row lacks on either side, where the centres of its pixels lie `y` half pixels above or below the
-    /// middle. Toward the middle pixels stay in, so that the first one that is in is found by halving.
+    /// How many pixels a row lacks on either side, where the centres of its pixels lie `y` half pixels above or below
+    /// the middle. Toward the middle pixels stay in, so that the first one that is in is found by halving.
     pub fn lacking(self, y: u64) -> u64
         requires { y ≤ self.height }
         ensures few { result ≤ self.width }
@@ -46,9 +46,9 @@ impl Oval {
     }
 }
 
-/// How far, in half pixels, the centre of a column lies from the middle of the oval of the nearer corner, which is `corner`
-/// columns wide; 0 between the corners. The shape has `before` columns left of this one and `after` right of it. So too with
-/// rows.
+/// How far, in half pixels, the centre of a column lies from the middle of the oval of the nearer corner, which is
+/// `corner` columns wide; 0 between the corners. The shape has `before` columns left of this one and `after` right of
+/// it. So too with rows.
 pub fn away(corner: u64, before: u64, after: u64) -> u64
     requires before { before < 32768 }
     requires after { after < 32768 }

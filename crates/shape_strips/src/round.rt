@@ -10,9 +10,9 @@ use crate::oval::{Oval, away};
 use crate::{Corner, Run, Strip};
 use tb_geom::Rect;
 
-/// A rectangle with rounded corners: a rectangle where the corner has no width or no height, and an oval where it is as wide
-/// and as high as the rectangle (*Inside Macintosh* I, "QuickDraw": `PaintRoundRect`). A pixel of a corner is in where its
-/// centre lies in the corner's oval.
+/// A rectangle with rounded corners: a rectangle where the corner has no width or no height, and an oval where it is
+/// as wide and as high as the rectangle (*Inside Macintosh* I, "QuickDraw": `PaintRoundRect`). A pixel of a corner is
+/// in where its centre lies in the corner's oval.
 #[derive(Clone, Copy)]
 pub struct RoundStrip {
     pub rect: Rect,
@@ -52,7 +52,8 @@ impl Strip for RoundStrip {
 
     fn bounds(&self) -> Rect
         ensures in_range { is_in_range result ≡ true }
-        ensures around { (p : Point) → rect_holds result p ≡ false → round_holds self.now.rect self.now.corner p ≡ false }
+        ensures around { (p : Point) → rect_holds result p ≡ false
+            → round_holds self.now.rect self.now.corner p ≡ false }
         ensures own { result ≡ self.now.rect }
     {
         self.rect

@@ -77,8 +77,8 @@ fn is_inside(shape: Round, pen: Pen) -> bool {
     strip.bounds() == rect && are_rows(&strip, &inside, bordered(rect))
 }
 
-/// Whether an oval of this size and its inside have the right runs, and the round rectangles that have its corners and are
-/// wider and higher by so much.
+/// Whether an oval of this size and its inside have the right runs, and the round rectangles that have its corners
+/// and are wider and higher by so much.
 fn are_shapes(width: u16, height: u16, more: u16) -> bool {
     let rect = sized(width.saturating_add(more), height.saturating_add(more));
     let corner = corner(width, height);
