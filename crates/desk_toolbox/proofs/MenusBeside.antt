@@ -21,7 +21,7 @@ use Rattle.bit_map.specs.Modes.{xor_bit}
 use Rattle.bit_map.specs.Patterns.{pattern_bit, gray}
 use Rattle.desk_call.specs.declared.activity.Activity.{Activity}
 use Rattle.desk_call.specs.declared.activity.Activity.TheVariants.{Idle, Updating, Tracking, Pulling, TrackingControl, Dragging, Growing}
-use Rattle.desk_call.specs.declared.activity.Standing.TheVariants.{Asks, Changes}
+use Rattle.desk_call.specs.declared.activity.Standing.TheVariants.{Changes}
 use Rattle.desk_call.specs.declared.frame.FrameCall.{FrameCall}
 use Rattle.desk_call.specs.declared.frame.FrameCall.TheVariants.{SetTitle, Hilite, TrackGoAway, StepGoAway, EndGoAway}
 use Rattle.desk_call.specs.declared.frame.FrameReply.{FrameReply}
@@ -29,14 +29,13 @@ use Rattle.desk_call.specs.declared.frame.FrameReply.TheVariants.{Done, Tracked}
 use Rattle.desk_call.specs.declared.update.UpdateCall.{UpdateCall}
 use Rattle.desk_call.specs.declared.update.UpdateCall.TheVariants as update
 use Rattle.desk_call.specs.declared.window.WindowCall.{WindowCall}
-use Rattle.desk_call.specs.declared.window.WindowCall.TheVariants as asks
 use Rattle.desk_call.specs.declared.window.WindowReply.{WindowReply}
 use Rattle.desk_call.specs.Gates.{gate, frame_standing, update_standing, window_standing}
 use Rattle.desk_call.specs.Outlines.{IsOutlineKept}
 use Rattle.window_mgr.specs.declared.manager.WindowManager.{WindowManager}
 use Rattle.window_mgr.specs.Begin.{IsEmptyDesk}
 use Rattle.window_mgr.specs.DeskStates.{DeskState, Opened, desk_with}
-use Rattle.window_mgr.specs.Effects.{IsEffect, IsUnchanged, effect_of}
+use Rattle.window_mgr.specs.Effects.{IsUnchanged}
 use Rattle.window_mgr.specs.FullDesk.{FullDesk, FullState, layered_desk}
 use Rattle.window_mgr.specs.Records.{state_of, state_showing}
 use Rattle.window_mgr.specs.Step.{IsWindowStep}
@@ -52,6 +51,7 @@ use Rattle.menu_mgr.specs.MenuDesks.{MenuSlot}
 use Rattle.menu_mgr.specs.Pulling.{pulled_of}
 use Rattle.menu_mgr.specs.WholeMenus.{AreLive, AreMenusStocked, AreNoMenus, IsPlaced, IsPulledShown, IsWholeMenus, menus_of}
 use Rattle.desk_toolbox.specs.FrontMaps.{IsFrontRight}
+use Rattle.desk_toolbox.proofs.AskingCalls.{asked_changes_nothing, window_asks}
 use Rattle.desk_toolbox.proofs.Sides.{step_keeps_sides}
 use Rattle.desk_toolbox.proofs.UpdatedDesks.{update_keeps_desk}
 

@@ -1,5 +1,5 @@
 -- What a desk makes of a call by its nature.
-use Rattle.std.proofs.Common.{◌≡◌, ℕ, Bool, Option, refl, sym, ap, ◌∙◌, subst}
+use Rattle.std.proofs.Common.{◌≡◌, Bool, Option, refl, sym, ap, ◌∙◌, subst}
 use Rattle.tb_geom.specs.Points.{PixelSet}
 use Rattle.def_iface.specs.Slots.{TakenBox}
 use Rattle.def_iface.specs.WindowMeaning.{WindowLoan}

@@ -19,10 +19,7 @@ use Rattle.desk_call.specs.declared.window.WindowCall.{WindowCall}
 use Rattle.desk_call.specs.declared.window.WindowReply.{WindowReply}
 use Rattle.desk_call.specs.declared.window.WindowReply.TheVariants.{Done, Made, Found, Front, Info, Region}
 use Rattle.desk_call.specs.declared.window.WindowCall.TheVariants as asks
-use Rattle.vis_update.specs.Records.{WindowRecord}
-use Rattle.window_mgr.specs.Finding.{record_with, info_of}
-use Rattle.window_mgr.specs.Placings.{Placing, sized, zoomed}
-use Rattle.window_mgr.specs.Effects.{Effect, IsEffect, IsUnchanged, effect_of, places}
+use Rattle.window_mgr.specs.Effects.{Effect, IsEffect, IsUnchanged, effect_of}
 use Rattle.window_mgr.specs.Effects.Effect.{Makes, Disposes, Draws, Pictures, Scrolls, Arranges, Places, Tells, Describes}
 use Rattle.window_mgr.specs.Telling.{IsRegionTold}
 use Rattle.window_mgr.proofs.KeptKinds as kinds
@@ -47,6 +44,7 @@ use Rattle.desk_toolbox.specs.ToolboxStates.{ToolboxState, with_controls, with_l
 use Rattle.desk_toolbox.specs.Run.{IsWindowAnswer, IsWindowMade, IsEventAnswer, IsAdmitted, replied, IsStep, IsRunOf, IsRunOfCalls, serial_made, made, AreCounted}
 use Rattle.window_update.proofs.ServedLaws.{all_served_is_right}
 use Rattle.window_update.proofs.UpdateLaws.{update_stays_right}
+use Rattle.desk_toolbox.proofs.AskingCalls.{IsNumberless, numberless}
 use Rattle.desk_toolbox.proofs.EachManager.{HoldsOfEach, of_admitted, of_step}
 use Rattle.desk_call.specs.declared.window.WindowReply.TheVariants as window_reply
 use Rattle.desk_toolbox.proofs.Outlined.{outline_keeps_desk, outline_unchanged, put_down_right}

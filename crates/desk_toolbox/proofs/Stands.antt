@@ -16,7 +16,7 @@ use Rattle.desk_call.specs.declared.window.WindowReply.{WindowReply}
 use Rattle.desk_call.specs.Gates.{gate, window_standing}
 use Rattle.vis_update.specs.Records.{WindowRecord, is_floating}
 use Rattle.vis_update.specs.Touches.{is_this}
-use Rattle.window_mgr.specs.Effects.{IsEffect, effect_of}
+use Rattle.window_mgr.specs.Effects.{effect_of}
 use Rattle.window_mgr.specs.Finding.{record_with}
 use Rattle.window_mgr.specs.FullDesk.{FullDesk, FullState, IsRightState}
 use Rattle.window_mgr.specs.DeskStates.{DeskState, narrowed}
@@ -35,6 +35,7 @@ use Rattle.desk_toolbox.specs.EventSteps.{event_step}
 use Rattle.desk_toolbox.specs.Reached.{AreMenusApart, AreContentsRight, AreWindowsStocked, HasLiveDefinition, IsThere, IsConsistent, open_window}
 use Rattle.desk_toolbox.specs.Run.{AreControlsLeft, IsWindowAnswer, IsWindowMade, IsEventAnswer}
 use Rattle.desk_toolbox.specs.ToolboxStates.{ToolboxState}
+use Rattle.desk_toolbox.proofs.AskingCalls.{asked_changes_nothing}
 use Rattle.desk_toolbox.proofs.HeldSteps.{AreMenusHeld}
 use Rattle.desk_toolbox.proofs.PulledMenus.{IsPullRight, same_pull}
 use Rattle.desk_toolbox.proofs.Totals.{Ordinary, Present, counted, counted_is_found, counted_of_class, distinct_counts, either_class, found_counts, found_of_class, has_when, of_class, total}

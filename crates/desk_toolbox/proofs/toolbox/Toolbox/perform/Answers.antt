@@ -16,6 +16,7 @@ use Rattle.desk_toolbox.proofs.ContentsBeside.{frames_leave, frames_leave_lists,
 use Rattle.desk_toolbox.proofs.MenuStands.{menu_outlines_none, menu_trackable}
 use Rattle.desk_toolbox.proofs.TrackedControls.{frame_trackable}
 use Rattle.desk_toolbox.proofs.MenusBeside.{frame_whole}
+use Rattle.desk_toolbox.proofs.Quiet.{quiet_named}
 use Rattle.desk_toolbox.proofs.UpdatesBeside.{updates_after_frame, updates_after_menu}
 use Rattle.desk_toolbox.proofs.toolbox.Toolbox.perform.Goals as goal
 
@@ -109,11 +110,14 @@ returns-in-List-clause-whole g c = c.list_call.ensures.whole
 pub returns-in-List-clause-step : goal.returns-in-List-clause-step
 returns-in-List-clause-step g c = rw c.in-List.is (c.list_call.result, search rules, c.list_call.ensures.step)
 
+pub returns-in-Window-clause-step : goal.returns-in-Window-clause-step
+returns-in-Window-clause-step g c = rw c.in-Window.is (c.window_call.result, search rules, c.window_call.ensures.step)
+
 pub returns-in-Window-clause-economy : goal.returns-in-Window-clause-economy
 returns-in-Window-clause-economy g c = rw c.in-Window.is c.window_call.ensures.economy
 
 pub returns-in-Window-clause-quiet : goal.returns-in-Window-clause-quiet
-returns-in-Window-clause-quiet g c = rw c.in-Window.is c.window_call.ensures.quiet
+returns-in-Window-clause-quiet g c = rw c.in-Window.is (quiet_named c.in-Window.call c.window_call.result _ _ _ (search rules) c.window_call.ensures.quiet)
 
 pub returns-in-Outline-clause-whole : goal.returns-in-Outline-clause-whole
 returns-in-Outline-clause-whole g c = c.outline_call.ensures.whole
