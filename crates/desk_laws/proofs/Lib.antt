@@ -21,3 +21,16 @@ pub mod OutlineLaws
 pub mod OpenUpdates
 pub mod ServedRuns
 pub mod RegionLaws
+pub mod KeptValues
+pub mod JoinedChanges
+pub mod MeantPixels
+pub mod PartsThere
+pub mod WindowChanges
+pub mod ManagerChanges
+pub mod ListChanges
+pub mod MadeLists
+pub mod GoneParts
+pub mod GoneLists
+pub mod HiddenControls
+pub mod EachChange
+pub mod HeadlineLaws
