@@ -7,6 +7,7 @@ pub mod ControlDesks
 pub mod Judged
 pub mod ControlRefusals
 pub mod ControlSteps
+pub mod Numbers
 pub mod Damages
 pub mod Settled
 pub mod WholeControls
@@ -18,3 +19,4 @@ pub mod Making
 pub mod Ending
 pub mod ItemsClosing
 pub mod ControlClosing
+pub mod Boxed

@@ -1,22 +1,19 @@
 //! What is asked about controls.
-ghost use Rattle.std.specs.Prelude.{◌≡◌, ◌<◌, [], length, true, slice_get, is_some, IfSome, MatchResult};
+ghost use Rattle.std.specs.Prelude.{◌≡◌, ◌<◌, [], length, true, is_some};
 ghost use Rattle.tb_geom.specs.Rects.{in_plane};
 ghost use Rattle.window_items.specs.Items.{count_of};
 ghost use Rattle.control_mgr.specs.Seen.{seen};
 ghost use Rattle.desk_call.specs.declared.control.ControlCall.TheVariants as asks;
 ghost use Rattle.window_mgr.specs.DeskStates.{Opened};
 ghost use Rattle.window_mgr.specs.Edits.{IsWindowAt};
-ghost use Rattle.window_mgr.specs.Kept.{IsKept};
-ghost use Rattle.window_mgr.specs.Records.{desk_of};
 ghost use Rattle.control_mgr.specs.ControlDesks.{index_of};
 ghost use Rattle.control_mgr.specs.ControlSteps.{IsControlStep, found_from, found_in};
 ghost use Rattle.control_mgr.specs.Judged.{is_within, part_tested, part_under};
 ghost use Rattle.control_mgr.specs.Settled.{AreSettled, IsSettledControl};
-ghost use Rattle.control_mgr.specs.WholeControls.{AreBeside, LeavesControls, records_of};
 
-use crate::{Control, Controls};
+use crate::{Control, Controls, ControlsOnStock, DeskControls};
 use control_values::ControlPart;
-use def_iface::{Defined, TakenControl, TakenWindow};
+use def_iface::{Defined, TakenControl};
 use desk_call::{
     ControlInfo, ControlOf, ControlReply, FoundControl, PointAtControl, PointInWindow,
 };
@@ -24,7 +21,7 @@ use desk_layers::Part;
 use tb_geom::{Point, Rect, Refusal};
 use window_items::Item;
 use window_list::{local, picture_place};
-use window_mgr::WindowManager;
+use window_mgr::{DeskWindows, WindowManager};
 
 /// Whether a point of its window lies in a control's rectangle, widened by so much on each side.
 pub(crate) fn is_within(control: &Item<Control<TakenControl>>, margin: u8, point: Point) -> bool
@@ -91,14 +88,14 @@ fn found_in(control: &Item<Control<TakenControl>>, point: Point) -> Option<Found
 impl Controls<TakenControl> {
     /// Whether the control is there.
     pub fn has(&self, control: ControlOf) -> bool
-        ensures { result ≡ is_some (index_of control (records_of ⟦<TakenControl as Defined>⟧.loan self.now)) }
+        ensures { result ≡ is_some (index_of control (⟦<Self as ControlsOnStock>⟧.records self.now)) }
     {
         self.list.find(control.window, control.control).is_some()
     }
 
     /// How many controls the window has.
     pub fn count(&self, window: u64) -> usize
-        ensures { result ≡ count_of window (records_of ⟦<TakenControl as Defined>⟧.loan self.now) }
+        ensures { result ≡ count_of window (⟦<Self as ControlsOnStock>⟧.records self.now) }
     {
         self.list.count(window)
     }
@@ -109,8 +106,8 @@ impl Controls<TakenControl> {
         windows: &WindowManager,
         control: ControlOf,
     ) -> Result<ControlReply, Refusal>
-        requires kept { IsKept ⟦<TakenWindow as Defined>⟧.loan windows.now }
-        ensures { (o : Opened) → LeavesControls ⟦<TakenControl as Defined>⟧.loan ⟦<TakenWindow as Defined>⟧.loan
+        requires kept { ⟦<WindowManager as DeskWindows>⟧.IsKept windows.now }
+        ensures { (o : Opened) → ⟦<Self as DeskControls>⟧.Leaves
             (IsControlStep (asks.Get control) result) windows.now o self.now windows.now o self.now }
     {
         let spot = self.spot(windows, control)?;
@@ -128,10 +125,9 @@ impl Controls<TakenControl> {
         windows: &WindowManager,
         asked: PointAtControl,
     ) -> Result<ControlReply, Refusal>
-        requires kept { IsKept ⟦<TakenWindow as Defined>⟧.loan windows.now }
-        requires beside { AreBeside ⟦<TakenControl as Defined>⟧.loan ⟦<TakenWindow as Defined>⟧.loan windows.now
-            self.now }
-        ensures { (o : Opened) → LeavesControls ⟦<TakenControl as Defined>⟧.loan ⟦<TakenWindow as Defined>⟧.loan
+        requires kept { ⟦<WindowManager as DeskWindows>⟧.IsKept windows.now }
+        requires beside { ⟦<Self as DeskControls>⟧.AreBeside windows.now self.now }
+        ensures { (o : Opened) → ⟦<Self as DeskControls>⟧.Leaves
             (IsControlStep (asks.Test asked) result) windows.now o self.now windows.now o self.now }
     {
         let spot = self.spot(windows, asked.control)?;
@@ -148,10 +144,9 @@ impl Controls<TakenControl> {
         windows: &WindowManager,
         asked: PointInWindow,
     ) -> Result<ControlReply, Refusal>
-        requires kept { IsKept ⟦<TakenWindow as Defined>⟧.loan windows.now }
-        requires beside { AreBeside ⟦<TakenControl as Defined>⟧.loan ⟦<TakenWindow as Defined>⟧.loan windows.now
-            self.now }
-        ensures { (o : Opened) → LeavesControls ⟦<TakenControl as Defined>⟧.loan ⟦<TakenWindow as Defined>⟧.loan
+        requires kept { ⟦<WindowManager as DeskWindows>⟧.IsKept windows.now }
+        requires beside { ⟦<Self as DeskControls>⟧.AreBeside windows.now self.now }
+        ensures { (o : Opened) → ⟦<Self as DeskControls>⟧.Leaves
             (IsControlStep (asks.Find asked) result) windows.now o self.now windows.now o self.now }
     {
         let Some(at) = windows.find(asked.window) else {
@@ -165,13 +160,13 @@ impl Controls<TakenControl> {
 
     /// Which control owns the pixel at a point of the window at this index.
     fn found_at(&self, windows: &WindowManager, at: usize, point: Point) -> Option<FoundControl>
-        requires kept { IsKept ⟦<TakenWindow as Defined>⟧.loan windows.now }
-        requires settled { AreSettled (records_of ⟦<TakenControl as Defined>⟧.loan self.now) }
+        requires kept { ⟦<WindowManager as DeskWindows>⟧.IsKept windows.now }
+        requires settled { AreSettled (⟦<Self as ControlsOnStock>⟧.records self.now) }
         requires at { at < length windows.now.windows.records.items }
         requires point { in_plane point ≡ true }
         ensures { (w : _) → IsWindowAt windows.now.windows.records.items at w
-            → result ≡ found_from (desk_of ⟦<TakenWindow as Defined>⟧.loan windows.now [])
-            (records_of ⟦<TakenControl as Defined>⟧.loan self.now) w.serial w.place point }
+            → result ≡ found_from (⟦<WindowManager as DeskWindows>⟧.desk windows.now [])
+            (⟦<Self as ControlsOnStock>⟧.records self.now) w.serial w.place point }
     {
         let window = windows.list().at(at);
         let pixel = picture_place(window.place, point);

@@ -1,17 +1,14 @@
 //! Controls that are ended: planned with all growth, and then ended, which takes no memory.
-ghost use Rattle.std.specs.Prelude.{◌≡◌, ◌<◌, [], IfOk, IfSome, length};
+ghost use Rattle.std.specs.Prelude.{◌≡◌, ◌<◌, IfOk, IfSome, length};
 ghost use Rattle.window_list.specs.Holders.{ArePartsApart};
 ghost use Rattle.desk_call.specs.declared.control.ControlCall.TheVariants as asks;
 ghost use Rattle.window_mgr.specs.DeskStates.{Opened};
-ghost use Rattle.window_mgr.specs.Kept.{IsKept};
-ghost use Rattle.window_mgr.specs.Records.{desk_of};
 ghost use Rattle.window_mgr.specs.Relayered.{AreLayersPut};
 ghost use Rattle.control_mgr.specs.ControlSteps.{IsControlDisposed, IsControlStep, IsEndedIfThere};
 ghost use Rattle.control_mgr.specs.Ending.{IsEnding, IsPlannedEnd, IsPutIfPlanned, IsReadyToEnd, IsTakenOut, layers_left, update_left};
-ghost use Rattle.control_mgr.specs.WholeControls.{AreWholeControls, LeavesOver, controls_state, records_of};
 
-use crate::Controls;
-use def_iface::{ControlStock, Defined, Stocked, TakenControl, TakenWindow, put_away};
+use crate::{Controls, DeskControls};
+use def_iface::{ControlStock, Defined, TakenControl, TakenWindow, put_away};
 use desk_call::{ControlOf, ControlReply};
 use desk_layers::Part;
 use scan_region::Region;
@@ -19,7 +16,7 @@ use std::alloc::AllocError;
 use tb_geom::Refusal;
 use vis_update::Relaying;
 use window_list::Layers;
-use window_mgr::WindowManager;
+use window_mgr::{DeskWindows, WindowManager};
 
 /// The layers of a window without those of a control that is to end, and what changes by that on the screen.
 #[derive(Drop)]
@@ -64,7 +61,7 @@ impl Controls<TakenControl> {
         layers: &Layers,
         update: &Region,
     ) -> Result<Option<Ending>, AllocError>
-        requires kept { IsKept ⟦<TakenWindow as Defined>⟧.loan windows.now }
+        requires kept { ⟦<WindowManager as DeskWindows>⟧.IsKept windows.now }
         requires at { window < length windows.now.windows.records.items }
         requires apart { ArePartsApart layers.now.layers }
         ensures out { IfOk result (λ planned. IfSome planned (IsTakenOut window control.control layers.now)) }
@@ -94,13 +91,11 @@ impl Controls<TakenControl> {
         planned: Option<Ending>,
         stock: &mut ControlStock,
     )
-        requires kept { IsKept ⟦<TakenWindow as Defined>⟧.loan windows.old }
-        requires whole { AreWholeControls (desk_of ⟦<TakenWindow as Defined>⟧.loan windows.old []).windows
-            (controls_state ⟦<TakenControl as Defined>⟧.loan self.old (⟦<ControlStock as Stocked>⟧.slots stock.old)) }
+        requires kept { ⟦<WindowManager as DeskWindows>⟧.IsKept windows.old }
+        requires whole { ⟦<Self as DeskControls>⟧.IsWhole windows.old self.old stock.old }
         requires planned { IsPlannedEnd ⟦<TakenWindow as Defined>⟧.loan ⟦<TakenControl as Defined>⟧.loan control
             windows.old self.old planned }
-        ensures step { (o : Opened) → LeavesOver ⟦<TakenControl as Defined>⟧.loan ⟦<TakenWindow as Defined>⟧.loan
-            (⟦<ControlStock as Stocked>⟧.slots stock.old) (⟦<ControlStock as Stocked>⟧.slots stock.new)
+        ensures step { (o : Opened) → ⟦<Self as DeskControls>⟧.LeavesStock stock.old stock.new
             (IsEndedIfThere control) windows.old o self.old windows.new o self.new }
         ensures put { IsPutIfPlanned planned windows.old windows.new }
     {
@@ -117,13 +112,11 @@ impl Controls<TakenControl> {
         ending: Ending,
         stock: &mut ControlStock,
     )
-        requires kept { IsKept ⟦<TakenWindow as Defined>⟧.loan windows.old }
-        requires whole { AreWholeControls (desk_of ⟦<TakenWindow as Defined>⟧.loan windows.old []).windows
-            (controls_state ⟦<TakenControl as Defined>⟧.loan self.old (⟦<ControlStock as Stocked>⟧.slots stock.old)) }
+        requires kept { ⟦<WindowManager as DeskWindows>⟧.IsKept windows.old }
+        requires whole { ⟦<Self as DeskControls>⟧.IsWhole windows.old self.old stock.old }
         requires ending { IsEnding ⟦<TakenWindow as Defined>⟧.loan ⟦<TakenControl as Defined>⟧.loan control windows.old
             self.old ending }
-        ensures step { (o : Opened) → LeavesOver ⟦<TakenControl as Defined>⟧.loan ⟦<TakenWindow as Defined>⟧.loan
-            (⟦<ControlStock as Stocked>⟧.slots stock.old) (⟦<ControlStock as Stocked>⟧.slots stock.new)
+        ensures step { (o : Opened) → ⟦<Self as DeskControls>⟧.LeavesStock stock.old stock.new
             (IsControlDisposed control) windows.old o self.old windows.new o self.new }
         ensures put { AreLayersPut ending.window ending.layers ending.relaying.update windows.old windows.new }
     {
@@ -145,11 +138,9 @@ impl Controls<TakenControl> {
         control: ControlOf,
         stock: &mut ControlStock,
     ) -> Result<ControlReply, Refusal>
-        requires kept { IsKept ⟦<TakenWindow as Defined>⟧.loan windows.old }
-        requires whole { AreWholeControls (desk_of ⟦<TakenWindow as Defined>⟧.loan windows.old []).windows
-            (controls_state ⟦<TakenControl as Defined>⟧.loan self.old (⟦<ControlStock as Stocked>⟧.slots stock.old)) }
-        ensures { (o : Opened) → LeavesOver ⟦<TakenControl as Defined>⟧.loan ⟦<TakenWindow as Defined>⟧.loan
-            (⟦<ControlStock as Stocked>⟧.slots stock.old) (⟦<ControlStock as Stocked>⟧.slots stock.new)
+        requires kept { ⟦<WindowManager as DeskWindows>⟧.IsKept windows.old }
+        requires whole { ⟦<Self as DeskControls>⟧.IsWhole windows.old self.old stock.old }
+        ensures { (o : Opened) → ⟦<Self as DeskControls>⟧.LeavesStock stock.old stock.new
             (IsControlStep (asks.Dispose control) result) windows.old o self.old windows.new o self.new }
     {
         let spot = self.spot(windows, control)?;

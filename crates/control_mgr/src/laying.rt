@@ -1,25 +1,23 @@
 //! Where controls lie in their windows, and whether they are shown.
-ghost use Rattle.std.specs.Prelude.{◌≡◌, ◌<◌, [], Some, true, length, slice_get, IfOk, IfSome};
+ghost use Rattle.std.specs.Prelude.{◌≡◌, ◌<◌, Some, true, length, slice_get, IfOk, IfSome};
 ghost use Rattle.def_iface.specs.ControlMeaning.{is_control_size};
 ghost use Rattle.desk_call.specs.declared.control.ControlOf.{ControlOf as Named};
 ghost use Rattle.desk_call.specs.declared.control.ControlCall.TheVariants as asks;
 ghost use Rattle.window_mgr.specs.DeskStates.{Opened};
 ghost use Rattle.window_mgr.specs.Edits.{IsWindowAt};
-ghost use Rattle.window_mgr.specs.Kept.{IsKept};
 ghost use Rattle.control_mgr.specs.ControlSteps.{IsChangedAt, IsControlStep};
 ghost use Rattle.control_mgr.specs.Judged.{judged_box, lies_in_range, may_be_placed};
 ghost use Rattle.control_mgr.specs.Laying.{IsShapeOf, IsLaidOrShort, MayLie, MayLieSo, definition_if, shown_call};
 ghost use Rattle.control_mgr.specs.Spots.{IsSpot, IsSpotOf, IsTellable, with_lie};
-ghost use Rattle.control_mgr.specs.WholeControls.{AreBeside, LeavesControls, records_of};
 
-use crate::Controls;
 use crate::spots::ControlAt;
+use crate::{Controls, ControlsOnStock, DeskControls};
 use def_iface::{Defined, Size, TakenControl, TakenWindow};
 use desk_call::{ControlOf, ControlReply, MoveControl, SizeControl};
 use std::alloc::{AllocError, Global};
 use tb_geom::{Point, Rect, Refusal};
 use window_list::{LayerShape, move_by};
-use window_mgr::WindowManager;
+use window_mgr::{DeskWindows, WindowManager};
 
 /// The widest and highest that a control may be.
 const LARGEST: i32 = 1024;
@@ -97,7 +95,7 @@ impl Controls<TakenControl> {
     /// How the control at this index lies.
     fn lie(&self, at: usize) -> Lie
         requires { at < length self.now.list.items.items }
-        ensures { IfSome (slice_get (records_of ⟦<TakenControl as Defined>⟧.loan self.now) at) (λ c.
+        ensures { IfSome (slice_get (⟦<Self as ControlsOnStock>⟧.records self.now) at) (λ c.
             result ≡ record { place = c.kept.place; size = c.kept.size; shown = c.kept.shown }) }
     {
         let control = &self.list.items[at];
@@ -112,7 +110,7 @@ impl Controls<TakenControl> {
     fn may_lie(&self, windows: &WindowManager, spot: ControlAt, lie: Lie) -> bool
         requires window { spot.window < length windows.now.windows.records.items }
         requires control { spot.control < length self.now.list.items.items }
-        ensures { IfSome (slice_get (records_of ⟦<TakenControl as Defined>⟧.loan self.now) spot.control) (λ c.
+        ensures { IfSome (slice_get (⟦<Self as ControlsOnStock>⟧.records self.now) spot.control) (λ c.
             (w : _) → IsWindowAt windows.now.windows.records.items spot.window w
             → result ≡ may_be_placed (Some c.kept.definition.definition) lie.place lie.size w.place) }
     {
@@ -128,15 +126,14 @@ impl Controls<TakenControl> {
         spot: ControlAt,
         lie: Lie,
     ) -> Result<ControlReply, Refusal>
-        requires kept { IsKept ⟦<TakenWindow as Defined>⟧.loan windows.old }
-        requires beside { AreBeside ⟦<TakenControl as Defined>⟧.loan ⟦<TakenWindow as Defined>⟧.loan windows.old
-            self.old }
+        requires kept { ⟦<WindowManager as DeskWindows>⟧.IsKept windows.old }
+        requires beside { ⟦<Self as DeskControls>⟧.AreBeside windows.old self.old }
         requires spot { IsSpot ⟦<TakenWindow as Defined>⟧.loan ⟦<TakenControl as Defined>⟧.loan windows.old self.old
             spot }
         requires may { MayLie ⟦<TakenControl as Defined>⟧.loan windows.old self.old spot lie }
         ensures { (c : Named) → IsSpotOf ⟦<TakenWindow as Defined>⟧.loan ⟦<TakenControl as Defined>⟧.loan c windows.old
             self.old spot
-            → (o : Opened) → LeavesControls ⟦<TakenControl as Defined>⟧.loan ⟦<TakenWindow as Defined>⟧.loan
+            → (o : Opened) → ⟦<Self as DeskControls>⟧.Leaves
             (IsLaidOrShort c (with_lie lie) result) windows.old o self.old windows.new o self.new }
     {
         let definition = &self.list.items[spot.control].kept.definition;
@@ -154,10 +151,10 @@ impl Controls<TakenControl> {
     /// Notes that the control at this index lies so, and tells its definition.
     fn put_lie(&mut self, at: usize, lie: Lie)
         requires at { at < length self.old.list.items.items }
-        requires tellable { IfSome (slice_get (records_of ⟦<TakenControl as Defined>⟧.loan self.old) at)
+        requires tellable { IfSome (slice_get (⟦<Self as ControlsOnStock>⟧.records self.old) at)
             (λ c. IsTellable (with_lie lie c)) }
-        ensures changed { IsChangedAt (with_lie lie) at (records_of ⟦<TakenControl as Defined>⟧.loan self.old)
-            (records_of ⟦<TakenControl as Defined>⟧.loan self.new) }
+        ensures changed { IsChangedAt (with_lie lie) at (⟦<Self as ControlsOnStock>⟧.records self.old)
+            (⟦<Self as ControlsOnStock>⟧.records self.new) }
         ensures next { self.new.list.next ≡ self.old.list.next }
         ensures alloc { self.new.alloc ≡ self.old.alloc }
     {
@@ -175,10 +172,9 @@ impl Controls<TakenControl> {
         control: ControlOf,
         shown: bool,
     ) -> Result<ControlReply, Refusal>
-        requires kept { IsKept ⟦<TakenWindow as Defined>⟧.loan windows.old }
-        requires beside { AreBeside ⟦<TakenControl as Defined>⟧.loan ⟦<TakenWindow as Defined>⟧.loan windows.old
-            self.old }
-        ensures { (o : Opened) → LeavesControls ⟦<TakenControl as Defined>⟧.loan ⟦<TakenWindow as Defined>⟧.loan
+        requires kept { ⟦<WindowManager as DeskWindows>⟧.IsKept windows.old }
+        requires beside { ⟦<Self as DeskControls>⟧.AreBeside windows.old self.old }
+        ensures { (o : Opened) → ⟦<Self as DeskControls>⟧.Leaves
             (IsControlStep (shown_call shown control) result) windows.old o self.old windows.new o self.new }
     {
         let spot = self.spot(windows, control)?;
@@ -195,10 +191,9 @@ impl Controls<TakenControl> {
         windows: &mut WindowManager,
         moved: MoveControl,
     ) -> Result<ControlReply, Refusal>
-        requires kept { IsKept ⟦<TakenWindow as Defined>⟧.loan windows.old }
-        requires beside { AreBeside ⟦<TakenControl as Defined>⟧.loan ⟦<TakenWindow as Defined>⟧.loan windows.old
-            self.old }
-        ensures { (o : Opened) → LeavesControls ⟦<TakenControl as Defined>⟧.loan ⟦<TakenWindow as Defined>⟧.loan
+        requires kept { ⟦<WindowManager as DeskWindows>⟧.IsKept windows.old }
+        requires beside { ⟦<Self as DeskControls>⟧.AreBeside windows.old self.old }
+        ensures { (o : Opened) → ⟦<Self as DeskControls>⟧.Leaves
             (IsControlStep (asks.Move moved) result) windows.old o self.old windows.new o self.new }
     {
         let spot = self.spot(windows, moved.control)?;
@@ -218,10 +213,9 @@ impl Controls<TakenControl> {
         windows: &mut WindowManager,
         sized: SizeControl,
     ) -> Result<ControlReply, Refusal>
-        requires kept { IsKept ⟦<TakenWindow as Defined>⟧.loan windows.old }
-        requires beside { AreBeside ⟦<TakenControl as Defined>⟧.loan ⟦<TakenWindow as Defined>⟧.loan windows.old
-            self.old }
-        ensures { (o : Opened) → LeavesControls ⟦<TakenControl as Defined>⟧.loan ⟦<TakenWindow as Defined>⟧.loan
+        requires kept { ⟦<WindowManager as DeskWindows>⟧.IsKept windows.old }
+        requires beside { ⟦<Self as DeskControls>⟧.AreBeside windows.old self.old }
+        ensures { (o : Opened) → ⟦<Self as DeskControls>⟧.Leaves
             (IsControlStep (asks.Size sized) result) windows.old o self.old windows.new o self.new }
     {
         let spot = self.spot(windows, sized.control)?;

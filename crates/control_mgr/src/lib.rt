@@ -25,6 +25,7 @@ mod asking;
 mod closing;
 mod control;
 mod controls;
+mod desk_controls;
 mod drawing;
 mod ending;
 mod laying;
@@ -37,6 +38,7 @@ mod tracking;
 
 pub use control::Control;
 pub use controls::Controls;
+pub use desk_controls::{ControlsOnStock, DeskControls};
 pub use drawing::DrawnControl;
 pub use ending::{Ending, layers_left, update_left};
 pub use laying::may_be_placed;

@@ -4,18 +4,15 @@ ghost use Rattle.tb_geom.specs.Refusals.{first_refusal};
 ghost use Rattle.def_iface.specs.Slots.{IsTaken};
 ghost use Rattle.desk_call.specs.declared.control.ControlCall.TheVariants as asks;
 ghost use Rattle.window_mgr.specs.DeskStates.{Opened};
-ghost use Rattle.window_mgr.specs.Kept.{IsKept};
-ghost use Rattle.window_mgr.specs.Records.{desk_of};
 ghost use Rattle.window_mgr.specs.Relayered.{AreLayersPut};
 ghost use Rattle.control_mgr.specs.ControlRefusals.{control_form_refusals, judged_refusals};
 ghost use Rattle.control_mgr.specs.ControlSteps.{IsControlMade, IsControlStep};
 ghost use Rattle.control_mgr.specs.Laying.{definition_if};
 ghost use Rattle.control_mgr.specs.Making.{IsAddition, IsGrown, IsNotAdded, IsReadyToAdd, IsRoomier, IsTicket, MayGrow, judged_by};
-ghost use Rattle.control_mgr.specs.WholeControls.{AreBeside, AreWholeControls, LeavesOver, controls_state, records_of};
 
 use crate::laying::{Lie, may_be_placed, shape_of};
 use crate::setting::say_bounds;
-use crate::{Control, Controls};
+use crate::{Control, Controls, ControlsOnStock, DeskControls};
 use control_values::{ControlValues, Highlight};
 use def_iface::{ControlStock, Defined, Stage, Stocked, TakenControl, TakenWindow};
 use desk_call::{ControlCall, ControlReply, NewControl};
@@ -27,7 +24,7 @@ use tb_geom::Refusal;
 use vis_update::Relaying;
 use window_items::Item;
 use window_list::{Layer, Layers};
-use window_mgr::WindowManager;
+use window_mgr::{DeskWindows, WindowManager};
 
 /// As many controls as a window may have.
 pub const MOST_CONTROLS: usize = 64;
@@ -74,11 +71,9 @@ impl Controls<TakenControl> {
         new: &NewControl<'_>,
         stock: &mut ControlStock,
     ) -> Result<ControlReply, Refusal>
-        requires kept { IsKept ⟦<TakenWindow as Defined>⟧.loan windows.old }
-        requires whole { AreWholeControls (desk_of ⟦<TakenWindow as Defined>⟧.loan windows.old []).windows
-            (controls_state ⟦<TakenControl as Defined>⟧.loan self.old (⟦<ControlStock as Stocked>⟧.slots stock.old)) }
-        ensures { (o : Opened) → LeavesOver ⟦<TakenControl as Defined>⟧.loan ⟦<TakenWindow as Defined>⟧.loan
-            (⟦<ControlStock as Stocked>⟧.slots stock.old) (⟦<ControlStock as Stocked>⟧.slots stock.new)
+        requires kept { ⟦<WindowManager as DeskWindows>⟧.IsKept windows.old }
+        requires whole { ⟦<Self as DeskControls>⟧.IsWhole windows.old self.old stock.old }
+        ensures { (o : Opened) → ⟦<Self as DeskControls>⟧.LeavesStock stock.old stock.new
             (IsControlStep (asks.New new.now) result) windows.old o self.old windows.new o self.new }
     {
         match stock.take(new.kind.as_slice()) {
@@ -100,9 +95,9 @@ impl Controls<TakenControl> {
 
     /// Why a control is refused that no definition is left for.
     fn refusal_without(&self, windows: &WindowManager, new: &NewControl<'_>) -> Refusal
-        requires { IsKept ⟦<TakenWindow as Defined>⟧.loan windows.now }
-        ensures { first_refusal (judged_refusals new.now None (desk_of ⟦<TakenWindow as Defined>⟧.loan windows.now [])
-            (records_of ⟦<TakenControl as Defined>⟧.loan self.now) self.now.list.next ++ (true, Refusal.NoDefinition)
+        requires { ⟦<WindowManager as DeskWindows>⟧.IsKept windows.now }
+        ensures { first_refusal (judged_refusals new.now None (⟦<WindowManager as DeskWindows>⟧.desk windows.now [])
+            (⟦<Self as ControlsOnStock>⟧.records self.now) self.now.list.next ++ (true, Refusal.NoDefinition)
             ∷ []) ≡ Some result }
     {
         match self.judge(windows, new, None) {
@@ -118,7 +113,7 @@ impl Controls<TakenControl> {
         new: &NewControl<'_>,
         taken: Option<&TakenControl>,
     ) -> Result<Ticket, Refusal>
-        requires { IsKept ⟦<TakenWindow as Defined>⟧.loan windows.now }
+        requires { ⟦<WindowManager as DeskWindows>⟧.IsKept windows.now }
         ensures { let d = definition_if ⟦<TakenControl as Defined>⟧.loan taken.entry in MatchResult result
             (λ ticket. (judged_by ⟦<TakenWindow as Defined>⟧.loan ⟦<TakenControl as Defined>⟧.loan new.now d windows.now
             self.now ≡ None)
@@ -155,9 +150,8 @@ impl Controls<TakenControl> {
         new: &NewControl<'_>,
         taken: &TakenControl,
     ) -> Result<Addition, Refusal>
-        requires kept { IsKept ⟦<TakenWindow as Defined>⟧.loan windows.now }
-        requires beside { AreBeside ⟦<TakenControl as Defined>⟧.loan ⟦<TakenWindow as Defined>⟧.loan windows.now
-            self.old }
+        requires kept { ⟦<WindowManager as DeskWindows>⟧.IsKept windows.now }
+        requires beside { ⟦<Self as DeskControls>⟧.AreBeside windows.now self.old }
         ensures same { IsRoomier self.old self.new }
         ensures judged { IfOk result (λ _. judged_by ⟦<TakenWindow as Defined>⟧.loan ⟦<TakenControl as Defined>⟧.loan
             new.now (Some (⟦<TakenControl as Defined>⟧.loan taken.now).definition) windows.now self.old ≡ None) }
@@ -187,7 +181,7 @@ impl Controls<TakenControl> {
         layers: &Layers,
         update: &Region,
     ) -> Result<Addition, AllocError>
-        requires kept { IsKept ⟦<TakenWindow as Defined>⟧.loan windows.now }
+        requires kept { ⟦<WindowManager as DeskWindows>⟧.IsKept windows.now }
         requires at { ticket.window < length windows.now.windows.records.items }
         requires may { MayGrow new.now (⟦<TakenControl as Defined>⟧.loan taken.now).definition ticket layers.now }
         ensures grown { IfOk result (IsGrown new.now (⟦<TakenControl as Defined>⟧.loan taken.now).definition ticket
@@ -228,15 +222,14 @@ impl Controls<TakenControl> {
         addition: Addition,
         taken: TakenControl,
     )
-        requires kept { IsKept ⟦<TakenWindow as Defined>⟧.loan windows.old }
-        requires beside { AreBeside ⟦<TakenControl as Defined>⟧.loan ⟦<TakenWindow as Defined>⟧.loan windows.old
-            self.old }
+        requires kept { ⟦<WindowManager as DeskWindows>⟧.IsKept windows.old }
+        requires beside { ⟦<Self as DeskControls>⟧.AreBeside windows.old self.old }
         requires addition { IsAddition ⟦<TakenWindow as Defined>⟧.loan ⟦<TakenControl as Defined>⟧.loan new.now
             (⟦<TakenControl as Defined>⟧.loan taken).definition windows.old self.old addition }
         requires fresh { (⟦<TakenControl as Defined>⟧.loan taken).definition.stage ≡ Stage.Fresh }
         ensures step { (before left : _) → IsTaken (λ d. d.stage) new.now.kind (⟦<TakenControl as Defined>⟧.loan taken)
             before left
-            → (o : Opened) → LeavesOver ⟦<TakenControl as Defined>⟧.loan ⟦<TakenWindow as Defined>⟧.loan before left
+            → (o : Opened) → ⟦<Self as DeskControls>⟧.LeavesOver before left
             (IsControlMade new.now addition.ticket.serial) windows.old o self.old windows.new o self.new }
         ensures put { AreLayersPut addition.ticket.window addition.layers addition.relaying.update windows.old
             windows.new }

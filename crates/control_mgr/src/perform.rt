@@ -2,18 +2,17 @@
 ghost use Rattle.std.specs.Prelude.{◌≡◌, [], None};
 ghost use Rattle.tb_geom.specs.Points.{PixelSet};
 ghost use Rattle.desk_call.specs.Gates.{control_standing, gate};
-ghost use Rattle.window_mgr.specs.Kept.{IsKept};
-ghost use Rattle.window_mgr.specs.Records.{desk_of};
 ghost use Rattle.control_mgr.specs.ControlSteps.{IsControlStep};
 ghost use Rattle.control_mgr.specs.Damages.{IsWhereRight};
 ghost use Rattle.control_mgr.specs.Spots.{opened};
-ghost use Rattle.control_mgr.specs.WholeControls.{AreWholeControls, IsTrackable, LeavesOver, controls_state, records_of};
+ghost use Rattle.control_mgr.specs.WholeControls.{AreWholeControls, IsTrackable};
 
-use crate::Controls;
-use def_iface::{ControlStock, Defined, Stocked, TakenControl, TakenWindow};
+use crate::setting::WhichNumber;
+use crate::{Controls, ControlsOnStock, DeskControls};
+use def_iface::{ControlStock, TakenControl};
 use desk_call::{Activity, ControlCall, ControlReply};
 use tb_geom::Refusal;
-use window_mgr::WindowManager;
+use window_mgr::{DeskWindows, WindowManager};
 
 impl Controls<TakenControl> {
     /// Performs one call on these controls of these windows, which may come while this is open, and gives its answer. A refused
@@ -26,16 +25,15 @@ impl Controls<TakenControl> {
         call: &ControlCall<'_>,
         stock: &mut ControlStock,
     ) -> Result<ControlReply, Refusal>
-        requires kept { IsKept ⟦<TakenWindow as Defined>⟧.loan windows.old }
-        requires whole { AreWholeControls (desk_of ⟦<TakenWindow as Defined>⟧.loan windows.old []).windows
-            (controls_state ⟦<TakenControl as Defined>⟧.loan self.old (⟦<ControlStock as Stocked>⟧.slots stock.old)) }
-        requires trackable { IsTrackable activity.old (records_of ⟦<TakenControl as Defined>⟧.loan self.old) }
+        requires kept { ⟦<WindowManager as DeskWindows>⟧.IsKept windows.old }
+        requires whole { AreWholeControls (⟦<WindowManager as DeskWindows>⟧.desk windows.old []).windows
+            (⟦<Self as ControlsOnStock>⟧.state self.old stock.old) }
+        requires trackable { IsTrackable activity.old (⟦<Self as ControlsOnStock>⟧.records self.old) }
         requires admitted { gate activity.old (control_standing call.now) ≡ None }
-        ensures step { (begun : PixelSet) → LeavesOver ⟦<TakenControl as Defined>⟧.loan ⟦<TakenWindow as Defined>⟧.loan
-            (⟦<ControlStock as Stocked>⟧.slots stock.old) (⟦<ControlStock as Stocked>⟧.slots stock.new)
+        ensures step { (begun : PixelSet) → ⟦<Self as DeskControls>⟧.LeavesStock stock.old stock.new
             (IsWhereRight (IsControlStep call.now result))
             windows.old (opened activity.old begun) self.old windows.new (opened activity.new begun) self.new }
-        ensures trackable { IsTrackable activity.new (records_of ⟦<TakenControl as Defined>⟧.loan self.new) }
+        ensures trackable { IsTrackable activity.new (⟦<Self as ControlsOnStock>⟧.records self.new) }
     {
         match call {
             ControlCall::New(new) => self.make(windows, new, stock),
@@ -44,9 +42,9 @@ impl Controls<TakenControl> {
             ControlCall::Hide(control) => self.show(windows, *control, false),
             ControlCall::Move(moved) => self.move_control(windows, *moved),
             ControlCall::Size(sized) => self.size_control(windows, *sized),
-            ControlCall::SetValue(set) => self.set_value(windows, *set),
-            ControlCall::SetMinimum(set) => self.set_minimum(windows, *set),
-            ControlCall::SetMaximum(set) => self.set_maximum(windows, *set),
+            ControlCall::SetValue(set) => self.set_number(windows, WhichNumber::Value, *set),
+            ControlCall::SetMinimum(set) => self.set_number(windows, WhichNumber::Minimum, *set),
+            ControlCall::SetMaximum(set) => self.set_number(windows, WhichNumber::Maximum, *set),
             ControlCall::Hilite(set) => self.hilite(windows, *set),
             ControlCall::SetTitle(set) => self.set_title(windows, set),
             ControlCall::Get(control) => self.get(windows, *control),

@@ -1,24 +1,23 @@
 //! What changes of a control but where it lies: its setting, its highlighting and its title.
-ghost use Rattle.std.specs.Prelude.{◌≡◌, ◌<◌, [], true, pos, length, slice_get, IfSome};
+ghost use Rattle.std.specs.Prelude.{◌≡◌, ◌<◌, true, pos, length, slice_get, IfSome, IfErr, is_ok, if◌then◌else◌};
 ghost use Rattle.control_values.specs.Highlights.{is_highlight};
 ghost use Rattle.desk_call.specs.declared.control.ControlOf.{ControlOf as Named};
 ghost use Rattle.desk_call.specs.declared.control.ControlCall.TheVariants as asks;
-ghost use Rattle.window_mgr.specs.Kept.{IsKept};
 ghost use Rattle.window_mgr.specs.DeskStates.{Opened};
 ghost use Rattle.control_mgr.specs.ControlSteps.{IsControlStep};
 ghost use Rattle.control_mgr.specs.Damages.{IsPut, IsSettingGiven, IsWhereRight};
+ghost use Rattle.control_mgr.specs.Numbers.{call_of, may_have_number, with_number};
 ghost use Rattle.control_mgr.specs.Settled.{MayHaveSetting};
 ghost use Rattle.control_mgr.specs.Spots.{IsSpot, IsSpotOf, with_state};
-ghost use Rattle.control_mgr.specs.WholeControls.{AreBeside, LeavesControls, records_of};
 
-use crate::Controls;
 use crate::spots::ControlAt;
+use crate::{Controls, ControlsOnStock, DeskControls};
 use control_values::{ControlValues, Highlight};
 use def_iface::{Defined, TakenControl, TakenWindow};
 use desk_call::{ControlNumber, ControlOf, ControlReply, ControlTitle};
 use draw_port::ShortText;
 use tb_geom::Refusal;
-use window_mgr::WindowManager;
+use window_mgr::{DeskWindows, WindowManager};
 
 /// What a control shows beside where it lies.
 #[derive(Drop)]
@@ -26,6 +25,30 @@ pub(crate) struct State {
     pub values: ControlValues,
     pub highlight: Highlight,
     pub title: ShortText,
+}
+
+/// Which number of a control's setting a call sets.
+#[derive(Clone, Copy)]
+pub(crate) enum WhichNumber {
+    Value,
+    Minimum,
+    Maximum,
+}
+
+impl WhichNumber {
+    /// Sets this number of a setting, by which its value is moved between the other two. OutOfRange as that setter says.
+    fn set_in(self, values: &mut ControlValues, number: i32) -> Result<(), Refusal>
+        ensures setting { values.new ≡ (if may_have_number self number values.old
+            then with_number self number values.old else values.old) }
+        ensures in_range { is_ok result ≡ may_have_number self number values.old }
+        ensures refused { IfErr result (λ e. e ≡ Refusal.OutOfRange) }
+    {
+        match self {
+            WhichNumber::Value => values.set_value(number),
+            WhichNumber::Minimum => values.set_minimum(number),
+            WhichNumber::Maximum => values.set_maximum(number),
+        }
+    }
 }
 
 /// Reads a setting and a highlighting: each is one that a control may have.
@@ -43,7 +66,7 @@ impl Controls<TakenControl> {
     /// The state of the control at this index.
     pub(crate) fn state(&self, at: usize) -> State
         requires { at < length self.now.list.items.items }
-        ensures { IfSome (slice_get (records_of ⟦<TakenControl as Defined>⟧.loan self.now) at) (λ c.
+        ensures { IfSome (slice_get (⟦<Self as ControlsOnStock>⟧.records self.now) at) (λ c.
             result ≡ record { values = c.kept.values; highlight = c.kept.highlight; title = c.kept.title }) }
     {
         let control = &self.list.items[at];
@@ -56,14 +79,13 @@ impl Controls<TakenControl> {
 
     /// Gives a control this state, and draws it within the damage where it is not to be redrawn. Takes no memory.
     pub(crate) fn put(&mut self, windows: &mut WindowManager, spot: ControlAt, state: State)
-        requires kept { IsKept ⟦<TakenWindow as Defined>⟧.loan windows.old }
-        requires beside { AreBeside ⟦<TakenControl as Defined>⟧.loan ⟦<TakenWindow as Defined>⟧.loan windows.old
-            self.old }
+        requires kept { ⟦<WindowManager as DeskWindows>⟧.IsKept windows.old }
+        requires beside { ⟦<Self as DeskControls>⟧.AreBeside windows.old self.old }
         requires spot { IsSpot ⟦<TakenWindow as Defined>⟧.loan ⟦<TakenControl as Defined>⟧.loan windows.old self.old
             spot }
         ensures { (c : Named) → IsSpotOf ⟦<TakenWindow as Defined>⟧.loan ⟦<TakenControl as Defined>⟧.loan c windows.old
             self.old spot
-            → (o u : Opened) → LeavesControls ⟦<TakenControl as Defined>⟧.loan ⟦<TakenWindow as Defined>⟧.loan
+            → (o u : Opened) → ⟦<Self as DeskControls>⟧.Leaves
             (IsPut c (with_state state)) windows.old o self.old windows.new u self.new }
     {
         say_bounds(state.values, state.highlight);
@@ -84,10 +106,9 @@ impl Controls<TakenControl> {
         control: ControlOf,
         values: ControlValues,
     )
-        requires kept { IsKept ⟦<TakenWindow as Defined>⟧.loan windows.old }
-        requires beside { AreBeside ⟦<TakenControl as Defined>⟧.loan ⟦<TakenWindow as Defined>⟧.loan windows.old
-            self.old }
-        ensures { (o u : Opened) → LeavesControls ⟦<TakenControl as Defined>⟧.loan ⟦<TakenWindow as Defined>⟧.loan
+        requires kept { ⟦<WindowManager as DeskWindows>⟧.IsKept windows.old }
+        requires beside { ⟦<Self as DeskControls>⟧.AreBeside windows.old self.old }
+        ensures { (o u : Opened) → ⟦<Self as DeskControls>⟧.Leaves
             (IsSettingGiven control values) windows.old o self.old windows.new u self.new }
     {
         if let Ok(spot) = self.spot(windows, control) {
@@ -97,59 +118,21 @@ impl Controls<TakenControl> {
         }
     }
 
-    /// Sets the value of a control.
-    pub(crate) fn set_value(
+    /// Sets the value of a control, its minimum or its maximum.
+    pub(crate) fn set_number(
         &mut self,
         windows: &mut WindowManager,
+        which: WhichNumber,
         set: ControlNumber,
     ) -> Result<ControlReply, Refusal>
-        requires kept { IsKept ⟦<TakenWindow as Defined>⟧.loan windows.old }
-        requires beside { AreBeside ⟦<TakenControl as Defined>⟧.loan ⟦<TakenWindow as Defined>⟧.loan windows.old
-            self.old }
-        ensures { (o : Opened) → LeavesControls ⟦<TakenControl as Defined>⟧.loan ⟦<TakenWindow as Defined>⟧.loan
-            (IsWhereRight (IsControlStep (asks.SetValue set) result)) windows.old o self.old windows.new o self.new }
+        requires kept { ⟦<WindowManager as DeskWindows>⟧.IsKept windows.old }
+        requires beside { ⟦<Self as DeskControls>⟧.AreBeside windows.old self.old }
+        ensures { (o : Opened) → ⟦<Self as DeskControls>⟧.Leaves
+            (IsWhereRight (IsControlStep (call_of which set) result)) windows.old o self.old windows.new o self.new }
     {
         let spot = self.spot(windows, set.control)?;
         let mut state = self.state(spot.control);
-        state.values.set_value(set.number)?;
-        self.put(windows, spot, state);
-        Ok(ControlReply::Done)
-    }
-
-    /// Sets the minimum of a control.
-    pub(crate) fn set_minimum(
-        &mut self,
-        windows: &mut WindowManager,
-        set: ControlNumber,
-    ) -> Result<ControlReply, Refusal>
-        requires kept { IsKept ⟦<TakenWindow as Defined>⟧.loan windows.old }
-        requires beside { AreBeside ⟦<TakenControl as Defined>⟧.loan ⟦<TakenWindow as Defined>⟧.loan windows.old
-            self.old }
-        ensures { (o : Opened) → LeavesControls ⟦<TakenControl as Defined>⟧.loan ⟦<TakenWindow as Defined>⟧.loan
-            (IsWhereRight (IsControlStep (asks.SetMinimum set) result)) windows.old o self.old windows.new o self.new }
-    {
-        let spot = self.spot(windows, set.control)?;
-        let mut state = self.state(spot.control);
-        state.values.set_minimum(set.number)?;
-        self.put(windows, spot, state);
-        Ok(ControlReply::Done)
-    }
-
-    /// Sets the maximum of a control.
-    pub(crate) fn set_maximum(
-        &mut self,
-        windows: &mut WindowManager,
-        set: ControlNumber,
-    ) -> Result<ControlReply, Refusal>
-        requires kept { IsKept ⟦<TakenWindow as Defined>⟧.loan windows.old }
-        requires beside { AreBeside ⟦<TakenControl as Defined>⟧.loan ⟦<TakenWindow as Defined>⟧.loan windows.old
-            self.old }
-        ensures { (o : Opened) → LeavesControls ⟦<TakenControl as Defined>⟧.loan ⟦<TakenWindow as Defined>⟧.loan
-            (IsWhereRight (IsControlStep (asks.SetMaximum set) result)) windows.old o self.old windows.new o self.new }
-    {
-        let spot = self.spot(windows, set.control)?;
-        let mut state = self.state(spot.control);
-        state.values.set_maximum(set.number)?;
+        which.set_in(&mut state.values, set.number)?;
         self.put(windows, spot, state);
         Ok(ControlReply::Done)
     }
@@ -160,10 +143,9 @@ impl Controls<TakenControl> {
         windows: &mut WindowManager,
         set: ControlNumber,
     ) -> Result<ControlReply, Refusal>
-        requires kept { IsKept ⟦<TakenWindow as Defined>⟧.loan windows.old }
-        requires beside { AreBeside ⟦<TakenControl as Defined>⟧.loan ⟦<TakenWindow as Defined>⟧.loan windows.old
-            self.old }
-        ensures { (o : Opened) → LeavesControls ⟦<TakenControl as Defined>⟧.loan ⟦<TakenWindow as Defined>⟧.loan
+        requires kept { ⟦<WindowManager as DeskWindows>⟧.IsKept windows.old }
+        requires beside { ⟦<Self as DeskControls>⟧.AreBeside windows.old self.old }
+        ensures { (o : Opened) → ⟦<Self as DeskControls>⟧.Leaves
             (IsWhereRight (IsControlStep (asks.Hilite set) result)) windows.old o self.old windows.new o self.new }
     {
         let spot = self.spot(windows, set.control)?;
@@ -179,10 +161,9 @@ impl Controls<TakenControl> {
         windows: &mut WindowManager,
         set: &ControlTitle<'_>,
     ) -> Result<ControlReply, Refusal>
-        requires kept { IsKept ⟦<TakenWindow as Defined>⟧.loan windows.old }
-        requires beside { AreBeside ⟦<TakenControl as Defined>⟧.loan ⟦<TakenWindow as Defined>⟧.loan windows.old
-            self.old }
-        ensures { (o : Opened) → LeavesControls ⟦<TakenControl as Defined>⟧.loan ⟦<TakenWindow as Defined>⟧.loan
+        requires kept { ⟦<WindowManager as DeskWindows>⟧.IsKept windows.old }
+        requires beside { ⟦<Self as DeskControls>⟧.AreBeside windows.old self.old }
+        ensures { (o : Opened) → ⟦<Self as DeskControls>⟧.Leaves
             (IsWhereRight (IsControlStep (asks.SetTitle set.now) result)) windows.old o self.old windows.new o
             self.new }
     {

@@ -1,18 +1,16 @@
 //! Where a control stands, or another item of a window.
 ghost use Rattle.std.specs.Prelude.{◌≡◌, [], Some, MatchResult};
 ghost use Rattle.tb_geom.specs.Refusals.{first_refusal};
-ghost use Rattle.window_mgr.specs.Records.{desk_of};
 ghost use Rattle.control_mgr.specs.ControlRefusals.{missing_refusals};
 ghost use Rattle.control_mgr.specs.ItemSpots.{IsItemAt, item_refusals};
 ghost use Rattle.control_mgr.specs.Spots.{IsSpotOf};
-ghost use Rattle.control_mgr.specs.WholeControls.{records_of};
 
-use crate::Controls;
+use crate::{Controls, ControlsOnStock};
 use def_iface::{Defined, TakenControl, TakenWindow};
 use desk_call::ControlOf;
 use tb_geom::Refusal;
 use window_items::Items;
-use window_mgr::WindowManager;
+use window_mgr::{DeskWindows, WindowManager};
 
 /// Where an item of a window, as a control or a list of it, stands among the items of all windows, and its window, counted from
 /// the front.
@@ -34,7 +32,7 @@ pub fn spot_of<T>(
     ensures { MatchResult result
         (λ spot. IsItemAt ⟦<TakenWindow as Defined>⟧.loan window serial windows.now items.now.items.items spot)
         (λ e. first_refusal (item_refusals window serial missing
-        (desk_of ⟦<TakenWindow as Defined>⟧.loan windows.now []) items.now.items.items) ≡ Some e) }
+        (⟦<WindowManager as DeskWindows>⟧.desk windows.now []) items.now.items.items) ≡ Some e) }
 {
     let Some(at) = windows.find(window) else {
         return Err(Refusal::NoSuchWindow);
@@ -59,8 +57,8 @@ impl Controls<TakenControl> {
         windows: &WindowManager,
         control: ControlOf,
     ) -> Result<ControlAt, Refusal>
-        ensures { let refusals = missing_refusals control (desk_of ⟦<TakenWindow as Defined>⟧.loan windows.now [])
-            (records_of ⟦<TakenControl as Defined>⟧.loan self.now) in
+        ensures { let refusals = missing_refusals control (⟦<WindowManager as DeskWindows>⟧.desk windows.now [])
+            (⟦<Self as ControlsOnStock>⟧.records self.now) in
             MatchResult result
             (λ spot. IsSpotOf ⟦<TakenWindow as Defined>⟧.loan ⟦<TakenControl as Defined>⟧.loan control windows.now
             self.now spot)

@@ -1,12 +1,11 @@
 //! A control's definition, told of its control.
-ghost use Rattle.std.specs.Prelude.{◌≡◌, ◌<◌, true, length, slice_get, IfSome, vec_capacity};
+ghost use Rattle.std.specs.Prelude.{◌≡◌, ◌<◌, length, slice_get, IfSome};
 ghost use Rattle.control_mgr.specs.ControlSteps.{IsChangedAt};
 ghost use Rattle.control_mgr.specs.Damages.{IsDamageAt};
 ghost use Rattle.control_mgr.specs.Spots.{IsTellable};
-ghost use Rattle.control_mgr.specs.WholeControls.{records_of};
 
-use crate::Controls;
-use def_iface::{ControlChange, Defined, TakenControl};
+use crate::{Controls, ControlsOnStock};
+use def_iface::{ControlChange, TakenControl};
 use draw_port::placed_within;
 use tb_geom::Rect;
 
@@ -15,11 +14,11 @@ impl Controls<TakenControl> {
     /// control's window: of the pixels outside of it the control shows what it showed.
     pub(crate) fn tell(&mut self, at: usize) -> Rect
         requires at { at < length self.old.list.items.items }
-        requires tellable { IfSome (slice_get (records_of ⟦<TakenControl as Defined>⟧.loan self.old) at) IsTellable }
-        ensures told { IsChangedAt (λ c. c) at (records_of ⟦<TakenControl as Defined>⟧.loan self.old)
-            (records_of ⟦<TakenControl as Defined>⟧.loan self.new) }
-        ensures damage { IsDamageAt result at (records_of ⟦<TakenControl as Defined>⟧.loan self.old)
-            (records_of ⟦<TakenControl as Defined>⟧.loan self.new) }
+        requires tellable { IfSome (slice_get (⟦<Self as ControlsOnStock>⟧.records self.old) at) IsTellable }
+        ensures told { IsChangedAt (λ c. c) at (⟦<Self as ControlsOnStock>⟧.records self.old)
+            (⟦<Self as ControlsOnStock>⟧.records self.new) }
+        ensures damage { IsDamageAt result at (⟦<Self as ControlsOnStock>⟧.records self.old)
+            (⟦<Self as ControlsOnStock>⟧.records self.new) }
         ensures next { self.new.list.next ≡ self.old.list.next }
         ensures alloc { self.new.alloc ≡ self.old.alloc }
     {

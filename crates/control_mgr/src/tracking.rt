@@ -1,31 +1,29 @@
 //! The tracking of a control's part.
-ghost use Rattle.std.specs.Prelude.{◌≡◌, ◌<◌, [], Some, true, length, slice_get, IfSome};
+ghost use Rattle.std.specs.Prelude.{◌≡◌, ◌<◌, Some, true, length, slice_get, IfSome};
 ghost use Rattle.tb_geom.specs.Points.{PixelSet};
 ghost use Rattle.tb_geom.specs.Rects.{in_plane};
 ghost use Rattle.desk_call.specs.declared.activity.Activity.TheVariants.{Idle, TrackingControl};
 ghost use Rattle.desk_call.specs.declared.control.ControlOf.{ControlOf as Named};
 ghost use Rattle.desk_call.specs.declared.control.ControlCall.TheVariants as asks;
-ghost use Rattle.window_mgr.specs.Kept.{IsKept};
 ghost use Rattle.window_mgr.specs.DeskStates.{Opened};
 ghost use Rattle.control_mgr.specs.Fields.{with_highlight};
-ghost use Rattle.control_mgr.specs.Seen.{seen};
 ghost use Rattle.control_mgr.specs.ControlDesks.{index_of};
 ghost use Rattle.control_mgr.specs.ControlSteps.{IsControlStep, IsHighlighted, dragged, highlight_after, highlight_of};
 ghost use Rattle.control_mgr.specs.ControlSteps.{is_part, is_thumb, released_setting, tracked_part};
 ghost use Rattle.control_mgr.specs.Damages.{IsPut, IsWhereRight};
 ghost use Rattle.control_mgr.specs.Spots.{IsSpot, IsSpotOf, opened};
 ghost use Rattle.control_mgr.specs.Settled.{AreSettled};
-ghost use Rattle.control_mgr.specs.WholeControls.{AreBeside, IsTrackable, LeavesControls, records_of};
+ghost use Rattle.control_mgr.specs.WholeControls.{IsTrackable};
 
-use crate::Controls;
 use crate::asking::{is_within, part_tested};
 use crate::spots::ControlAt;
+use crate::{Controls, ControlsOnStock, DeskControls};
 use control_values::{ControlPart, ControlValues, Highlight};
 use def_iface::{Defined, TakenControl, TakenWindow};
 use desk_call::{Activity, ControlReply, PointAtControl, TrackedControl};
 use tb_geom::{Point, Refusal};
 use window_list::local;
-use window_mgr::WindowManager;
+use window_mgr::{DeskWindows, WindowManager};
 
 /// So far outside of a control's rectangle its thumb may be dragged.
 const SLOP: u8 = 16;
@@ -74,10 +72,9 @@ impl Controls<TakenControl> {
     /// The part that is tracked, where the point lies in it.
     fn tracked_part(&self, at: usize, tracked: TrackedControl, point: Point) -> Option<ControlPart>
         requires at { at < length self.now.list.items.items }
-        requires settled { AreSettled (records_of ⟦<TakenControl as Defined>⟧.loan self.now) }
+        requires settled { AreSettled (⟦<Self as ControlsOnStock>⟧.records self.now) }
         requires point { in_plane point ≡ true }
-        ensures { result ≡ tracked_part tracked (slice_get (records_of ⟦<TakenControl as Defined>⟧.loan self.now) at)
-            point }
+        ensures { result ≡ tracked_part tracked (slice_get (⟦<Self as ControlsOnStock>⟧.records self.now) at) point }
     {
         let control = &self.list.items[at];
         let inside = if is_thumb(tracked.part) {
@@ -91,10 +88,10 @@ impl Controls<TakenControl> {
     /// The setting of a control whose thumb was dragged so far.
     fn dragged(&self, at: usize, tracked: TrackedControl, point: Point) -> ControlValues
         requires at { at < length self.now.list.items.items }
-        requires settled { AreSettled (records_of ⟦<TakenControl as Defined>⟧.loan self.now) }
+        requires settled { AreSettled (⟦<Self as ControlsOnStock>⟧.records self.now) }
         requires from { in_plane tracked.from ≡ true }
         requires point { in_plane point ≡ true }
-        ensures { IfSome (slice_get (records_of ⟦<TakenControl as Defined>⟧.loan self.now) at)
+        ensures { IfSome (slice_get (⟦<Self as ControlsOnStock>⟧.records self.now) at)
             (λ c. result ≡ dragged tracked point c) }
     {
         let control = &self.list.items[at];
@@ -116,10 +113,10 @@ impl Controls<TakenControl> {
         part: Option<ControlPart>,
     ) -> ControlValues
         requires at { at < length self.now.list.items.items }
-        requires settled { AreSettled (records_of ⟦<TakenControl as Defined>⟧.loan self.now) }
+        requires settled { AreSettled (⟦<Self as ControlsOnStock>⟧.records self.now) }
         requires from { in_plane tracked.from ≡ true }
         requires point { in_plane point ≡ true }
-        ensures { IfSome (slice_get (records_of ⟦<TakenControl as Defined>⟧.loan self.now) at)
+        ensures { IfSome (slice_get (⟦<Self as ControlsOnStock>⟧.records self.now) at)
             (λ c. result ≡ released_setting tracked point part c) }
     {
         if is_thumb(tracked.part) && part.is_some() {
@@ -130,14 +127,13 @@ impl Controls<TakenControl> {
 
     /// Highlights a control, and draws it within the damage where it is not to be redrawn.
     fn highlight(&mut self, windows: &mut WindowManager, spot: ControlAt, highlight: Highlight)
-        requires kept { IsKept ⟦<TakenWindow as Defined>⟧.loan windows.old }
-        requires beside { AreBeside ⟦<TakenControl as Defined>⟧.loan ⟦<TakenWindow as Defined>⟧.loan windows.old
-            self.old }
+        requires kept { ⟦<WindowManager as DeskWindows>⟧.IsKept windows.old }
+        requires beside { ⟦<Self as DeskControls>⟧.AreBeside windows.old self.old }
         requires spot { IsSpot ⟦<TakenWindow as Defined>⟧.loan ⟦<TakenControl as Defined>⟧.loan windows.old self.old
             spot }
         ensures { (c : Named) → IsSpotOf ⟦<TakenWindow as Defined>⟧.loan ⟦<TakenControl as Defined>⟧.loan c windows.old
             self.old spot
-            → (o u : Opened) → LeavesControls ⟦<TakenControl as Defined>⟧.loan ⟦<TakenWindow as Defined>⟧.loan
+            → (o u : Opened) → ⟦<Self as DeskControls>⟧.Leaves
             (IsPut c (with_highlight highlight)) windows.old o self.old windows.new u self.new }
     {
         let mut state = self.state(spot.control);
@@ -153,18 +149,17 @@ impl Controls<TakenControl> {
         tracked: ControlPart,
         highlight: Highlight,
     )
-        requires kept { IsKept ⟦<TakenWindow as Defined>⟧.loan windows.old }
-        requires beside { AreBeside ⟦<TakenControl as Defined>⟧.loan ⟦<TakenWindow as Defined>⟧.loan windows.old
-            self.old }
+        requires kept { ⟦<WindowManager as DeskWindows>⟧.IsKept windows.old }
+        requires beside { ⟦<Self as DeskControls>⟧.AreBeside windows.old self.old }
         requires spot { IsSpot ⟦<TakenWindow as Defined>⟧.loan ⟦<TakenControl as Defined>⟧.loan windows.old self.old
             spot }
         ensures shown { (c : Named) → IsSpotOf ⟦<TakenWindow as Defined>⟧.loan ⟦<TakenControl as Defined>⟧.loan c
             windows.old self.old spot
-            → (o u : Opened) → LeavesControls ⟦<TakenControl as Defined>⟧.loan ⟦<TakenWindow as Defined>⟧.loan
+            → (o u : Opened) → ⟦<Self as DeskControls>⟧.Leaves
             (IsWhereRight (IsHighlighted (is_thumb tracked) c highlight)) windows.old o self.old windows.new u
             self.new }
-        ensures there { (c : Named) → index_of c (records_of ⟦<TakenControl as Defined>⟧.loan self.new)
-            ≡ index_of c (records_of ⟦<TakenControl as Defined>⟧.loan self.old) }
+        ensures there { (c : Named) → index_of c (⟦<Self as ControlsOnStock>⟧.records self.new)
+            ≡ index_of c (⟦<Self as ControlsOnStock>⟧.records self.old) }
     {
         if is_thumb(tracked) {
             return;
@@ -179,15 +174,13 @@ impl Controls<TakenControl> {
         activity: &mut Activity,
         pressed: PointAtControl,
     ) -> Result<ControlReply, Refusal>
-        requires kept { IsKept ⟦<TakenWindow as Defined>⟧.loan windows.old }
-        requires beside { AreBeside ⟦<TakenControl as Defined>⟧.loan ⟦<TakenWindow as Defined>⟧.loan windows.old
-            self.old }
+        requires kept { ⟦<WindowManager as DeskWindows>⟧.IsKept windows.old }
+        requires beside { ⟦<Self as DeskControls>⟧.AreBeside windows.old self.old }
         requires idle { activity.old ≡ Idle }
-        ensures step { (begun : PixelSet) → LeavesControls ⟦<TakenControl as Defined>⟧.loan
-            ⟦<TakenWindow as Defined>⟧.loan
+        ensures step { (begun : PixelSet) → ⟦<Self as DeskControls>⟧.Leaves
             (IsWhereRight (IsControlStep (asks.Track pressed) result))
             windows.old (opened activity.old begun) self.old windows.new (opened activity.new begun) self.new }
-        ensures trackable { IsTrackable activity.new (records_of ⟦<TakenControl as Defined>⟧.loan self.new) }
+        ensures trackable { IsTrackable activity.new (⟦<Self as ControlsOnStock>⟧.records self.new) }
     {
         let spot = self.spot(windows, pressed.control)?;
         if !pressed.point.is_in_range() {
@@ -214,18 +207,14 @@ impl Controls<TakenControl> {
         tracked: TrackedControl,
         point: Point,
     ) -> Result<ControlReply, Refusal>
-        requires kept { IsKept ⟦<TakenWindow as Defined>⟧.loan windows.old }
-        requires beside { AreBeside ⟦<TakenControl as Defined>⟧.loan ⟦<TakenWindow as Defined>⟧.loan windows.old
-            self.old }
-        requires trackable { IsTrackable (TrackingControl tracked)
-            (records_of ⟦<TakenControl as Defined>⟧.loan self.old) }
-        ensures step { (begun : PixelSet) → LeavesControls ⟦<TakenControl as Defined>⟧.loan
-            ⟦<TakenWindow as Defined>⟧.loan
+        requires kept { ⟦<WindowManager as DeskWindows>⟧.IsKept windows.old }
+        requires beside { ⟦<Self as DeskControls>⟧.AreBeside windows.old self.old }
+        requires trackable { IsTrackable (TrackingControl tracked) (⟦<Self as ControlsOnStock>⟧.records self.old) }
+        ensures step { (begun : PixelSet) → ⟦<Self as DeskControls>⟧.Leaves
             (IsWhereRight (IsControlStep (asks.Step point) result))
             windows.old (opened (TrackingControl tracked) begun) self.old windows.new
             (opened (TrackingControl tracked) begun) self.new }
-        ensures trackable { IsTrackable (TrackingControl tracked)
-            (records_of ⟦<TakenControl as Defined>⟧.loan self.new) }
+        ensures trackable { IsTrackable (TrackingControl tracked) (⟦<Self as ControlsOnStock>⟧.records self.new) }
     {
         if !point.is_in_range() {
             return Err(Refusal::OutOfRange);
@@ -244,17 +233,14 @@ impl Controls<TakenControl> {
         tracked: TrackedControl,
         point: Point,
     ) -> Result<ControlReply, Refusal>
-        requires kept { IsKept ⟦<TakenWindow as Defined>⟧.loan windows.old }
-        requires beside { AreBeside ⟦<TakenControl as Defined>⟧.loan ⟦<TakenWindow as Defined>⟧.loan windows.old
-            self.old }
+        requires kept { ⟦<WindowManager as DeskWindows>⟧.IsKept windows.old }
+        requires beside { ⟦<Self as DeskControls>⟧.AreBeside windows.old self.old }
         requires tracking { activity.old ≡ TrackingControl tracked }
-        requires trackable { IsTrackable (TrackingControl tracked)
-            (records_of ⟦<TakenControl as Defined>⟧.loan self.old) }
-        ensures step { (begun : PixelSet) → LeavesControls ⟦<TakenControl as Defined>⟧.loan
-            ⟦<TakenWindow as Defined>⟧.loan
+        requires trackable { IsTrackable (TrackingControl tracked) (⟦<Self as ControlsOnStock>⟧.records self.old) }
+        ensures step { (begun : PixelSet) → ⟦<Self as DeskControls>⟧.Leaves
             (IsWhereRight (IsControlStep (asks.End point) result))
             windows.old (opened activity.old begun) self.old windows.new (opened activity.new begun) self.new }
-        ensures trackable { IsTrackable activity.new (records_of ⟦<TakenControl as Defined>⟧.loan self.new) }
+        ensures trackable { IsTrackable activity.new (⟦<Self as ControlsOnStock>⟧.records self.new) }
     {
         if !point.is_in_range() {
             return Err(Refusal::OutOfRange);

@@ -82,7 +82,7 @@ impl TakenWindow {
         self.definition.regions_for(alloc, size)
     }
 
-    /// The lines of the grey outline that stands for a window of this size, local to the window: at most eight with pixels,
+    /// The lines of the gray outline that stands for a window of this size, local to the window: at most eight with pixels,
     /// of which no two share one.
     pub fn grow_lines(&self, size: Size) -> [Rect; 8]
         requires { is_size size ≡ true }

@@ -120,7 +120,7 @@ pub trait WindowDef: Drop {
         ensures none { is_empty_rect result ≡ true → result ≡ empty_rect }
         ensures content { IsWithin ((meaning self.now).content size) ((meaning self.now).structure size) };
 
-    /// The lines of the grey outline that stands for a window of this size while it is chosen (the message wGrow): their
+    /// The lines of the gray outline that stands for a window of this size while it is chosen (the message wGrow): their
     /// pixels are the outline's, and no two of them share one. Lines that are not needed are empty. It takes no memory.
     fn grow_lines(&self, size: Size) -> [Rect; 8]
         requires { is_size size ≡ true }

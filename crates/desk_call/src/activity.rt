@@ -1,12 +1,8 @@
 //! Which calls may come while something is open.
 ghost use Rattle.std.specs.Prelude.{◌≡◌, None, MatchResult, Some};
-ghost use Rattle.desk_call.specs.Gates.{gate, standing_of, window_standing, update_standing, frame_standing};
-ghost use Rattle.desk_call.specs.Gates.{menu_standing, control_standing, list_standing, outline_standing};
+ghost use Rattle.desk_call.specs.Gates.{gate};
 
-use crate::{
-    Call, ControlCall, ControlOf, FrameCall, ListCall, MenuCall, OutlineCall, SizeLimits,
-    UpdateCall, WindowCall,
-};
+use crate::{ControlOf, SizeLimits};
 use control_values::ControlPart;
 use def_iface::Size;
 use tb_geom::{Point, Rect, Refusal};
@@ -112,114 +108,6 @@ impl Activity {
             (Activity::Dragging(_), Standing::Drags) => Ok(()),
             (Activity::Growing(_), Standing::Grows) => Ok(()),
             _ => Err(Refusal::NotBusy),
-        }
-    }
-}
-
-impl Call<'_> {
-    /// When the call may come.
-    pub fn standing(&self) -> Standing
-        ensures { result ≡ standing_of self.now }
-    {
-        match self {
-            Call::Window(call) => call.standing(),
-            Call::Update(call) => call.standing(),
-            Call::Frame(call) => call.standing(),
-            Call::Control(call) => call.standing(),
-            Call::List(call) => call.standing(),
-            Call::Menu(call) => call.standing(),
-            Call::Outline(call) => call.standing(),
-            Call::Event(_) => Standing::Asks,
-        }
-    }
-}
-
-impl WindowCall<'_> {
-    /// When the call may come.
-    pub fn standing(&self) -> Standing
-        ensures { result ≡ window_standing self.now }
-    {
-        match self {
-            WindowCall::Find(_) | WindowCall::Front | WindowCall::Info(_) => Standing::Asks,
-            WindowCall::VisibleRegion(_) | WindowCall::UpdateRegion(_) => Standing::Asks,
-            _ => Standing::Changes,
-        }
-    }
-}
-
-impl UpdateCall<'_> {
-    /// When the call may come.
-    pub fn standing(&self) -> Standing
-        ensures { result ≡ update_standing self.now }
-    {
-        match self {
-            UpdateCall::Draw(draw) => Standing::Updates(draw.window),
-            UpdateCall::End(window) => Standing::Updates(*window),
-            _ => Standing::Changes,
-        }
-    }
-}
-
-impl FrameCall<'_> {
-    /// When the call may come.
-    pub fn standing(&self) -> Standing
-        ensures { result ≡ frame_standing self.now }
-    {
-        match self {
-            FrameCall::StepGoAway(_) | FrameCall::EndGoAway(_) => Standing::Tracks,
-            _ => Standing::Changes,
-        }
-    }
-}
-
-impl MenuCall<'_> {
-    /// When the call may come.
-    pub fn standing(&self) -> Standing
-        ensures { result ≡ menu_standing self.now }
-    {
-        match self {
-            MenuCall::Move(_) | MenuCall::Up(_) => Standing::Pulls,
-            _ => Standing::Changes,
-        }
-    }
-}
-
-impl ControlCall<'_> {
-    /// When the call may come.
-    pub fn standing(&self) -> Standing
-        ensures { result ≡ control_standing self.now }
-    {
-        match self {
-            ControlCall::Get(_) | ControlCall::Find(_) | ControlCall::Test(_) => Standing::Asks,
-            ControlCall::Step(_) | ControlCall::End(_) => Standing::TracksControl,
-            _ => Standing::Changes,
-        }
-    }
-}
-
-impl ListCall<'_> {
-    /// When the call may come.
-    pub fn standing(&self) -> Standing
-        ensures { result ≡ list_standing self.now }
-    {
-        match self {
-            ListCall::GetCell(_) | ListCall::IsSelected(_) => Standing::Asks,
-            ListCall::FirstSelected(_) | ListCall::NextCell(_) => Standing::Asks,
-            ListCall::Search(_) => Standing::Asks,
-            _ => Standing::Changes,
-        }
-    }
-}
-
-impl OutlineCall {
-    /// When the call may come.
-    pub fn standing(&self) -> Standing
-        ensures { result ≡ outline_standing self.now }
-    {
-        match self {
-            OutlineCall::StepDrag(_) | OutlineCall::EndDrag(_) => Standing::Drags,
-            OutlineCall::StepGrow(_) | OutlineCall::EndGrow(_) => Standing::Grows,
-            _ => Standing::Changes,
         }
     }
 }

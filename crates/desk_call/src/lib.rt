@@ -12,6 +12,7 @@ mod event;
 mod frame;
 mod list;
 mod menu;
+mod nature;
 mod outline;
 mod update;
 mod window;
@@ -31,6 +32,7 @@ pub use list::{
 pub use menu::{
     AppendItems, CheckItem, Choice, InsertMenu, ItemOfMenu, ItemText, MenuCall, MenuReply, NewMenu,
 };
+pub use nature::{Asked, Nature};
 pub use outline::{DragWindow, GrowWindow, OutlineCall, OutlineReply, SizeLimits};
 pub use update::{AreaRef, LayerDraw, LayerKind, UpdateCall, WindowArea};
 pub use window::{

@@ -10,7 +10,7 @@ use Rattle.looks.specs.declared.lettered.Lettered.{Lettered}
 use Rattle.looks.specs.declared.pen.Baseline.TheVariants.{At as AtRow}
 use Rattle.looks.specs.declared.step.Step.{Step}
 use Rattle.looks.specs.Lettered.{lettered_value}
-use Rattle.looks.specs.Marks.{box, greyed, inverted, text_at, when}
+use Rattle.looks.specs.Marks.{box, grayed, inverted, text_at, when}
 use Rattle.desk_ground.specs.declared.bar.TitleHit.{TitleHit}
 use Rattle.desk_ground.specs.declared.titles.BarTitle.{BarTitle}
 
@@ -34,12 +34,12 @@ text_in_bar column = text_at bar_box (pos column) (AtRow (pos 14))
 abbrev pub lettered : List ℕ → Step → Lettered
 lettered text step = record { text = text; step = step }
 
--- a title that begins at a column: its text, 8 columns further, grey where its menu is not enabled, inverted where it is
+-- a title that begins at a column: its text, 8 columns further, gray where its menu is not enabled, inverted where it is
 -- highlighted
 abbrev pub title_steps : ℕ → ℕ → BarTitle → List Lettered
 title_steps left width t =
     lettered t.text (text_in_bar (left + 8))
-    ∷ lettered [] (when (not t.enabled) (greyed (title_box left width)))
+    ∷ lettered [] (when (not t.enabled) (grayed (title_box left width)))
     ∷ lettered [] (when t.highlighted (inverted (title_box left width))) ∷ []
 
 -- what the titles from a column on make of the bit d, one after another

@@ -60,7 +60,7 @@ fn title_steps<'a>(left: u32, width: u32, title: &'a BarTitle) -> [Lettered<'a>;
     let area = title_box(left, width);
     [
         lettered(title.text.as_slice(), text_in_bar(left + 8)),
-        lettered(b"", Step::greyed(area).when(!title.enabled)),
+        lettered(b"", Step::grayed(area).when(!title.enabled)),
         lettered(b"", Step::inverted(area).when(title.highlighted)),
     ]
 }

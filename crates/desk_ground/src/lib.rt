@@ -5,7 +5,7 @@
 //!
 //! The menu bar has the titles of the menus that are inserted. It is the screen's top rows, white, the last of them black. Over
 //! that its titles are drawn from left to right, each finished before the next: its text in black, cut to the bar; its box
-//! grey, where the menu is not enabled; and its box inverted, where it is highlighted. A title's box ends above the last row.
+//! gray, where the menu is not enabled; and its box inverted, where it is highlighted. A title's box ends above the last row.
 //! Points, columns and patterns are those of the screen.
 //!
 //! Titles lie in place. Only `empty_ground` takes memory.

@@ -11,6 +11,7 @@ pub mod GivenBars
 pub mod Consistent
 pub mod Histories
 pub mod ClassLaws
+pub mod OneClass
 pub mod Shown
 pub mod FrontLaws
 pub mod FindLaws
@@ -20,3 +21,16 @@ pub mod OutlineLaws
 pub mod OpenUpdates
 pub mod ServedRuns
 pub mod RegionLaws
+pub mod KeptValues
+pub mod JoinedChanges
+pub mod MeantPixels
+pub mod PartsThere
+pub mod WindowChanges
+pub mod ManagerChanges
+pub mod ListChanges
+pub mod MadeLists
+pub mod GoneParts
+pub mod GoneLists
+pub mod HiddenControls
+pub mod EachChange
+pub mod HeadlineLaws

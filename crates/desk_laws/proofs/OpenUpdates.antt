@@ -43,9 +43,9 @@ use Rattle.desk_call.specs.declared.outline.OutlineCall.{OutlineCall}
 use Rattle.desk_call.specs.declared.outline.OutlineCall.TheVariants.{Drag, StepDrag, EndDrag, Grow, StepGrow, EndGrow}
 use Rattle.desk_call.specs.Gates.{outline_standing}
 use Rattle.desk_toolbox.proofs.ListStands.{list_comes_then}
-use Rattle.desk_toolbox.proofs.MenusBeside.{asked_changes_nothing}
+use Rattle.desk_toolbox.proofs.AskingCalls.{asked_changes_nothing, window_asks}
 use Rattle.desk_toolbox.proofs.TrackedControls.{AtMostControl, comes_then}
-use Rattle.desk_toolbox.proofs.UpdatesBeside.{frame_comes_apart, menu_comes_apart, window_asks_then}
+use Rattle.desk_toolbox.proofs.UpdatesBeside.{frame_comes_apart, menu_comes_apart}
 
 -- the kinds of layers that were drawn, once this call was answered so
 abbrev pub with_drawn : Call → Result Reply Refusal → List LayerKind → List LayerKind
@@ -137,7 +137,7 @@ module _ (s : ℕ) where
 
   window_goes_on : (call : WindowCall) (answer : Result WindowReply Refusal) (before after : ToolboxState) → gate before.desk.activity (window_standing call) ≡ None → IsWindowMade call answer before after → before.desk.activity ≡ Updating s → GoesOn (Window call) (replied reply.Window answer) before after
   window_goes_on call answer before after may step opened =
-      let asks_only = window_asks_then call s (may_then before.desk.activity (window_standing call) opened may) in
+      let asks_only = window_asks call (Updating s) refl (may_then before.desk.activity (window_standing call) opened may) in
       let same = made_stays_open call answer before after step in
       record {
         activity = same.activity ∙ opened;

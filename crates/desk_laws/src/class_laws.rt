@@ -1,17 +1,19 @@
 //! What holds of windows that float, and of which window is active, in each state that a desk reaches.
-ghost use Rattle.std.specs.Prelude.{◌≡◌, ◌≢◌, ℕ, Bool, true, List, map, Some, All, Result};
+ghost use Rattle.std.specs.Prelude.{◌≡◌, ◌≢◌, ◌∷◌, ◌++◌, [], ℕ, Bool, true, List, map, Some, All, Result};
 ghost use Rattle.std.specs.List.{find};
 ghost use Rattle.std.specs.Option.{option_map};
 ghost use Rattle.tb_geom.specs.declared.refusal.Refusal.{Refusal};
 ghost use Rattle.desk_call.specs.declared.call.Call.{Call};
 ghost use Rattle.desk_call.specs.declared.call.Reply.{Reply};
-ghost use Rattle.vis_update.specs.Records.{WindowRecord};
+ghost use Rattle.window_list.specs.Classes.{put_back, put_front};
+ghost use Rattle.vis_update.specs.Records.{WindowRecord, is_floating};
 ghost use Rattle.window_mgr.specs.Finding.{front_of, is_leading};
 ghost use Rattle.desk_toolbox.specs.Activations.{IsNeverDisposed, activate_event_told};
 ghost use Rattle.desk_toolbox.specs.Classes.{AreClassed, IsOfClass};
 ghost use Rattle.desk_toolbox.specs.Reached.{IsConsistent};
 ghost use Rattle.desk_toolbox.specs.Run.{IsRunOfCalls, IsStep};
 ghost use Rattle.desk_toolbox.specs.ToolboxStates.{ToolboxState};
+ghost use Rattle.desk_laws.specs.OneClass.{AreOrdinary};
 
 /// The window that FrontWindow answers is the first ordinary one of the list that is visible.
 #[tactic(auto, using(crate::proofs::Sayings::front_is_first))]
@@ -52,4 +54,16 @@ pub fn a_class_is_for_good()
         → IsConsistent first → IsRunOfCalls first calls answers last → IsNeverDisposed window calls answers
         → IsOfClass floating window first.desk.windows.desk.windows
         → IsOfClass floating window last.desk.windows.desk.windows }
+{}
+
+/// Where no window floats there is one class: a window that is brought to the front of its class stands in front of all, one that
+/// is sent to its back behind all, and the first visible one is that which FrontWindow answers and which becomes active.
+#[tactic(auto, using(crate::proofs::OneClass::front_is_all, crate::proofs::OneClass::back_is_all, crate::proofs::OneClass::first_shown))]
+pub fn without_floating_windows_there_is_one_class()
+    ensures front { (window : WindowRecord) (windows : List WindowRecord) → AreOrdinary (window ∷ windows)
+        → put_front is_floating window windows ≡ window ∷ windows }
+    ensures back { (window : WindowRecord) (windows : List WindowRecord) → AreOrdinary (window ∷ windows)
+        → put_back is_floating window windows ≡ windows ++ window ∷ [] }
+    ensures first { (windows : List WindowRecord) → AreOrdinary windows
+        → front_of windows ≡ option_map (λ w. w.serial) (find (λ w. w.shown) windows) }
 {}

@@ -44,7 +44,7 @@ right_bare shows s none right = record {
     same = ap (map (layered_window (look_of s.desk))) none ∙ sym (ap (map (layered_window (look_of now))) none)
 
 module _ {V : Type 0} {H : V → Type 0} (loan : TakenBox V H → WindowLoan) {W : Type 0} {K : W → Type 0} (menu_loan : TakenBox W K → MenuLoan) {U : Type 0} {J : U → Type 0} (control_loan : TakenBox U J → ControlLoan) {X : Type 0} {L : X → Type 0} (list_loan : TakenBox X L → ListLoan) (width height bar : ℤ) (font : List ℕ) where
-  has_just_begun : (t : Toolbox V U W X H J K L) (stocks : AllSlots) → AreAllFull stocks → IsEmptyDesk loan width height bar font t.windows stocks.windows → t.activity ≡ Idle → t.events ≡ first_events → AreNoMenus width height t.menus
+  has_just_begun : (t : Toolbox V U W X H J K L) (stocks : AllSlots) → AreAllFull stocks → IsEmptyDesk loan width height bar font t.windows stocks.windows → t.activity ≡ Idle → t.events ≡ first_events → AreNoMenus t.menus
       → t.controls.list.items.items ≡ [] → t.controls.list.next ≡ Some 1 → t.lists.list.items.items ≡ [] → t.lists.list.next ≡ Some 1 → IsJustBegun (toolbox_state loan menu_loan control_loan list_loan t stocks)
   has_just_begun t stocks full empty idle events none bare next no_lists next_list =
       let windows = ap (λ (d : FullDesk). d.windows) empty.desk in
@@ -70,8 +70,8 @@ module _ {V : Type 0} {H : V → Type 0} (loan : TakenBox V H → WindowLoan) {W
 
   pub begins : {E : Type 0} (events : Events) (menus : Menus W K) (r : Result (Toolbox V U W X H J K L) E) → IfOk r (λ t. (slots : List WindowSlot) → All IsFull slots → IsEmptyDesk loan width height bar font t.windows slots)
       → IfOk r (λ t. t.activity ≡ Idle) → IfOk r (λ t. t.events ≡ events) → IfOk r (λ t. t.menus ≡ menus) → IfOk r (λ t. (t.controls.list.items.items ≡ []) × (t.controls.list.next ≡ Some 1))
-      → IfOk r (λ t. (t.lists.list.items.items ≡ []) × (t.lists.list.next ≡ Some 1)) → events ≡ first_events → AreNoMenus width height menus
+      → IfOk r (λ t. (t.lists.list.items.items ≡ []) × (t.lists.list.next ≡ Some 1)) → events ≡ first_events → AreNoMenus menus
       → IfOk r (λ t. (stocks : AllSlots) → AreAllFull stocks → IsJustBegun (toolbox_state loan menu_loan control_loan list_loan t stocks))
   begins events menus (Ok t) empty idle kept same bare bare_lists are_first none = λ stocks full.
-      has_just_begun t stocks full (empty stocks.windows full.windows) idle (kept ∙ are_first) (subst (λ m. AreNoMenus width height m) (sym same) none) bare.0 bare.1 bare_lists.0 bare_lists.1
+      has_just_begun t stocks full (empty stocks.windows full.windows) idle (kept ∙ are_first) (subst AreNoMenus (sym same) none) bare.0 bare.1 bare_lists.0 bare_lists.1
   begins events menus (Err e) empty idle kept same bare bare_lists are_first none = tt

@@ -13,6 +13,7 @@ use Rattle.desk_call.specs.declared.activity.Activity.{Activity}
 use Rattle.desk_call.specs.declared.control.ControlCall.{ControlCall}
 use Rattle.desk_call.specs.declared.control.ControlReply.{ControlReply}
 use Rattle.desk_call.specs.Gates.{control_standing, gate}
+use Rattle.overlay.specs.declared.overlay.Overlay.{Overlay}
 use Rattle.window_mgr.specs.declared.manager.WindowManager.{WindowManager}
 use Rattle.window_mgr.specs.DeskStates.{Opened}
 use Rattle.window_mgr.specs.Effects.{IsUnchanged}
@@ -33,7 +34,7 @@ use Rattle.list_mgr.specs.WholeLists.{AreWholeLists}
 use Rattle.list_mgr.proofs.ListsWhole.{whole_behind}
 use Rattle.menu_mgr.specs.declared.menus.Menus.{Menus}
 use Rattle.menu_mgr.specs.MenuDesks.{MenuSlot}
-use Rattle.menu_mgr.specs.WholeMenus.{IsWholeMenus}
+use Rattle.desk_toolbox.proofs.MenusBeside.{AreMenusInFront}
 use Rattle.desk_toolbox.proofs.MenusBeside as menus
 use Rattle.desk_toolbox.proofs.TrackedControls.{AtMostControl, comes_then, open_then, unpulled}
 use Rattle.desk_toolbox.proofs.UpdatesBeside as updates
@@ -85,8 +86,8 @@ module _ {V : Type 0} {H : V → Type 0} (loan : TakenBox V H → WindowLoan) {W
         (λ most. updates.whole_unopened loan t new u before after o.activity n.activity sides (not_updating n.activity most) whole)
         split
 
-    pub menus_after_control : (m : Menus W K) (kept : List MenuSlot) → IsWholeMenus menu_loan t o.activity m kept → IsWholeMenus menu_loan new n.activity m kept
-    menus_after_control m kept whole = ⊎_elim
-        (λ same. subst (λ a. IsWholeMenus menu_loan new a m kept) (sym same.desk.activity) (menus.whole_unchanged loan menu_loan t new m kept before after (unchanged same) o.activity whole))
-        (λ most. menus.whole_unpulled loan menu_loan t new m kept before after o.activity n.activity sides (unpulled n.activity most) whole)
+    pub menus_after_control : (m : Menus W K) (front : Overlay) (kept : List MenuSlot) → AreMenusInFront menu_loan o.activity t m front kept → AreMenusInFront menu_loan n.activity new m front kept
+    menus_after_control m front kept whole = ⊎_elim
+        (λ same. subst (λ a. AreMenusInFront menu_loan a new m front kept) (sym same.desk.activity) (menus.whole_unchanged loan menu_loan t new m front kept before after (unchanged same) o.activity whole))
+        (λ most. menus.whole_unpulled loan menu_loan t new m front kept before after o.activity n.activity sides (unpulled n.activity most) whole)
         split

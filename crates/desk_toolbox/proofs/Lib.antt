@@ -6,6 +6,7 @@ pub mod ContentsBeside
 pub mod ContentsLeft
 pub mod Sides
 pub mod EachManager
+pub mod AskingCalls
 pub mod Runs
 pub mod Totals
 pub mod Recounts
@@ -19,6 +20,7 @@ pub mod Outlined
 pub mod OutlineStands
 pub mod OutlinesMade
 pub mod MenuKinds
+pub mod Natures
 pub mod Narrowed
 pub mod Ended
 pub mod ControlKinds
@@ -40,3 +42,4 @@ pub mod Asked
 pub mod WaitingShown
 pub mod UnderMenus
 pub mod Begun
+pub mod Quiet

@@ -11,6 +11,7 @@ use Rattle.desk_call.specs.declared.activity.Activity.TheVariants.{Idle}
 use Rattle.desk_call.specs.declared.list.ListCall.{ListCall}
 use Rattle.desk_call.specs.declared.list.ListReply.{ListReply}
 use Rattle.desk_call.specs.Gates.{gate, list_standing}
+use Rattle.overlay.specs.declared.overlay.Overlay.{Overlay}
 use Rattle.window_mgr.specs.declared.manager.WindowManager.{WindowManager}
 use Rattle.window_mgr.specs.DeskStates.{Opened}
 use Rattle.window_mgr.specs.Effects.{IsUnchanged}
@@ -30,8 +31,8 @@ use Rattle.list_mgr.specs.WholeLists.{list_desk}
 use Rattle.list_mgr.proofs.ListFacts.{list_facts}
 use Rattle.menu_mgr.specs.declared.menus.Menus.{Menus}
 use Rattle.menu_mgr.specs.MenuDesks.{MenuSlot}
-use Rattle.menu_mgr.specs.WholeMenus.{IsWholeMenus}
 use Rattle.desk_toolbox.proofs.ListStands.{list_comes_then}
+use Rattle.desk_toolbox.proofs.MenusBeside.{AreMenusInFront}
 use Rattle.desk_toolbox.proofs.MenusBeside as menus
 use Rattle.desk_toolbox.proofs.UpdatesBeside as updates
 
@@ -69,10 +70,10 @@ module _ {V : Type 0} {H : V → Type 0} (loan : TakenBox V H → WindowLoan) {W
         (λ idle. updates.whole_unopened loan t new u before after o.activity o.activity sides (subst updates.UpdatesNone (sym idle) tt) whole)
         split
 
-    pub menus_after_list : (m : Menus W K) (stored : List MenuSlot) → IsWholeMenus menu_loan t o.activity m stored → IsWholeMenus menu_loan new o.activity m stored
-    menus_after_list m stored whole = ⊎_elim
-        (λ same. menus.whole_unchanged loan menu_loan t new m stored before after (unchanged same) o.activity whole)
-        (λ idle. menus.whole_unpulled loan menu_loan t new m stored before after o.activity o.activity sides (subst menus.CoversNone (sym idle) tt) whole)
+    pub menus_after_list : (m : Menus W K) (front : Overlay) (stored : List MenuSlot) → AreMenusInFront menu_loan o.activity t m front stored → AreMenusInFront menu_loan o.activity new m front stored
+    menus_after_list m front stored whole = ⊎_elim
+        (λ same. menus.whole_unchanged loan menu_loan t new m front stored before after (unchanged same) o.activity whole)
+        (λ idle. menus.whole_unpulled loan menu_loan t new m front stored before after o.activity o.activity sides (subst menus.CoversNone (sym idle) tt) whole)
         split
 
     pub trackable_after_list : IsTrackable o.activity (records_of control_loan cs) → IsTrackable o.activity (records_of control_loan now)

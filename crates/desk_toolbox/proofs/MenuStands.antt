@@ -11,8 +11,12 @@ use Rattle.desk_call.specs.declared.menu.MenuCall.{MenuCall}
 use Rattle.desk_call.specs.declared.menu.MenuCall.TheVariants.{New, Dispose, Down, Move, Up}
 use Rattle.desk_call.specs.declared.menu.MenuReply.{MenuReply}
 use Rattle.desk_call.specs.Gates.{gate, menu_standing}
+use Rattle.desk_call.specs.Outlines.{IsOutlineKept}
+use Rattle.overlay.specs.declared.overlay.Overlay.{Overlay}
 use Rattle.vis_update.specs.Records.{WindowRecord}
+use Rattle.window_mgr.specs.declared.manager.WindowManager.{WindowManager}
 use Rattle.window_frame.specs.Followers.{AreInformed}
+use Rattle.window_outline.specs.ShownOutlines.{IsOutlineShown}
 use Rattle.menu_list.specs.Lists.{menu_index}
 use Rattle.menu_mgr.specs.MenuDesks.{MenuDesk}
 use Rattle.menu_mgr.specs.MenuSteps.{IsDisposedAt, IsMenuEffect, IsMenuStep, IsMoved, IsMovedOn, IsPressedOn, IsMenuReleased, other_title}
@@ -108,6 +112,14 @@ none_tracked a cs none = ⊎_elim
 -- no control is tracked where a call about menus came
 pub menu_trackable : (call : MenuCall) (answer : Result MenuReply Refusal) (before after : MenuDesk) (cs : List ControlRecord) → gate before.desk.activity (menu_standing call) ≡ None → IsMenuStep call answer before after → IsTrackable after.desk.activity cs
 menu_trackable call answer before after cs may step = none_tracked after.desk.activity cs (step_opens call answer before after may step)
+
+-- nor is a window dragged or grown
+pub menu_outlines_none : {V : Type 0} {H : V → Type 0} (call : MenuCall) (answer : Result MenuReply Refusal) (before after : MenuDesk) (t : WindowManager V H) (front : Overlay) → gate before.desk.activity (menu_standing call) ≡ None → IsMenuStep call answer before after
+    → IsOutlineKept after.desk.activity × IsOutlineShown after.desk.activity t front
+menu_outlines_none call answer before after t front may step = ⊎_elim
+    (λ idle. subst (λ a. IsOutlineKept a × IsOutlineShown a t front) (sym idle) (tt, tt))
+    (λ pulling. subst (λ a. IsOutlineKept a × IsOutlineShown a t front) (sym pulling.1) (tt, tt))
+    (step_opens call answer before after may step)
 
 as_idle : (a : Activity) (ws : List WindowRecord) → OpensNoWindow a → total (misled a) ws ≡ total (misled Idle) ws
 as_idle a ws none = ⊎_elim

@@ -18,7 +18,6 @@ use Rattle.window_mgr.specs.Refused.{is_missing}
 use Rattle.control_mgr.specs.ControlDesks.{ControlRecord}
 use Rattle.control_mgr.specs.WholeControls.{IsTrackable}
 use Rattle.window_frame.specs.Followers.{AreInformed}
-use Rattle.menu_mgr.specs.Pulling.{PullsNone}
 use Rattle.window_outline.specs.Outlining.{begins, open_after, outline_after}
 use Rattle.window_outline.specs.OutlineSteps.{IsOutlineStep, why_refused}
 use Rattle.desk_toolbox.specs.declared.events.Events.{Events}
@@ -27,7 +26,7 @@ use Rattle.desk_toolbox.specs.Run.{IsRestKept, put_down}
 use Rattle.desk_toolbox.specs.ToolboxStates.{ToolboxState}
 use Rattle.desk_toolbox.proofs.ContentsBeside.{IsRightToolbox}
 use Rattle.desk_toolbox.proofs.Outlined.{outline_keeps_desk, put_down_right}
-use Rattle.desk_toolbox.proofs.PulledMenus.{IsPullRight, still_without}
+use Rattle.desk_toolbox.proofs.PulledMenus.{IsPullRight, PullsNone, still_without}
 use Rattle.desk_toolbox.proofs.Stands.{Stands, apart_stays, bar_stays, idle_now, stands_still}
 use Rattle.desk_toolbox.proofs.StandsOpen.{not_refused}
 use Rattle.desk_toolbox.proofs.Told.{ArePosted}
@@ -115,7 +114,7 @@ outlining_misleads_none (Tracking s) ws is = absurd is
 outlining_misleads_none (TrackingControl c) ws is = absurd is
 outlining_misleads_none (Pulling m) ws is = absurd is
 
-pub outlining_pulls_none : (a : Activity) → IsOutlining a → PullsNone a
+outlining_pulls_none : (a : Activity) → IsOutlining a → PullsNone a
 outlining_pulls_none Idle is = tt
 outlining_pulls_none (Dragging d) is = tt
 outlining_pulls_none (Growing g) is = tt

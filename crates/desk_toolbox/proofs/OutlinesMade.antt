@@ -1,4 +1,5 @@
--- A call about an outline leaves every manager whole, and the end of a drag begins while nothing is open.
+-- A call about an outline leaves every manager whole, and the map in front right, and the end of a drag begins while nothing is
+-- open.
 use Rattle.std.proofs.Common.{◌≡◌, None, Some, List, [], Ok, Err, refl, sym, ap, subst}
 use Rattle.tb_geom.specs.declared.refusal.Refusal.{Refusal}
 use Rattle.tb_geom.specs.Points.{PixelSet}
@@ -17,7 +18,7 @@ use Rattle.desk_call.specs.declared.window.WindowCall.TheVariants.{Move}
 use Rattle.desk_call.specs.declared.window.WindowReply.{WindowReply}
 use Rattle.desk_call.specs.declared.window.WindowReply.TheVariants.{Done}
 use Rattle.desk_call.specs.Gates.{gate, outline_standing}
-use Rattle.desk_call.specs.Outlines.{IsOutlineKept}
+use Rattle.overlay.specs.declared.overlay.Overlay.{Overlay}
 use Rattle.window_mgr.specs.declared.manager.WindowManager.{WindowManager}
 use Rattle.window_mgr.specs.Effects.{IsUnchanged}
 use Rattle.window_mgr.specs.FullDesk.{FullDesk, FullState}
@@ -28,23 +29,14 @@ use Rattle.window_mgr.specs.Records.{desk_of, state_of}
 use Rattle.window_paint.specs.White.{all_white}
 use Rattle.menu_mgr.specs.declared.menus.Menus.{Menus}
 use Rattle.menu_mgr.specs.MenuDesks.{MenuSlot}
-use Rattle.menu_mgr.specs.WholeMenus.{IsPlaced, IsWholeMenus, menus_of, menus_state}
+use Rattle.menu_mgr.specs.WholeMenus.{IsPlaced, IsPulledShown, IsWholeMenus}
 use Rattle.desk_toolbox.specs.Run.{IsWindowDone, IsWindowMade, put_down}
 use Rattle.desk_toolbox.specs.ToolboxStates.{IsToolboxUnchanged, ToolboxState}
+use Rattle.desk_toolbox.proofs.MenusBeside.{AreMenusInFront}
 use Rattle.desk_toolbox.proofs.MenusBeside as beside
 use Rattle.desk_toolbox.proofs.OutlineStands.{IsOutlining}
 use Rattle.desk_toolbox.proofs.UpdatesBeside.{UpdatesNone}
 use Rattle.desk_toolbox.proofs.UpdatesBeside as updates
-
--- what is kept of an outline is kept of what lies in front
-pub placed_is_kept : (a : Activity) → IsPlaced a → IsOutlineKept a
-placed_is_kept Idle placed = tt
-placed_is_kept (Updating s) placed = tt
-placed_is_kept (Tracking s) placed = tt
-placed_is_kept (Pulling m) placed = tt
-placed_is_kept (TrackingControl c) placed = tt
-placed_is_kept (Dragging d) placed = placed
-placed_is_kept (Growing g) placed = placed
 
 -- only the end of a drag moves a window
 pub drops_drag : (call : OutlineCall) (a : Activity) (desk : FullDesk) (drop : MoveWindow) → let_go_of call a desk ≡ Some drop → gate a (outline_standing call) ≡ None → gate a Drags ≡ None
@@ -71,9 +63,34 @@ outlined_updates loan t u a b is whole = updates.whole_unopened loan t t u [] []
 pub unchanged : (s : FullState) → IsUnchanged s s
 unchanged s = record { desk = refl; stale = λ p on. refl; image = λ p on. refl }
 
--- the same menus are listed
-pub same_menus : {W : Type 0} {K : W → Type 0} (menu_loan : TakenBox W K → MenuLoan) (old new : Menus W K) (slots : List MenuSlot) → new.list ≡ old.list → menus_state menu_loan new slots ≡ menus_state menu_loan old slots
-same_menus menu_loan old new slots e = λ i. record { menus = menus_of menu_loan (e i).menus.items; highlighted = (e i).highlighted; stock = slots }
+-- no menu is pulled down, so none has to lie anywhere
+outlining_places_none : (a : Activity) → IsOutlining a → IsPlaced a
+outlining_places_none Idle is = tt
+outlining_places_none (Dragging d) is = tt
+outlining_places_none (Growing g) is = tt
+outlining_places_none (Updating s) is = absurd is
+outlining_places_none (Tracking s) is = absurd is
+outlining_places_none (TrackingControl c) is = absurd is
+outlining_places_none (Pulling m) is = absurd is
+
+pub outlined_menus : {W : Type 0} {K : W → Type 0} (menu_loan : TakenBox W K → MenuLoan) (m : Menus W K) (slots : List MenuSlot) (a b : Activity) → IsOutlining b → IsWholeMenus menu_loan a m slots → IsWholeMenus menu_loan b m slots
+outlined_menus menu_loan m slots a b is whole = record {
+  few = whole.few;
+  room = whole.room;
+  live = whole.live;
+  stocked = whole.stocked;
+  placed = outlining_places_none b is;
+}
+
+-- nor is one to be shown
+pub outlining_shows_none : {V : Type 0} {H : V → Type 0} {W : Type 0} {K : W → Type 0} (menu_loan : TakenBox W K → MenuLoan) (t : WindowManager V H) (m : Menus W K) (front : Overlay) (a : Activity) → IsOutlining a → IsPulledShown menu_loan a t m front
+outlining_shows_none menu_loan t m front Idle is = tt
+outlining_shows_none menu_loan t m front (Dragging d) is = tt
+outlining_shows_none menu_loan t m front (Growing g) is = tt
+outlining_shows_none menu_loan t m front (Updating s) is = absurd is
+outlining_shows_none menu_loan t m front (Tracking s) is = absurd is
+outlining_shows_none menu_loan t m front (TrackingControl c) is = absurd is
+outlining_shows_none menu_loan t m front (Pulling p) is = absurd is
 
 -- ---- the window that was dragged is let go
 
@@ -101,8 +118,9 @@ unshown loan t new before after old_shows shows same = record {
   image = same.image;
 }
 
-pub dropped_menus : {V : Type 0} {H : V → Type 0} (loan : TakenBox V H → WindowLoan) {W : Type 0} {K : W → Type 0} (menu_loan : TakenBox W K → MenuLoan) (t new : WindowManager V H) (m other : Menus W K) (kept left : List MenuSlot) (before after : List WindowSlot) (a : Activity)
-    → IsUnchanged (state_of loan t before) (state_of loan new after) → other ≡ m → left ≡ kept → IsWholeMenus menu_loan t a m kept → IsWholeMenus menu_loan new a other left
-dropped_menus loan menu_loan t new m other kept left before after a same menus slots whole =
-    subst (λ (x : List MenuSlot). IsWholeMenus menu_loan new a other x) (sym slots)
-    (subst (λ x. IsWholeMenus menu_loan new a x kept) (sym menus) (beside.whole_unchanged loan menu_loan t new m kept before after same a whole))
+pub dropped_menus : {V : Type 0} {H : V → Type 0} (loan : TakenBox V H → WindowLoan) {W : Type 0} {K : W → Type 0} (menu_loan : TakenBox W K → MenuLoan) (t new : WindowManager V H) (m other : Menus W K) (front map : Overlay) (kept left : List MenuSlot) (before after : List WindowSlot) (a : Activity)
+    → IsUnchanged (state_of loan t before) (state_of loan new after) → other ≡ m → map ≡ front → left ≡ kept → AreMenusInFront menu_loan a t m front kept → AreMenusInFront menu_loan a new other map left
+dropped_menus loan menu_loan t new m other front map kept left before after a same menus fronts slots whole =
+    subst (λ (x : List MenuSlot). AreMenusInFront menu_loan a new other map x) (sym slots)
+    (subst (λ x. AreMenusInFront menu_loan a new other x kept) (sym fronts)
+    (subst (λ x. AreMenusInFront menu_loan a new x front kept) (sym menus) (beside.whole_unchanged loan menu_loan t new m front kept before after same a whole)))

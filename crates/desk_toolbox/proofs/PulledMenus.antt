@@ -4,9 +4,13 @@ use Rattle.std.specs.Prelude.{All}
 use Rattle.desk_call.specs.declared.activity.Activity.{Activity}
 use Rattle.desk_call.specs.declared.activity.Activity.TheVariants.{Idle, Updating, Tracking, Pulling, TrackingControl, Dragging, Growing}
 use Rattle.menu_mgr.specs.MenuDesks.{MenuRecord, MenusState}
-use Rattle.menu_mgr.specs.Pulling.{PullsNone}
 use Rattle.desk_toolbox.specs.Reached.{IsLit, IsPulledThere}
 use Rattle.desk_toolbox.proofs.MenusBeside.{CoversNone}
+
+-- what is open pulls no menu down
+abbrev pub PullsNone : Activity → Type 0
+PullsNone (Pulling m) = ⊥
+PullsNone _ = Unit {0}
 
 -- what of the menus goes by what is open
 pub record IsPullRight (activity : Activity) (menus : MenusState) : Type 0 where

@@ -19,10 +19,7 @@ use Rattle.desk_call.specs.declared.window.WindowCall.{WindowCall}
 use Rattle.desk_call.specs.declared.window.WindowReply.{WindowReply}
 use Rattle.desk_call.specs.declared.window.WindowReply.TheVariants.{Done, Made, Found, Front, Info, Region}
 use Rattle.desk_call.specs.declared.window.WindowCall.TheVariants as asks
-use Rattle.vis_update.specs.Records.{WindowRecord}
-use Rattle.window_mgr.specs.Finding.{record_with, info_of}
-use Rattle.window_mgr.specs.Placings.{Placing, sized, zoomed}
-use Rattle.window_mgr.specs.Effects.{Effect, IsEffect, IsUnchanged, effect_of, places}
+use Rattle.window_mgr.specs.Effects.{Effect, IsEffect, IsUnchanged, effect_of}
 use Rattle.window_mgr.specs.Effects.Effect.{Makes, Disposes, Draws, Pictures, Scrolls, Arranges, Places, Tells, Describes}
 use Rattle.window_mgr.specs.Telling.{IsRegionTold}
 use Rattle.window_mgr.proofs.KeptKinds as kinds
@@ -44,9 +41,10 @@ use Rattle.menu_mgr.specs.MenuSteps.{IsMenuStep}
 use Rattle.menu_mgr.proofs.MenuKeeps.{menu_keeps, menu_stays_right}
 use Rattle.desk_toolbox.specs.Reached.{AreContentsRight}
 use Rattle.desk_toolbox.specs.ToolboxStates.{ToolboxState, with_controls, with_lists, with_menus}
-use Rattle.desk_toolbox.specs.Run.{IsWindowAnswer, IsWindowMade, IsEventAnswer, IsAdmitted, replied, IsStep, IsRunOfCalls, serial_made, made, AreCounted}
+use Rattle.desk_toolbox.specs.Run.{IsWindowAnswer, IsWindowMade, IsEventAnswer, IsAdmitted, replied, IsStep, IsRunOf, IsRunOfCalls, serial_made, made, AreCounted}
 use Rattle.window_update.proofs.ServedLaws.{all_served_is_right}
 use Rattle.window_update.proofs.UpdateLaws.{update_stays_right}
+use Rattle.desk_toolbox.proofs.AskingCalls.{IsNumberless, numberless}
 use Rattle.desk_toolbox.proofs.EachManager.{HoldsOfEach, of_admitted, of_step}
 use Rattle.desk_call.specs.declared.window.WindowReply.TheVariants as window_reply
 use Rattle.desk_toolbox.proofs.Outlined.{outline_keeps_desk, outline_unchanged, put_down_right}
@@ -189,70 +187,28 @@ served_run_is_all_right first last calls answers right controls run served = all
 
 -- ---- runs that go on
 
-run_more : (first middle last : ToolboxState) (calls : List Call) (answers : List (Result Reply Refusal)) (call : Call) (answer : Result Reply Refusal) → IsRunOfCalls first calls answers middle → IsStep call answer middle last → IsRunOfCalls first (calls ++ call ∷ []) (answers ++ answer ∷ []) last
-run_more first middle last [] [] call answer r s = (last, subst (λ m. IsStep call answer m last) r s, refl)
-run_more first middle last (c ∷ calls) (a ∷ answers) call answer r s = (r.0, r.1, run_more r.0 middle last calls answers call answer r.2 s)
-run_more first middle last [] (a ∷ answers) call answer r s = absurd r
-run_more first middle last (c ∷ calls) [] call answer r s = absurd r
+module _ {S : Type 0} (Step : Call → Result Reply Refusal → S → S → Type 0) where
+  run_more : (first middle last : S) (calls : List Call) (answers : List (Result Reply Refusal)) (call : Call) (answer : Result Reply Refusal) → IsRunOf Step first calls answers middle → Step call answer middle last → IsRunOf Step first (calls ++ call ∷ []) (answers ++ answer ∷ []) last
+  run_more first middle last [] [] call answer r s = (last, subst (λ m. Step call answer m last) r s, refl)
+  run_more first middle last (c ∷ calls) (a ∷ answers) call answer r s = (r.0, r.1, run_more r.0 middle last calls answers call answer r.2 s)
+  run_more first middle last [] (a ∷ answers) call answer r s = absurd r
+  run_more first middle last (c ∷ calls) [] call answer r s = absurd r
 
--- a run of the calls so far goes on by the next
-pub run_step : (first middle last : ToolboxState) (calls : List Call) (answers more : List (Result Reply Refusal)) (i : ℕ) (call : Call) (answer : Result Reply Refusal) → more ≡ answers ++ answer ∷ [] → call ≡ get_or calls i call → IsRunOfCalls first (take i calls) answers middle → i < length calls → IsStep call answer middle last → IsRunOfCalls first (take (i + 1) calls) more last
-run_step first middle last calls answers more i call answer e read r l s =
-    subst (λ (x : List Call × List (Result Reply Refusal)). IsRunOfCalls first x.0 x.1 last) (λ k. (sym (take_more calls i call l) k, sym e k))
-    (run_more first middle last (take i calls) answers (get_or calls i call) answer r (subst (λ c. IsStep c answer middle last) read s))
+  -- a run of the calls so far goes on by the next
+  pub run_step : (first middle last : S) (calls : List Call) (answers more : List (Result Reply Refusal)) (i : ℕ) (call : Call) (answer : Result Reply Refusal) → more ≡ answers ++ answer ∷ [] → call ≡ get_or calls i call → IsRunOf Step first (take i calls) answers middle → i < length calls → Step call answer middle last → IsRunOf Step first (take (i + 1) calls) more last
+  run_step first middle last calls answers more i call answer e read r l s =
+      subst (λ (x : List Call × List (Result Reply Refusal)). IsRunOf Step first x.0 x.1 last) (λ k. (sym (take_more calls i call l) k, sym e k))
+      (run_more first middle last (take i calls) answers (get_or calls i call) answer r (subst (λ c. Step c answer middle last) read s))
 
--- a run of all calls
-pub run_of_all : (first last : ToolboxState) (calls : List Call) (answers : List (Result Reply Refusal)) (i : ℕ) → length calls ≤ i → IsRunOfCalls first (take i calls) answers last → IsRunOfCalls first calls answers last
-run_of_all first last calls answers i all run = subst (λ cs. IsRunOfCalls first cs answers last) (take_all i calls all) run
+  -- a run of all calls
+  pub run_of_all : (first last : S) (calls : List Call) (answers : List (Result Reply Refusal)) (i : ℕ) → length calls ≤ i → IsRunOf Step first (take i calls) answers last → IsRunOf Step first calls answers last
+  run_of_all first last calls answers i all run = subst (λ cs. IsRunOf Step first cs answers last) (take_all i calls all) run
 
 -- ---- windows are counted
 
 -- a step that changes nothing leaves the next number
 counted_on : (before after : FullState) (numbers : List ℕ) → IsUnchanged before after → AreCounted after.desk.next numbers → AreCounted before.desk.next numbers
 counted_on before after numbers same h = subst (λ (d : FullDesk). AreCounted d.next numbers) same.desk h
-
--- what is told is no number of a new window
-abbrev IsNumberless : Effect → Type 0
-IsNumberless (Makes floating w) = Unit {0}
-IsNumberless (Draws d) = Unit {0}
-IsNumberless (Pictures n) = Unit {0}
-IsNumberless (Scrolls m) = Unit {0}
-IsNumberless (Arranges a) = Unit {0}
-IsNumberless (Disposes s) = Unit {0}
-IsNumberless (Places p) = Unit {0}
-IsNumberless (Tells r) = serial_made r ≡ []
-IsNumberless (Describes region) = Unit {0}
-
--- nor what a call answers that puts a window nowhere
-placed_numberless : (o : Option Placing) → IsNumberless (places o)
-placed_numberless None = refl
-placed_numberless (Some p) = tt
-
-numberless : (call : WindowCall) (desk : FullDesk) → IsNumberless (effect_of call desk)
-numberless (asks.New w) desk = tt
-numberless (asks.NewFloating w) desk = tt
-numberless (asks.Draw d) desk = tt
-numberless (asks.SetPicture n) desk = tt
-numberless (asks.Scroll m) desk = tt
-numberless (asks.Select s) desk = tt
-numberless (asks.BringToFront s) desk = tt
-numberless (asks.SendBehind b) desk = tt
-numberless (asks.Move m) desk = tt
-numberless (asks.Show s) desk = tt
-numberless (asks.Hide s) desk = tt
-numberless (asks.ShowHide c) desk = tt
-numberless (asks.Dispose s) desk = tt
-numberless (asks.Size z) desk = placed_numberless (sized z (record_with z.window desk.windows))
-numberless (asks.Zoom z) desk = placed_numberless (zoomed z (record_with z.window desk.windows) desk)
-numberless (asks.VisibleRegion s) desk = tt
-numberless (asks.UpdateRegion s) desk = tt
-numberless (asks.Find p) desk = refl
-numberless asks.Front desk = refl
-numberless (asks.Info s) desk = by_window (record_with s desk.windows)
-  where
-    by_window : (o : Option WindowRecord) → serial_made (info_of o) ≡ []
-    by_window None = refl
-    by_window (Some w) = refl
 
 -- nor is a region
 region_is_numberless : (set : PixelSet) (answer : WindowReply) → IsRegionTold set answer → serial_made answer ≡ []

@@ -16,7 +16,7 @@ use Rattle.desk_call.specs.declared.window.WindowReply.{WindowReply}
 use Rattle.desk_call.specs.Gates.{gate, window_standing}
 use Rattle.vis_update.specs.Records.{WindowRecord, is_floating}
 use Rattle.vis_update.specs.Touches.{is_this}
-use Rattle.window_mgr.specs.Effects.{IsEffect, effect_of}
+use Rattle.window_mgr.specs.Effects.{effect_of}
 use Rattle.window_mgr.specs.Finding.{record_with}
 use Rattle.window_mgr.specs.FullDesk.{FullDesk, FullState, IsRightState}
 use Rattle.window_mgr.specs.DeskStates.{DeskState, narrowed}
@@ -35,6 +35,7 @@ use Rattle.desk_toolbox.specs.EventSteps.{event_step}
 use Rattle.desk_toolbox.specs.Reached.{AreMenusApart, AreContentsRight, AreWindowsStocked, HasLiveDefinition, IsThere, IsConsistent, open_window}
 use Rattle.desk_toolbox.specs.Run.{AreControlsLeft, IsWindowAnswer, IsWindowMade, IsEventAnswer}
 use Rattle.desk_toolbox.specs.ToolboxStates.{ToolboxState}
+use Rattle.desk_toolbox.proofs.AskingCalls.{asked_changes_nothing}
 use Rattle.desk_toolbox.proofs.HeldSteps.{AreMenusHeld}
 use Rattle.desk_toolbox.proofs.PulledMenus.{IsPullRight, same_pull}
 use Rattle.desk_toolbox.proofs.Totals.{Ordinary, Present, counted, counted_is_found, counted_of_class, distinct_counts, either_class, found_counts, found_of_class, has_when, of_class, total}
@@ -198,17 +199,8 @@ answer_misleads_none None call answer activity before after step none =
     counted_none (misled activity) (effect_of call before.windows.desk) before.windows.desk after.windows.desk (λ n floating. refl) (done_counts call answer before.windows after.windows step.1.1) none
 answer_misleads_none (Some set) call answer activity before after step none = ap (λ (d : FullDesk). total (misled activity) d.windows) step.1.windows.desk ∙ none
 
--- a call that asks leaves the desk
-asking_keeps : (call : WindowCall) (answer : WindowReply) (before after : FullState) → IsEffect (effect_of call before.desk) answer before after → window_standing call ≡ Asks → after.desk ≡ before.desk
-asking_keeps (asks.Find p) answer before after done e = done.1.desk
-asking_keeps asks.Front answer before after done e = done.1.desk
-asking_keeps (asks.Info s) answer before after done e = done.1.desk
-asking_keeps (asks.VisibleRegion s) answer before after done e = done.1.desk
-asking_keeps (asks.UpdateRegion s) answer before after done e = done.1.desk
-asking_keeps _ answer before after done e = absurd (cc)
-
 answer_keeps_desk : (asked : Option PixelSet) (call : WindowCall) (answer : WindowReply) (before after : DeskState) → IsWindowAnswer asked call (Ok answer) before after → window_standing call ≡ Asks → after.windows.desk ≡ before.windows.desk
-answer_keeps_desk None call answer before after step e = asking_keeps call answer before.windows after.windows step.1.1 e
+answer_keeps_desk None call answer before after step e = (asked_changes_nothing call (Ok answer) before.windows after.windows step.1 e).desk
 answer_keeps_desk (Some set) call answer before after step e = step.1.windows.desk
 
 -- where definitions were told, they know, and else nothing changed

@@ -12,7 +12,6 @@ use Rattle.def_iface.specs.WindowSlots.{WindowSlot}
 use Rattle.desk_call.specs.declared.activity.Activity.{Activity}
 use Rattle.desk_call.specs.declared.activity.Activity.TheVariants.{Idle, Updating, Tracking, Pulling, TrackingControl, Dragging, Growing}
 use Rattle.desk_call.specs.declared.activity.PulledMenu.{PulledMenu}
-use Rattle.desk_call.specs.declared.activity.Standing.TheVariants.{Asks}
 use Rattle.desk_call.specs.declared.frame.FrameCall.{FrameCall}
 use Rattle.desk_call.specs.declared.frame.FrameCall.TheVariants.{SetTitle, Hilite, TrackGoAway, StepGoAway, EndGoAway}
 use Rattle.desk_call.specs.declared.frame.FrameReply.{FrameReply}
@@ -22,7 +21,6 @@ use Rattle.desk_call.specs.declared.menu.MenuCall.{MenuCall}
 use Rattle.desk_call.specs.declared.menu.MenuCall.TheVariants as menus
 use Rattle.desk_call.specs.declared.menu.MenuReply.{MenuReply}
 use Rattle.desk_call.specs.declared.window.WindowCall.{WindowCall}
-use Rattle.desk_call.specs.declared.window.WindowCall.TheVariants as asks
 use Rattle.desk_call.specs.declared.window.WindowReply.{WindowReply}
 use Rattle.desk_call.specs.Gates.{gate, frame_standing, menu_standing, window_standing}
 use Rattle.menu_list.specs.Lists.{menu_index}
@@ -46,7 +44,8 @@ use Rattle.menu_mgr.specs.MenuDesks.{MenuDesk, MenusState}
 use Rattle.menu_mgr.specs.MenuSteps.{IsDisposedAt, IsMenuEffect, IsMenuStep, IsMoved, IsMovedOn, IsPressedOn, IsMenuReleased, other_title}
 use Rattle.menu_mgr.specs.Pulling.{TitleOf, title_of_point}
 use Rattle.menu_mgr.proofs.MenuKeeps.{menu_keeps}
-use Rattle.desk_toolbox.proofs.MenusBeside.{asked_changes_nothing, same_state}
+use Rattle.desk_toolbox.proofs.AskingCalls.{asked_changes_nothing, window_asks}
+use Rattle.desk_toolbox.proofs.MenusBeside.{same_state}
 use Rattle.desk_toolbox.proofs.Sides.{step_keeps_sides}
 
 -- ---- what is open
@@ -65,16 +64,7 @@ updates_or_not (Dragging d) = inl tt
 updates_or_not (Growing g) = inl tt
 updates_or_not (Pulling m) = inl tt
 
--- a call on windows comes while an update is open only if it asks
-pub window_asks_then : (call : WindowCall) (s : ℕ) → gate (Updating s) (window_standing call) ≡ None → window_standing call ≡ Asks
-window_asks_then (asks.Find p) s may = refl
-window_asks_then asks.Front s may = refl
-window_asks_then (asks.Info w) s may = refl
-window_asks_then (asks.VisibleRegion w) s may = refl
-window_asks_then (asks.UpdateRegion w) s may = refl
-window_asks_then _ s may = absurd (cc)
-
--- and one about frames or menus never does
+-- a call about frames or menus never comes while an update is open
 pub frame_comes_apart : (call : FrameCall) (a : Activity) → gate a (frame_standing call) ≡ None → UpdatesNone a
 frame_comes_apart call Idle may = tt
 frame_comes_apart call (Tracking s) may = tt
@@ -216,7 +206,7 @@ module _ {V : Type 0} {H : V → Type 0} (loan : TakenBox V H → WindowLoan) wh
     pub updates_after_window : (a : Activity) (call : WindowCall) (answer : Result WindowReply Refusal) → gate a (window_standing call) ≡ None → IsWindowStep call answer was now → IsWholeUpdates loan a t u → IsWholeUpdates loan a new u
     updates_after_window a call answer may step whole = ⊎_elim
         (λ none. whole_unopened a a (step_keeps_sides call answer was now step) none whole)
-        (λ open_one. whole_unchanged a (asked_changes_nothing call answer was now step (window_asks_then call open_one.0 (subst (λ b. gate b (window_standing call) ≡ None) open_one.1 may))) whole)
+        (λ open_one. whole_unchanged a (asked_changes_nothing call answer was now step (window_asks call (Updating open_one.0) refl (subst (λ b. gate b (window_standing call) ≡ None) open_one.1 may))) whole)
         (updates_or_not a)
 
     -- definitions were told how their windows stand
@@ -226,7 +216,7 @@ module _ {V : Type 0} {H : V → Type 0} (loan : TakenBox V H → WindowLoan) wh
           width = caught_up_keeps (λ d. d.width) (λ d ws. refl) (window_standing call) was now told;
           height = caught_up_keeps (λ d. d.height) (λ d ws. refl) (window_standing call) was now told;
         }) none whole)
-        (λ open_one. whole_unchanged a (same_state was now (subst (λ s. IsCaughtUpBy s was now) (window_asks_then call open_one.0 (subst (λ b. gate b (window_standing call) ≡ None) open_one.1 may)) told)) whole)
+        (λ open_one. whole_unchanged a (same_state was now (subst (λ s. IsCaughtUpBy s was now) (window_asks call (Updating open_one.0) refl (subst (λ b. gate b (window_standing call) ≡ None) open_one.1 may)) told)) whole)
         (updates_or_not a)
 
     pub updates_after_frame : (o n : Opened) (call : FrameCall) (answer : Result FrameReply Refusal) → gate o.activity (frame_standing call) ≡ None → IsFrameStep call answer (desk_with o was) (desk_with n now) → IsWholeUpdates loan o.activity t u → IsWholeUpdates loan n.activity new u

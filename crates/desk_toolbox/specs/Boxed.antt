@@ -1,7 +1,8 @@
 -- A Toolbox and its stock, seen through what boxes of definitions mean.
-use Rattle.std.specs.Prelude.{[]}
+use Rattle.std.specs.Prelude.{[], List, Result}
 use Rattle.std.specs.declared.alloc.Global.{Global}
 use Rattle.std.specs.declared.dyn_box.DynBox.{DynBox}
+use Rattle.tb_geom.specs.declared.refusal.Refusal.{Refusal}
 use Rattle.def_iface.specs.declared.control_def.ControlDef as control_def
 use Rattle.def_iface.specs.declared.list_def.ListDef as list_def
 use Rattle.def_iface.specs.declared.menu_def.MenuDef as menu_def
@@ -9,9 +10,13 @@ use Rattle.def_iface.specs.declared.stock.Stock.{Stock}
 use Rattle.def_iface.specs.declared.window_def.WindowDef as window_def
 use Rattle.def_iface.specs.Boxed.{all_slots_by, control_loan_by, list_loan_by, menu_loan_by, window_loan_by}
 use Rattle.def_iface.specs.Stocks.{AllSlots}
+use Rattle.desk_call.specs.declared.call.Call.{Call}
+use Rattle.desk_call.specs.declared.call.Reply.{Reply}
 use Rattle.desk_toolbox.specs.declared.toolbox.Toolbox.{Toolbox}
+use Rattle.desk_toolbox.specs.EconomicalRuns as runs
+use Rattle.desk_toolbox.specs.Economy.{IsCallEconomical}
 use Rattle.desk_toolbox.specs.ToolboxStates.{ToolboxState}
-use Rattle.desk_toolbox.specs.WholeToolbox.{AreWholeManagers, IsKeptToolbox, IsWholeToolbox, toolbox_state}
+use Rattle.desk_toolbox.specs.WholeToolbox.{AreKeptManagers, AreWholeManagers, IsKeptToolbox, IsWholeToolbox, toolbox_state}
 
 -- no slot at all: whatever the slots, a screen shows the same
 abbrev pub no_slots : AllSlots
@@ -36,7 +41,10 @@ module _ {V : Type 0} {H : V → Type 0} (window : (b : DynBox V Global H) → w
   HasWholeManagersOver t stocks =
       AreWholeManagers (window_loan_by window) (menu_loan_by menu) (control_loan_by control) (list_loan_by list) t stocks
 
-  -- it is whole over some slots
+  -- its managers are whole over some slots, and it is
+  abbrev pub HasKeptManagers : Toolbox V U W X H J K L → Type 0
+  HasKeptManagers t = AreKeptManagers (window_loan_by window) (menu_loan_by menu) (control_loan_by control) (list_loan_by list) t
+
   abbrev pub IsKept : Toolbox V U W X H J K L → Type 0
   IsKept t = IsKeptToolbox (window_loan_by window) (menu_loan_by menu) (control_loan_by control) (list_loan_by list) t
 
@@ -49,3 +57,15 @@ module _ {V : Type 0} {H : V → Type 0} (window : (b : DynBox V Global H) → w
 
   abbrev pub HasWholeManagers : Toolbox V U W X H J K L → Stock V U X W H J L K → Type 0
   HasWholeManagers t stock = HasWholeManagersOver t (all_slots_by window menu control list stock)
+
+  -- a call was economical, between these two
+  abbrev pub IsEconomical : Call → Toolbox V U W X H J K L → Toolbox V U W X H J K L → Type 0
+  IsEconomical call before after = IsCallEconomical (window_loan_by window) call before.activity before.windows after.windows
+
+  -- so was each call of a run
+  abbrev pub IsEconomicalRun : List Call → List (Result Reply Refusal) → Toolbox V U W X H J K L → Stock V U X W H J L K
+      → Toolbox V U W X H J K L → Stock V U X W H J L K → Type 0
+  IsEconomicalRun calls answers first before last after =
+      runs.IsEconomicalRun (window_loan_by window) (menu_loan_by menu) (control_loan_by control) (list_loan_by list)
+      (record { toolbox = first; stocks = all_slots_by window menu control list before }) calls answers
+      (record { toolbox = last; stocks = all_slots_by window menu control list after })

@@ -21,16 +21,20 @@ use Rattle.window_mgr.specs.FullDesk.{layered_desk}
 use Rattle.control_mgr.specs.ControlDesks.{ControlRecord}
 use Rattle.control_mgr.specs.ControlSteps.{control_found_by}
 use Rattle.menu_mgr.specs.Pulling.{is_in, is_pulled_at, pulled_of}
-use Rattle.menu_mgr.specs.Pulling as menus
-use Rattle.desk_toolbox.specs.ToolboxStates.{ToolboxState, with_menus}
+use Rattle.desk_toolbox.specs.ToolboxStates.{ToolboxState}
 
 -- the menu that is pulled down, if one is
 abbrev pub pulled : ToolboxState → Option Pulled
 pulled s = pulled_of s.desk.activity s.menus.menus
 
--- what the screen shows: the pulled menu where it lies, and else the base image, with the outline in front
+-- the outline in front of these pixels, if one is shown
+abbrev pub with_outline : ToolboxState → PixelSet → PixelSet
+with_outline s = outlined s.desk.windows.desk.bar.rows (outline_of s.desk.activity)
+
+-- what the screen shows: the pulled menu where it lies, and else the base image, with the outline of a window that is dragged or
+-- grown in front
 abbrev pub screen_of : ToolboxState → PixelSet
-screen_of s = menus.screen_of (with_menus s)
+screen_of s = with_outline s (shown_bit s.desk.windows.desk.font (pulled s) s.desk.windows.image)
 
 -- the point is a pixel of the screen that the pulled menu has
 abbrev pub is_on_menu : ToolboxState → Point → Bool
@@ -52,10 +56,6 @@ pulled_value s (Some m) p = pulled_bit s.desk.windows.desk.font m p
 abbrev pub screen_bit : ToolboxState → ScreenOwner → PixelSet
 screen_bit s PulledMenu p = pulled_value s (pulled s) p
 screen_bit s (Base o) p = own_bit (layered_desk s.desk.windows.desk) o p
-
--- the outline in front of these pixels, if one is shown
-abbrev pub with_outline : ToolboxState → PixelSet → PixelSet
-with_outline s = outlined s.desk.windows.desk.bar.rows (outline_of s.desk.activity)
 
 -- the point is a pixel of the outline, if one is shown
 abbrev pub is_on_outline : ToolboxState → Point → Bool

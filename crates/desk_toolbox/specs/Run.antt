@@ -25,17 +25,20 @@ use Rattle.desk_call.specs.declared.list.ListReply.{ListReply}
 use Rattle.desk_call.specs.declared.list.ListReply.TheVariants as list_reply
 use Rattle.desk_call.specs.declared.menu.MenuCall.{MenuCall}
 use Rattle.desk_call.specs.declared.menu.MenuReply.{MenuReply}
+use Rattle.desk_call.specs.declared.nature.Asked.{Asked}
+use Rattle.desk_call.specs.declared.nature.Asked.TheVariants.{WindowAt, ControlAt}
 use Rattle.desk_call.specs.declared.outline.OutlineCall.{OutlineCall}
 use Rattle.desk_call.specs.declared.outline.OutlineReply.{OutlineReply}
 use Rattle.desk_call.specs.declared.outline.OutlineReply.TheVariants.{Shown}
 use Rattle.desk_call.specs.declared.update.UpdateCall.{UpdateCall}
 use Rattle.desk_call.specs.declared.window.MoveWindow.{MoveWindow}
 use Rattle.desk_call.specs.declared.window.WindowCall.{WindowCall}
-use Rattle.desk_call.specs.declared.window.WindowCall.TheVariants.{Dispose, Find, Move}
+use Rattle.desk_call.specs.declared.window.WindowCall.TheVariants.{Dispose, Move}
 use Rattle.desk_call.specs.declared.window.WindowReply.{WindowReply}
 use Rattle.desk_call.specs.declared.window.WindowReply.TheVariants.{Done, Made, Found}
 use Rattle.desk_call.specs.declared.window.WindowPart.TheVariants.{InMenuBar}
 use Rattle.desk_call.specs.Gates.{gate, standing_of, window_standing}
+use Rattle.desk_call.specs.Natures.{control_asks, window_asks}
 use Rattle.window_list.specs.Lists.{serial_after}
 use Rattle.window_mgr.specs.Refused.{IsFormRefusal}
 use Rattle.window_mgr.specs.Step as windows
@@ -125,10 +128,19 @@ abbrev pub IsWindowMade : WindowCall → Result WindowReply Refusal → ToolboxS
 IsWindowMade call (Ok answer) before after = IsWindowDone call answer before after
 IsWindowMade call (Err e) before after = IsWindowAnswered call (Err e) before.desk after.desk × IsRestKept before after
 
+-- a point of a window lies where the menu does that is pulled down
+abbrev pub is_under_menu : ToolboxState → PointInWindow → Bool
+is_under_menu s p = in_plane p.point && option_map_or (λ w. is_on_menu s (plus w.place p.point)) (record_with p.window s.desk.windows.desk.windows) false
+
+-- what is asked for is a point where that menu lies
+abbrev pub is_behind_menu : Asked → ToolboxState → Bool
+is_behind_menu (WindowAt p) s = is_on_menu s p
+is_behind_menu (ControlAt p) s = is_under_menu s p
+is_behind_menu _ s = false
+
 -- FindWindow is asked for a point of the menu that is pulled down
 abbrev pub is_covered : WindowCall → ToolboxState → Bool
-is_covered (Find p) s = is_on_menu s p
-is_covered _ s = false
+is_covered call s = is_behind_menu (window_asks call) s
 
 -- it answers the menu bar there, and no window
 abbrev pub found_menu : WindowReply
@@ -139,12 +151,8 @@ IsWindowTold false call result before after = IsWindowMade call result before af
 IsWindowTold true call result before after = (result ≡ Ok found_menu) × IsToolboxUnchanged before after
 
 -- FindControl is asked for a point of a window where the menu lies that is pulled down: it is none of its controls
-abbrev pub is_under_menu : ToolboxState → PointInWindow → Bool
-is_under_menu s p = in_plane p.point && option_map_or (λ w. is_on_menu s (plus w.place p.point)) (record_with p.window s.desk.windows.desk.windows) false
-
 abbrev pub is_hidden_by_menu : ControlCall → ToolboxState → Bool
-is_hidden_by_menu (controls.Find p) s = is_under_menu s p
-is_hidden_by_menu _ s = false
+is_hidden_by_menu call s = is_behind_menu (control_asks call) s
 
 -- a call about controls leaves the events, the lists and the menus as they are, and is a step of the controls
 pub record IsControlAnswer (call : ControlCall) (result : Result ControlReply Refusal) (before after : ToolboxState) : Type 0 where
@@ -249,13 +257,17 @@ IsStep call answer before after = IsGated (gate before.desk.activity (standing_o
 
 -- ---- runs
 
--- from the first state these calls may have these answers and leave the last state: each step begins as the one before
--- it ended
+-- from the first state these calls may have these answers and lead to the last state, where each call makes such a step:
+-- each step begins as the one before it ended
+module _ {S : Type 0} (Step : Call → Result Reply Refusal → S → S → Type 0) where
+  abbrev pub IsRunOf : S → List Call → List (Result Reply Refusal) → S → Type 0
+  IsRunOf first [] [] last = last ≡ first
+  IsRunOf first (call ∷ calls) (answer ∷ answers) last = (middle : S) × Step call answer first middle × IsRunOf middle calls answers last
+  IsRunOf first [] (answer ∷ answers) last = ⊥
+  IsRunOf first (call ∷ calls) [] last = ⊥
+
 abbrev pub IsRunOfCalls : ToolboxState → List Call → List (Result Reply Refusal) → ToolboxState → Type 0
-IsRunOfCalls first [] [] last = last ≡ first
-IsRunOfCalls first (call ∷ calls) (answer ∷ answers) last = (middle : ToolboxState) × IsStep call answer first middle × IsRunOfCalls middle calls answers last
-IsRunOfCalls first [] (answer ∷ answers) last = ⊥
-IsRunOfCalls first (call ∷ calls) [] last = ⊥
+IsRunOfCalls = IsRunOf IsStep
 
 -- the serial of the window that was made, if one was
 abbrev pub serial_made : WindowReply → List ℕ

@@ -18,19 +18,21 @@ use Rattle.list_mgr.specs.WholeLists.{AreWholeLists, lists_state}
 use Rattle.list_mgr.specs.WholeLists as lists
 use Rattle.menu_mgr.specs.WholeMenus.{IsWholeMenus, menus_state}
 use Rattle.desk_toolbox.specs.declared.toolbox.Toolbox.{Toolbox}
+use Rattle.desk_toolbox.specs.FrontMaps.{IsFrontRight}
 use Rattle.desk_toolbox.specs.ToolboxStates.{ToolboxState}
 
 -- `loan` says what a window's definition that was taken means, `menu_loan` what a menu's, `control_loan` what a control's, and
 -- `list_loan` what a list's
 module _ {V : Type 0} {H : V → Type 0} (loan : TakenBox V H → WindowLoan) {W : Type 0} {K : W → Type 0} (menu_loan : TakenBox W K → MenuLoan)
     {U : Type 0} {J : U → Type 0} (control_loan : TakenBox U J → ControlLoan) {X : Type 0} {L : X → Type 0} (list_loan : TakenBox X L → ListLoan) where
-  -- a Toolbox and the slots of its stocks, of which each of its managers is whole
+  -- a Toolbox and the slots of its stocks, of which each of its managers is whole, and the map in front right
   pub record AreWholeManagers (t : Toolbox V U W X H J K L) (stocks : AllSlots) : Type 0 where
     pub windows : IsWholeManager loan t.windows stocks.windows
     pub updates : IsWholeUpdates loan t.activity t.windows t.updates
     pub controls : AreWholeControls (desk_of loan t.windows []).windows (controls_state control_loan t.controls stocks.controls)
     pub trackable : IsTrackable t.activity (records_of control_loan t.controls)
-    pub menus : IsWholeMenus menu_loan t.windows t.activity t.menus stocks.menus
+    pub menus : IsWholeMenus menu_loan t.activity t.menus stocks.menus
+    pub front : IsFrontRight menu_loan t.activity t.windows t.menus t.front
     pub lists : AreWholeLists (desk_of loan t.windows []).windows (lists_state list_loan t.lists stocks.lists)
 
   -- its state: what its windows show of controls and lists is what these show
@@ -49,7 +51,12 @@ module _ {V : Type 0} {H : V → Type 0} (loan : TakenBox V H → WindowLoan) {W
     pub managers : AreWholeManagers t stocks
     pub right : IsRightState (toolbox_state t stocks).desk.windows
 
-  -- a Toolbox by itself: it is whole over some slots
+  -- a Toolbox by itself: its managers are whole over some slots, whatever its screen shows
+  pub record AreKeptManagers (t : Toolbox V U W X H J K L) : Type 0 where
+    pub stocks : AllSlots
+    pub managers : AreWholeManagers t stocks
+
+  -- and it is whole over some slots
   pub record IsKeptToolbox (t : Toolbox V U W X H J K L) : Type 0 where
     pub stocks : AllSlots
     pub whole : IsWholeToolbox t stocks

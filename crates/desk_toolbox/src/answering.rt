@@ -1,20 +1,20 @@
 //! The answers to calls, each by its manager.
-ghost use Rattle.std.specs.Prelude.{◌≡◌, None, IfOk};
+ghost use Rattle.std.specs.Prelude.{◌≡◌, [], None, OnErr};
 ghost use Rattle.def_iface.specs.Stocks.{AllSlots};
+ghost use Rattle.desk_call.specs.declared.call.Call.TheVariants as calls;
 ghost use Rattle.desk_call.specs.declared.window.WindowCall.{WindowCall as Named};
 ghost use Rattle.desk_call.specs.Gates.{control_standing, gate, list_standing, standing_of, update_standing, window_standing};
+ghost use Rattle.desk_call.specs.Natures.{control_asks, nature_of, window_ends, window_nature};
 ghost use Rattle.control_mgr.specs.InUse.{AreStocked};
-ghost use Rattle.control_mgr.specs.WholeControls.{AreLiveControls, controls_state, records_of, slots_of};
-ghost use Rattle.list_mgr.specs.WholeLists.{AreLiveLists, lists_state};
+ghost use Rattle.control_mgr.specs.WholeControls.{AreLiveControls, slots_of};
+ghost use Rattle.list_mgr.specs.WholeLists.{AreLiveLists};
 ghost use Rattle.list_mgr.specs.WholeLists as whole_lists;
-ghost use Rattle.window_frame.specs.Economy.{IsEconomical, windows_of};
 ghost use Rattle.window_frame.specs.Followers.{AreInformed};
-ghost use Rattle.window_frame.specs.Outcomes.{outcome_of};
-ghost use Rattle.desk_toolbox.specs.Economy.{IsCallEconomical};
+ghost use Rattle.desk_toolbox.specs.Economy.{IsQuietRefusal};
 ghost use Rattle.desk_toolbox.specs.EventSteps.{events_left};
 ghost use Rattle.desk_toolbox.specs.Run.{AreControlsLeft, AreListsLeft, IsAdmitted, IsControlTold, IsEventAnswer};
-ghost use Rattle.desk_toolbox.specs.Run.{IsFormFault, IsListAnswer, IsUpdateTold, IsWindowTold, is_covered};
-ghost use Rattle.desk_toolbox.specs.Run.{is_hidden_by_menu, is_under_menu};
+ghost use Rattle.desk_toolbox.specs.Run.{IsFormFault, IsListAnswer, IsUpdateTold, IsWindowTold, is_behind_menu};
+ghost use Rattle.desk_toolbox.specs.Run.{is_covered, is_hidden_by_menu, is_under_menu};
 ghost use Rattle.desk_toolbox.specs.ToolboxStates.{ToolboxState};
 
 use crate::events::Events;
@@ -22,109 +22,97 @@ use crate::{
     Call, ControlCall, ControlReply, Desk, EventCall, EventReply, Found, ListCall, ListReply,
     PointInWindow, Reply, Toolbox, UpdateCall, WindowCall, WindowPart, WindowReply,
 };
-use control_mgr::Controls;
-use def_iface::{
-    ControlStock, Defined, ListStock, Stock, Stocked, StockedAll, TakenControl, TakenList,
-    TakenWindow,
-};
-use list_mgr::{Contents, Lists};
+use control_mgr::{Controls, ControlsOnStock};
+use def_iface::{ControlStock, ListStock, Stock, Stocked, StockedAll, TakenControl, TakenList};
+use desk_call::{Asked, Nature};
+use list_mgr::{Contents, Lists, ListsOnStock};
 use tb_geom::Refusal;
-use window_frame::{Outcome, follow, outcome_of};
+use window_frame::follow;
 use window_list::picture_place;
-use window_mgr::form_refusal;
+use window_mgr::{DeskWindows, WindowManager, form_refusal};
 use window_update::{first_to_update, update_form_refusal};
 
 impl Toolbox {
-    /// Performs one call that may come.
-    pub(crate) fn perform(&mut self, call: &Call<'_>, stock: &mut Stock) -> Result<Reply, Refusal>
+    /// Performs one call of this nature that may come.
+    pub(crate) fn perform(
+        &mut self,
+        call: &Call<'_>,
+        nature: Nature,
+        stock: &mut Stock,
+    ) -> Result<Reply, Refusal>
         requires whole { ⟦<Self as Desk>⟧.IsWhole self.old stock.old }
+        requires nature { nature ≡ nature_of call.now }
         requires admitted { gate self.old.activity (standing_of call.now) ≡ None }
         ensures whole { ⟦<Self as Desk>⟧.HasWholeManagers self.new stock.new }
         ensures step { IsAdmitted call.now result
             (⟦<Self as Desk>⟧.state self.old stock.old)
             (⟦<Self as Desk>⟧.state self.new stock.new) }
-        ensures economy { AreInformed (windows_of ⟦<TakenWindow as Defined>⟧.loan self.old.windows)
-            → IsCallEconomical ⟦<TakenWindow as Defined>⟧.loan call.now self.old.windows self.new.windows }
+        ensures economy { AreInformed (⟦<WindowManager as DeskWindows>⟧.desk self.old.windows []).windows
+            → ⟦<Self as Desk>⟧.IsEconomical call.now self.old self.new }
+        ensures quiet { IsQuietRefusal call.now result self.old.windows.screen self.new.windows.screen }
     {
         match call {
-            Call::Window(call) => match self.tell_window(call, stock) {
-                Ok(reply) => Ok(Reply::Window(reply)),
-                Err(refusal) => Err(refusal),
-            },
-            Call::Update(call) => match self.tell_update(call) {
-                Ok(reply) => Ok(Reply::Window(reply)),
-                Err(refusal) => Err(refusal),
-            },
+            Call::Window(call) => self.window_call(call, nature, stock).map(Reply::Window),
+            Call::Update(call) => self.update_call(call).map(Reply::Window),
             Call::Frame(call) => {
-                match window_frame::perform(&mut self.windows, &mut self.activity, call) {
-                    Ok(reply) => Ok(Reply::Frame(reply)),
-                    Err(refusal) => Err(refusal),
-                }
+                window_frame::perform(&mut self.windows, &mut self.activity, call).map(Reply::Frame)
             }
-            Call::Control(call) => match self.tell_control(call, stock) {
-                Ok(reply) => Ok(Reply::Control(reply)),
-                Err(refusal) => Err(refusal),
-            },
-            Call::List(call) => match self.tell_list(call, stock) {
-                Ok(reply) => Ok(Reply::List(reply)),
-                Err(refusal) => Err(refusal),
-            },
-            Call::Menu(call) => {
-                match self.menus.perform(
+            Call::Control(call) => self
+                .control_call(call, nature.asks, stock)
+                .map(Reply::Control),
+            Call::List(call) => self.list_call(call, stock).map(Reply::List),
+            Call::Menu(call) => self
+                .menus
+                .perform(
                     &mut self.windows,
+                    &mut self.front,
                     &mut self.activity,
                     call,
                     &mut stock.menus,
-                ) {
-                    Ok(reply) => Ok(Reply::Menu(reply)),
-                    Err(refusal) => Err(refusal),
-                }
-            }
-            Call::Outline(call) => match self.tell_outline(call, stock) {
-                Ok(reply) => Ok(Reply::Outline(reply)),
-                Err(refusal) => Err(refusal),
-            },
-            Call::Event(call) => match self.answer_event(*call) {
-                Ok(reply) => Ok(Reply::Event(reply)),
-                Err(refusal) => Err(refusal),
-            },
+                )
+                .map(Reply::Menu),
+            Call::Outline(call) => self.outline_call(call, stock).map(Reply::Outline),
+            Call::Event(call) => self.answer_event(*call).map(Reply::Event),
         }
     }
 
-    /// Answers a call on windows: whose a point of the pulled menu is, the menus tell; a region of the window whose update is open,
-    /// that update; and all else the windows perform. Once it was done, definitions are notified how their windows stand, and a
-    /// window that is gone is forgotten.
-    pub(crate) fn tell_window(
+    /// Answers a call on windows of this nature: whose a point of the pulled menu is, the menus tell; a region of the window whose
+    /// update is open, that update; and all else the windows perform. Once it was done, definitions are notified how their windows
+    /// stand, and a window that is gone is forgotten.
+    pub(crate) fn window_call(
         &mut self,
         call: &WindowCall<'_>,
+        nature: Nature,
         stock: &mut Stock,
     ) -> Result<WindowReply, Refusal>
         requires whole { ⟦<Self as Desk>⟧.IsWhole self.old stock.old }
+        requires nature { nature ≡ window_nature call.now }
         requires admitted { gate self.old.activity (window_standing call.now) ≡ None }
         ensures whole { ⟦<Self as Desk>⟧.HasWholeManagers self.new stock.new }
         ensures step { let before = ⟦<Self as Desk>⟧.state self.old stock.old in
             IsWindowTold (is_covered call.now before) call.now result before
             (⟦<Self as Desk>⟧.state self.new stock.new) }
-        ensures economy { AreInformed (windows_of ⟦<TakenWindow as Defined>⟧.loan self.old.windows)
-            → IsEconomical ⟦<TakenWindow as Defined>⟧.loan call.now self.old.windows self.new.windows }
+        ensures economy { AreInformed (⟦<WindowManager as DeskWindows>⟧.desk self.old.windows []).windows
+            → ⟦<Self as Desk>⟧.IsEconomical (calls.Window call.now) self.old self.new }
+        ensures quiet { OnErr result (self.new.windows.screen ≡ self.old.windows.screen) }
         ensures aside { (self.new.menus ≡ self.old.menus)
             × ((self.new.updates ≡ self.old.updates) × (self.new.activity ≡ self.old.activity)) }
+        ensures front { self.new.front ≡ self.old.front }
     {
-        if self.is_covered(call) {
+        if self.is_behind_menu(nature.asks) {
             return Ok(WindowReply::Found(Found {
                 part: WindowPart::InMenuBar,
                 window: None,
             }));
         }
-        if let Some(answer) = self.updates.tell(self.activity, call) {
+        if let Some(answer) = self.updates.answers(self.activity, nature.asks) {
             return answer;
         }
         match self.windows.perform(call, &mut stock.windows) {
             Ok(reply) => {
-                let outcome = outcome_of(call);
-                follow(&mut self.windows, outcome);
+                follow(&mut self.windows, nature.standing);
                 forget(
-                    outcome,
+                    nature.ends,
                     &mut self.events,
                     &mut self.controls,
                     &mut self.lists,
@@ -137,19 +125,20 @@ impl Toolbox {
         }
     }
 
-    /// Whether a call asks whose a point of the pulled menu is.
-    fn is_covered(&self, call: &WindowCall<'_>) -> bool
+    /// Whether what is asked for is a point of the pulled menu.
+    fn is_behind_menu(&self, asks: Asked) -> bool
         requires { ⟦<Self as Desk>⟧.IsKept self.now }
-        ensures { (stocks : AllSlots) → result ≡ is_covered call.now (⟦<Self as Desk>⟧.state_over self.now stocks) }
+        ensures { (stocks : AllSlots) → result ≡ is_behind_menu asks (⟦<Self as Desk>⟧.state_over self.now stocks) }
     {
-        match call {
-            WindowCall::Find(point) => self.menus.has_point(&self.windows, self.activity, *point),
+        match asks {
+            Asked::WindowAt(point) => self.menus.has_point(&self.windows, self.activity, point),
+            Asked::ControlAt(asked) => self.is_under_menu(asked),
             _ => false,
         }
     }
 
     /// Answers a call about what is to be redrawn.
-    fn tell_update(&mut self, call: &UpdateCall<'_>) -> Result<WindowReply, Refusal>
+    fn update_call(&mut self, call: &UpdateCall<'_>) -> Result<WindowReply, Refusal>
         requires kept { ⟦<Self as Desk>⟧.IsKept self.old }
         requires admitted { gate self.old.activity (update_standing call.now) ≡ None }
         ensures whole { (stocks : AllSlots)
@@ -169,20 +158,23 @@ impl Toolbox {
             .perform(&mut self.windows, &mut self.activity, call, &contents)
     }
 
-    /// Answers a call about controls: whose a point of the pulled menu is, the menus tell, and all else is performed.
-    fn tell_control(
+    /// Answers a call about controls that asks for this: whose a point of the pulled menu is, the menus tell, and all else is
+    /// performed.
+    fn control_call(
         &mut self,
         call: &ControlCall<'_>,
+        asks: Asked,
         stock: &mut Stock,
     ) -> Result<ControlReply, Refusal>
         requires whole { ⟦<Self as Desk>⟧.IsWhole self.old stock.old }
+        requires asks { asks ≡ control_asks call.now }
         requires admitted { gate self.old.activity (control_standing call.now) ≡ None }
         ensures whole { ⟦<Self as Desk>⟧.HasWholeManagers self.new stock.new }
         ensures step { let before = ⟦<Self as Desk>⟧.state self.old stock.old in
             IsControlTold (is_hidden_by_menu call.now before) call.now result before
             (⟦<Self as Desk>⟧.state self.new stock.new) }
     {
-        if self.is_hidden_by_menu(call) {
+        if self.is_behind_menu(asks) {
             return Ok(ControlReply::Found(None));
         }
         self.controls.perform(
@@ -191,18 +183,6 @@ impl Toolbox {
             call,
             &mut stock.controls,
         )
-    }
-
-    /// Whether a call asks for a control at a point of the pulled menu.
-    fn is_hidden_by_menu(&self, call: &ControlCall<'_>) -> bool
-        requires { ⟦<Self as Desk>⟧.IsKept self.now }
-        ensures { (stocks : AllSlots) → result
-            ≡ is_hidden_by_menu call.now (⟦<Self as Desk>⟧.state_over self.now stocks) }
-    {
-        match call {
-            ControlCall::Find(asked) => self.is_under_menu(*asked),
-            _ => false,
-        }
     }
 
     /// Whether a point of a window lies where the menu does that is pulled down.
@@ -224,7 +204,7 @@ impl Toolbox {
     }
 
     /// Answers a call about lists.
-    fn tell_list(&mut self, call: &ListCall<'_>, stock: &mut Stock) -> Result<ListReply, Refusal>
+    fn list_call(&mut self, call: &ListCall<'_>, stock: &mut Stock) -> Result<ListReply, Refusal>
         requires whole { ⟦<Self as Desk>⟧.IsWhole self.old stock.old }
         requires admitted { gate self.old.activity (list_standing call.now) ≡ None }
         ensures whole { ⟦<Self as Desk>⟧.HasWholeManagers self.new stock.new }
@@ -257,37 +237,32 @@ impl Toolbox {
     }
 }
 
-/// Forgets a window that is gone, once this came of a call: no event tells of it any more, and its controls and its lists go with
-/// it.
+/// Forgets the window that is gone once a call was done: no event tells of it any more, and its controls and its lists go with it.
 fn forget(
-    outcome: Outcome,
+    ends: Option<u64>,
     events: &mut Events,
     controls: &mut Controls<TakenControl>,
     lists: &mut Lists<TakenList>,
     control_stock: &mut ControlStock,
     list_stock: &mut ListStock,
 )
-    requires live { AreLiveControls (records_of ⟦<TakenControl as Defined>⟧.loan controls.old) }
+    requires live { AreLiveControls (⟦<Controls<TakenControl> as ControlsOnStock>⟧.records controls.old) }
     requires stocked { AreStocked (λ d. d.stage)
-        (slots_of (records_of ⟦<TakenControl as Defined>⟧.loan controls.old))
+        (slots_of (⟦<Controls<TakenControl> as ControlsOnStock>⟧.records controls.old))
         (⟦<ControlStock as Stocked>⟧.slots control_stock.old) }
-    requires live_lists { AreLiveLists (whole_lists.records_of ⟦<TakenList as Defined>⟧.loan lists.old) }
+    requires live_lists { AreLiveLists (⟦<Lists<TakenList> as ListsOnStock>⟧.records lists.old) }
     requires stocked_lists { AreStocked (λ d. d.stage)
-        (whole_lists.slots_of (whole_lists.records_of ⟦<TakenList as Defined>⟧.loan lists.old))
+        (whole_lists.slots_of (⟦<Lists<TakenList> as ListsOnStock>⟧.records lists.old))
         (⟦<ListStock as Stocked>⟧.slots list_stock.old) }
-    ensures events { (call : Named) → outcome_of call ≡ outcome → events.new ≡ events_left call events.old }
-    ensures controls { (call : Named) → outcome_of call ≡ outcome → AreControlsLeft call
-        (controls_state ⟦<TakenControl as Defined>⟧.loan controls.old
-        (⟦<ControlStock as Stocked>⟧.slots control_stock.old))
-        (controls_state ⟦<TakenControl as Defined>⟧.loan controls.new
-        (⟦<ControlStock as Stocked>⟧.slots control_stock.new)) }
-    ensures lists { (call : Named) → outcome_of call ≡ outcome → AreListsLeft call
-        (lists_state ⟦<TakenList as Defined>⟧.loan lists.old
-        (⟦<ListStock as Stocked>⟧.slots list_stock.old))
-        (lists_state ⟦<TakenList as Defined>⟧.loan lists.new
-        (⟦<ListStock as Stocked>⟧.slots list_stock.new)) }
+    ensures events { (call : Named) → window_ends call ≡ ends → events.new ≡ events_left call events.old }
+    ensures controls { (call : Named) → window_ends call ≡ ends → AreControlsLeft call
+        (⟦<Controls<TakenControl> as ControlsOnStock>⟧.state controls.old control_stock.old)
+        (⟦<Controls<TakenControl> as ControlsOnStock>⟧.state controls.new control_stock.new) }
+    ensures lists { (call : Named) → window_ends call ≡ ends → AreListsLeft call
+        (⟦<Lists<TakenList> as ListsOnStock>⟧.state lists.old list_stock.old)
+        (⟦<Lists<TakenList> as ListsOnStock>⟧.state lists.new list_stock.new) }
 {
-    if let Outcome::Ended(window) = outcome {
+    if let Some(window) = ends {
         events.forget(window);
         controls.end_of(window, control_stock);
         lists.end_of(window, list_stock);
@@ -295,7 +270,7 @@ fn forget(
 }
 
 /// Why a call is refused for its names and bytes alone, whatever is open.
-pub(crate) fn form_refusal_of(call: &Call<'_>, stock: &Stock) -> Option<Refusal>
+pub fn form_refusal_of(call: &Call<'_>, stock: &Stock) -> Option<Refusal>
     ensures { let stocks = ⟦<Stock as StockedAll>⟧.all_slots stock.now in
         (before : ToolboxState) → before.desk.windows.desk.stock ≡ stocks.windows → before.menus.stock ≡ stocks.menus
         → before.controls.stock ≡ stocks.controls → before.lists.stock ≡ stocks.lists

@@ -1,5 +1,9 @@
 //! A Toolbox over its stock, as contracts see the two.
+ghost use Rattle.std.specs.Prelude.{List, Result};
+ghost use Rattle.tb_geom.specs.declared.refusal.Refusal.{Refusal};
 ghost use Rattle.def_iface.specs.Stocks.{AllSlots};
+ghost use Rattle.desk_call.specs.declared.call.Call.{Call as Named};
+ghost use Rattle.desk_call.specs.declared.call.Reply.{Reply};
 ghost use Rattle.desk_toolbox.specs.Boxed as boxed;
 ghost use Rattle.desk_toolbox.specs.ToolboxStates.{ToolboxState};
 
@@ -35,6 +39,19 @@ pub trait Desk {
 
     /// Each of its managers is whole over slots.
     ghost HasWholeManagersOver: { Self → AllSlots → Type 0 };
+
+    /// Each of its managers is whole over some slots, whatever the screen shows: so a screen can be compared with what it should
+    /// show.
+    ghost HasKeptManagers: { Self → Type 0 };
+
+    /// A call that moves, sizes, shows, hides, selects, sends behind or disposes of a window, or ends a drag, was economical,
+    /// between these two: it wrote pixels only where their owner changed, the window moved, or a frame was to be drawn. Of other
+    /// calls it says nothing.
+    ghost IsEconomical: { Named → Self → Self → Type 0 };
+
+    /// These calls, answered so, led from the first desk to the last one, and each was economical where the desk that it
+    /// began on was consistent. A call on windows that was refused wrote nothing.
+    ghost IsEconomicalRun: { List Named → List (Result Reply Refusal) → Self → Self.Stock → Self → Self.Stock → Type 0 };
 }
 
 impl Desk for Toolbox {
@@ -60,4 +77,10 @@ impl Desk for Toolbox {
     ghost HasWholeManagers = { boxed.HasWholeManagers WindowDef-box MenuDef-box ControlDef-box ListDef-box };
 
     ghost HasWholeManagersOver = { boxed.HasWholeManagersOver WindowDef-box MenuDef-box ControlDef-box ListDef-box };
+
+    ghost HasKeptManagers = { boxed.HasKeptManagers WindowDef-box MenuDef-box ControlDef-box ListDef-box };
+
+    ghost IsEconomical = { boxed.IsEconomical WindowDef-box MenuDef-box ControlDef-box ListDef-box };
+
+    ghost IsEconomicalRun = { boxed.IsEconomicalRun WindowDef-box MenuDef-box ControlDef-box ListDef-box };
 }

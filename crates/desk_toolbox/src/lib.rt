@@ -9,6 +9,9 @@
 //! Busy where it has to wait, NotBusy where what it goes on with is not open. A call that may not come is still refused first
 //! for what is wrong with it alone: a name that no table has, or bytes without their form.
 //!
+//! The screen is the windows', and a map in front of it while a menu is pulled down or a window is dragged or grown. That map is
+//! the Toolbox's own: the managers that show something on it are lent it, and `IsFrontRight` says what it shows.
+//!
 //! Definitions live outside, in a `Stock` that each call is handed; `Toolbox::close` puts them back Closed. Contracts see the
 //! two together, as the members of `Desk` say.
 #![tactic(auto)]
@@ -19,6 +22,7 @@ mod events;
 mod outlining;
 mod toolbox;
 
+pub use answering::form_refusal_of;
 pub use desk::Desk;
 pub use desk_call::{
     Activity, AppendItems, AreaRef, Call, CheckItem, Choice, ControlCall, ControlInfo,

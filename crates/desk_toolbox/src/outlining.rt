@@ -1,19 +1,23 @@
 //! Calls about the outline of a window that is dragged or grown.
-ghost use Rattle.std.specs.Prelude.{◌≡◌, None};
+ghost use Rattle.std.specs.Prelude.{◌≡◌, [], None};
 ghost use Rattle.def_iface.specs.Stocks.{AllSlots};
 ghost use Rattle.desk_call.specs.declared.activity.Standing.TheVariants as Standing;
+ghost use Rattle.desk_call.specs.declared.call.Call.TheVariants as calls;
+ghost use Rattle.desk_call.specs.declared.window.WindowCall.TheVariants as asks;
 ghost use Rattle.desk_call.specs.Gates.{gate, outline_standing};
+ghost use Rattle.window_frame.specs.Followers.{AreInformed};
 ghost use Rattle.desk_toolbox.specs.Run.{IsLetGo, IsOutlineMoved, IsOutlineTold};
 
 use crate::{Activity, Desk, OutlineCall, OutlineReply, Toolbox, WindowCall};
 use def_iface::Stock;
 use desk_call::MoveWindow;
 use tb_geom::Refusal;
-use window_outline::{let_go, outlined_by};
+use window_mgr::{DeskWindows, WindowManager};
+use window_outline::{let_go, outlined_by, show_outline};
 
 impl Toolbox {
     /// Answers a call about an outline. Where it ends a drag in the gray region, the window is moved.
-    pub(crate) fn tell_outline(
+    pub(crate) fn outline_call(
         &mut self,
         call: &OutlineCall,
         stock: &mut Stock,
@@ -24,6 +28,8 @@ impl Toolbox {
         ensures step { IsOutlineTold call.now result
             (⟦<Self as Desk>⟧.state self.old stock.old)
             (⟦<Self as Desk>⟧.state self.new stock.new) }
+        ensures economy { AreInformed (⟦<WindowManager as DeskWindows>⟧.desk self.old.windows []).windows
+            → ⟦<Self as Desk>⟧.IsEconomical (calls.Outline call.now) self.old self.new }
     {
         match let_go(&self.windows, self.activity, call) {
             Some(drop) => self.drop_window(drop, stock),
@@ -46,8 +52,7 @@ impl Toolbox {
     {
         match outlined_by(&self.windows, self.activity, call) {
             Ok(next) => {
-                self.menus
-                    .show_outline(&self.windows, self.activity, next.activity);
+                show_outline(&mut self.front, &self.windows, self.activity, next.activity);
                 self.activity = next.activity;
                 Ok(next.reply)
             }
@@ -63,10 +68,13 @@ impl Toolbox {
         ensures step { IsLetGo drop result
             (⟦<Self as Desk>⟧.state self.old stock.old)
             (⟦<Self as Desk>⟧.state self.new stock.new) }
+        ensures economy { AreInformed (⟦<WindowManager as DeskWindows>⟧.desk self.old.windows []).windows
+            → ⟦<Self as Desk>⟧.IsEconomical (calls.Window (asks.Move drop)) self.old self.new }
     {
         let open = self.activity;
         self.activity = Activity::Idle;
-        let refusal = match self.tell_window(&WindowCall::Move(drop), stock) {
+        let call = WindowCall::Move(drop);
+        let refusal = match self.window_call(&call, call.nature(), stock) {
             Ok(_) => return Ok(OutlineReply::Shown(true)),
             Err(refusal) => refusal,
         };

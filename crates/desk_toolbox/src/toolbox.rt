@@ -4,11 +4,12 @@ ghost use Rattle.tb_geom.specs.Rects.{rect_holds};
 ghost use Rattle.def_iface.specs.WindowSlots.{WindowSlot, IsFull};
 ghost use Rattle.def_iface.specs.Stocks.{AllSlots, AreAllFull};
 ghost use Rattle.desk_ground.specs.Screens as screens;
-ghost use Rattle.window_mgr.specs.Begin.{IsEmptyDesk};
 ghost use Rattle.window_mgr.specs.Closing.{IsClosed};
 ghost use Rattle.window_mgr.specs.FullDesk.{IsRightState};
 ghost use Rattle.window_mgr.specs.Refused.{is_missing};
 ghost use Rattle.desk_call.specs.declared.activity.Activity.TheVariants.{Idle};
+ghost use Rattle.desk_call.specs.Gates.{standing_of};
+ghost use Rattle.desk_call.specs.Natures.{nature_of};
 ghost use Rattle.bit_map.specs.Bits.{bit, on_map};
 ghost use Rattle.control_mgr.specs.ControlClosing.{AreAllControlsClosed};
 ghost use Rattle.list_mgr.specs.ListClosing.{AreAllListsClosed};
@@ -18,7 +19,7 @@ ghost use Rattle.tb_geom.specs.declared.point.Point.{Point};
 ghost use Rattle.desk_toolbox.specs.Fronts.{screen_of};
 ghost use Rattle.window_update.specs.Rightness.{IsJudgement};
 ghost use Rattle.desk_toolbox.specs.Boxed.{no_slots};
-ghost use Rattle.desk_toolbox.specs.Economy.{IsCallEconomical};
+ghost use Rattle.desk_toolbox.specs.Economy.{IsQuietRefusal};
 ghost use Rattle.desk_toolbox.specs.EventSteps.{first_events};
 ghost use Rattle.desk_toolbox.specs.Reached.{IsConsistent, IsJustBegun};
 ghost use Rattle.desk_toolbox.specs.Run.{IsRunOfCalls, IsStep};
@@ -29,16 +30,18 @@ use crate::events::Events;
 use crate::{Activity, Call, Desk, Reply};
 use bit_map::BitMap;
 use control_mgr::Controls;
-use def_iface::{Defined, Stock, StockedAll, TakenControl, TakenList, TakenWindow};
+use def_iface::{Stock, StockedAll, TakenControl, TakenList};
+use desk_call::Nature;
 use desk_ground::is_screen;
 use list_mgr::{Contents, Lists};
 use menu_list::MenuList;
 use menu_mgr::Menus;
+use overlay::Overlay;
 use std::alloc::{AllocError, Global};
 use strike_font::Font;
 use tb_geom::{Rect, Refusal};
 use window_list::{Ranks, WindowList};
-use window_mgr::{NotBegun, WindowManager};
+use window_mgr::{DeskWindows, NotBegun, WindowManager};
 use window_update::Updates;
 
 /// A desk: its screen, its windows with their controls and lists, what of them has to be drawn, its menus, what is open, and the events that are to be told.
@@ -48,8 +51,10 @@ pub struct Toolbox {
     pub(crate) windows: WindowManager,
     /// The controls of its windows.
     pub(crate) controls: Controls<TakenControl>,
-    /// Its menus, and the map on which the one lies that is pulled down.
     pub(crate) menus: Menus,
+    /// The map in front of its windows' screen, on which the menu lies that is pulled down, or the outline of a window that is
+    /// dragged or grown.
+    pub(crate) front: Overlay,
     /// The lists of its windows.
     pub(crate) lists: Lists<TakenList>,
     /// What is open between its begin and its end.
@@ -63,6 +68,7 @@ pub struct Toolbox {
 struct DeskParts {
     updates: Updates,
     menus: Menus,
+    front: Overlay,
     events: Events,
 }
 
@@ -73,13 +79,15 @@ impl DeskParts {
         requires height { screens.is_screen_side height ≡ true }
         ensures updates { IfOk result (λ p. (pos p.updates.buffer.width ≡ width)
             × (pos p.updates.buffer.height ≡ height)) }
-        ensures menus { IfOk result (λ p. AreNoMenus width height p.menus) }
+        ensures menus { IfOk result (λ p. AreNoMenus p.menus) }
+        ensures front { IfOk result (λ p. (pos p.front.front.width ≡ width) × (pos p.front.front.height ≡ height)) }
         ensures events { IfOk result (λ p. p.events ≡ first_events) }
     {
         Ok(DeskParts {
             updates: Updates::new(alloc, width, height)?,
             events: Events::new(alloc)?,
-            menus: Menus::new(alloc, width, height, MenuList::new(alloc)?)?,
+            menus: Menus::new(alloc, MenuList::new(alloc)?),
+            front: Overlay::new(alloc, width, height)?,
         })
     }
 }
@@ -97,7 +105,7 @@ impl Toolbox {
         font: Font,
     ) -> Result<Toolbox, NotBegun>
         ensures begun { IfOk result (λ t. (slots : List WindowSlot) → All IsFull slots
-            → IsEmptyDesk ⟦<TakenWindow as Defined>⟧.loan width height bar font t.windows slots) }
+            → ⟦<WindowManager as DeskWindows>⟧.IsEmpty width height bar font t.windows slots) }
         ensures idle { IfOk result (λ t. t.activity ≡ Idle) }
         ensures events { IfOk result (λ t. t.events ≡ first_events) }
         ensures whole { IfOk result (λ t. (stocks : AllSlots) → AreAllFull stocks
@@ -134,9 +142,10 @@ impl Toolbox {
     ) -> Result<Toolbox, NotBegun>
         requires width { pos parts.updates.buffer.width ≡ width }
         requires height { pos parts.updates.buffer.height ≡ height }
-        requires menus { AreNoMenus width height parts.menus }
+        requires menus { AreNoMenus parts.menus }
+        requires front { (pos parts.front.front.width ≡ width) × (pos parts.front.front.height ≡ height) }
         ensures begun { IfOk result (λ t. (slots : List WindowSlot) → All IsFull slots
-            → IsEmptyDesk ⟦<TakenWindow as Defined>⟧.loan width height bar font t.windows slots) }
+            → ⟦<WindowManager as DeskWindows>⟧.IsEmpty width height bar font t.windows slots) }
         ensures idle { IfOk result (λ t. t.activity ≡ Idle) }
         ensures events { IfOk result (λ t. t.events ≡ parts.events) }
         ensures menus { IfOk result (λ t. t.menus ≡ parts.menus) }
@@ -151,6 +160,7 @@ impl Toolbox {
         let DeskParts {
             updates,
             menus,
+            front,
             events,
         } = parts;
         let none = WindowList::new(Ranks::new(alloc));
@@ -160,6 +170,7 @@ impl Toolbox {
                 windows,
                 controls: Controls::new(alloc),
                 menus,
+                front,
                 lists: Lists::new(alloc),
                 activity: Activity::Idle,
                 updates,
@@ -172,7 +183,7 @@ impl Toolbox {
     /// The screen: the pulled menu where it lies, and else what the windows, the menu bar and the desktop show, with the outline
     /// of a window that is dragged or grown.
     pub fn screen(&self) -> &BitMap
-        requires { ⟦<Self as Desk>⟧.IsKept self.now }
+        requires { ⟦<Self as Desk>⟧.HasKeptManagers self.now }
         ensures width { result.now.width ≡ self.now.windows.screen.width }
         ensures height { result.now.height ≡ self.now.windows.screen.height }
         ensures shown { (stocks : AllSlots) (p : Point) → on_map result.now p ≡ true
@@ -180,7 +191,7 @@ impl Toolbox {
     {
         match self.activity {
             Activity::Pulling(_) | Activity::Dragging(_) | Activity::Growing(_) => {
-                self.menus.screen()
+                self.front.front()
             }
             _ => self.windows.screen(),
         }
@@ -234,6 +245,7 @@ impl Toolbox {
     /// Performs one call, and gives its answer. A refused call changes nothing; which refusal comes
     /// first where several would do stands with the call. While something is open, a call that may not
     /// come then is refused for that, but first for a name that no table has, or bytes without their form.
+    #[tactic(auto, using(crate::proofs::Quiet::quiet_untouched, crate::proofs::Quiet::spared_untouched))]
     pub fn call(&mut self, call: &Call<'_>, stock: &mut Stock) -> Result<Reply, Refusal>
         requires { ⟦<Self as Desk>⟧.IsWhole self.old stock.old }
         ensures whole { ⟦<Self as Desk>⟧.IsWhole self.new stock.new }
@@ -243,10 +255,12 @@ impl Toolbox {
         ensures right { IsRightState (⟦<Self as Desk>⟧.state self.old stock.old).desk.windows
             → IsRightState (⟦<Self as Desk>⟧.state self.new stock.new).desk.windows }
         ensures economy { IsConsistent (⟦<Self as Desk>⟧.state self.old stock.old)
-            → IsCallEconomical ⟦<TakenWindow as Defined>⟧.loan call.now self.old.windows self.new.windows }
+            → ⟦<Self as Desk>⟧.IsEconomical call.now self.old self.new }
+        ensures quiet { IsQuietRefusal call.now result self.old.windows.screen self.new.windows.screen }
     {
-        match self.activity.admit(call.standing()) {
-            Ok(()) => self.perform(call, stock),
+        let nature = nature_of(call);
+        match self.activity.admit(nature.standing) {
+            Ok(()) => self.perform(call, nature, stock),
             Err(refusal) => match form_refusal_of(call, stock) {
                 Some(form) => Err(form),
                 None => Err(refusal),
@@ -270,6 +284,8 @@ impl Toolbox {
         ensures kept { OnErr result (IsToolboxUnchanged
             (⟦<Self as Desk>⟧.state self.old stock.old)
             (⟦<Self as Desk>⟧.state self.new stock.new)) }
+        ensures economy { IfOk result (λ answers. ⟦<Self as Desk>⟧.IsEconomicalRun
+            calls.now answers.items self.old stock.old self.new stock.new) }
         ensures right { IsRightState (⟦<Self as Desk>⟧.state self.old stock.old).desk.windows
             → IsRightState (⟦<Self as Desk>⟧.state self.new stock.new).desk.windows }
     {
@@ -303,7 +319,8 @@ impl Toolbox {
     }
 
     /// Ends the desk: the definition of every window, control, list and menu is disposed of, and put back Closed into its slot,
-    /// while every other slot stays as it was. Takes no memory, and refuses nothing.
+    /// while every other slot stays as it was: so each slot is full again, and a desk can begin with them. Takes no memory, and
+    /// refuses nothing.
     pub fn close(self, stock: &mut Stock)
         requires { ⟦<Self as Desk>⟧.IsWhole self stock.old }
         ensures windows { let old = ⟦<Self as Desk>⟧.state self stock.old in
@@ -316,6 +333,7 @@ impl Toolbox {
             AreAllListsClosed old.lists.lists old.lists.stock (⟦<Stock as StockedAll>⟧.all_slots stock.new).lists }
         ensures menus { let old = ⟦<Self as Desk>⟧.state self stock.old in
             AreMenusClosed old.menus.menus old.menus.stock (⟦<Stock as StockedAll>⟧.all_slots stock.new).menus }
+        ensures full { AreAllFull (⟦<Stock as StockedAll>⟧.all_slots stock.new) }
     {
         let Toolbox {
             windows,
@@ -329,4 +347,12 @@ impl Toolbox {
         windows.close(&mut stock.windows);
         menus.close(&mut stock.menus);
     }
+}
+
+/// The nature of a call, which says when the call may come.
+fn nature_of(call: &Call<'_>) -> Nature
+    ensures nature { result ≡ nature_of call.now }
+    ensures standing { result.standing ≡ standing_of call.now }
+{
+    call.nature()
 }

@@ -1,11 +1,9 @@
 //! Calls, carried out by the library and by the model, and what both then have.
 ghost use Rattle.std.specs.Prelude.{◌<◌, All, IfOk, length};
 ghost use Rattle.def_iface.specs.WindowSlots.{IsFull};
-ghost use Rattle.window_mgr.specs.Whole.{IsWholeManager};
-ghost use Rattle.window_update.specs.WholeUpdates.{IsWholeUpdates};
 
 use bit_map::{BitMap, Mode, Pattern};
-use def_iface::{Defined, Size, Stocked, TakenWindow, WindowStock};
+use def_iface::{Size, Stocked, WindowStock};
 use desk_call::{Activity, PictureRef};
 use desk_layers::Part;
 use draw_port::{Op, Picture, Shade, Shape as Form};
@@ -20,10 +18,10 @@ use striped_layers::updating::{update, update_at_once, updates_for};
 use tb_geom::{BytesRef, Point, Rect, Refusal};
 use window_list::{Ranks, WindowList};
 use window_mgr::{
-    Drawing, MoveWindow, NewPicture, NewWindow, ScrollPicture, SendBehind, SizeWindow, WindowCall,
-    WindowManager,
+    DeskWindows, Drawing, MoveWindow, NewPicture, NewWindow, ScrollPicture, SendBehind, SizeWindow,
+    WindowCall, WindowManager,
 };
-use window_update::{LayerDraw, LayerKind as Kind, UpdateCall, Updates};
+use window_update::{DeskUpdates, LayerDraw, LayerKind as Kind, UpdateCall, Updates};
 
 const ORIGIN: Point = Point { h: 0, v: 0 };
 
@@ -107,8 +105,7 @@ impl Desk {
     /// yet.
     pub fn new(alloc: Global, stock: WindowStock) -> Result<Desk, Refusal>
         requires { All IsFull (⟦<WindowStock as Stocked>⟧.slots stock) }
-        ensures { IfOk result (λ d. IsWholeManager ⟦<TakenWindow as Defined>⟧.loan d.windows
-            (⟦<WindowStock as Stocked>⟧.slots d.stock)) }
+        ensures { IfOk result (λ d. ⟦<WindowManager as DeskWindows>⟧.IsWhole d.windows d.stock) }
     {
         let list = WindowList::new(Ranks::new(alloc));
         let font = Font::built_in(alloc)?;
@@ -131,10 +128,8 @@ impl Desk {
 
     /// Makes the window of the library that this one of the model is.
     fn open(&mut self, serial: u64) -> Result<(), Refusal>
-        requires { IsWholeManager ⟦<TakenWindow as Defined>⟧.loan self.old.windows
-            (⟦<WindowStock as Stocked>⟧.slots self.old.stock) }
-        ensures { IsWholeManager ⟦<TakenWindow as Defined>⟧.loan self.new.windows
-            (⟦<WindowStock as Stocked>⟧.slots self.new.stock) }
+        requires { ⟦<WindowManager as DeskWindows>⟧.IsWhole self.old.windows self.old.stock }
+        ensures { ⟦<WindowManager as DeskWindows>⟧.IsWhole self.new.windows self.new.stock }
     {
         let mut desk = self.plain.desk;
         let at = desk.index_of(serial);
@@ -157,8 +152,7 @@ impl Desk {
 
     /// Whether each pixel of the screen, and each region that is kept, is what the model has.
     pub fn agrees(&self) -> bool
-        requires { IsWholeManager ⟦<TakenWindow as Defined>⟧.loan self.now.windows
-            (⟦<WindowStock as Stocked>⟧.slots self.now.stock) }
+        requires { ⟦<WindowManager as DeskWindows>⟧.IsWhole self.now.windows self.now.stock }
     {
         for v in 0..16 {
             for h in 0..24 {
@@ -171,8 +165,7 @@ impl Desk {
     }
 
     fn agrees_at(&self, point: Point) -> bool
-        requires { IsWholeManager ⟦<TakenWindow as Defined>⟧.loan self.now.windows
-            (⟦<WindowStock as Stocked>⟧.slots self.now.stock) }
+        requires { ⟦<WindowManager as DeskWindows>⟧.IsWhole self.now.windows self.now.stock }
     {
         if is_black(self.windows.screen(), point) != self.plain.is_black(point) {
             return false;
@@ -217,10 +210,8 @@ impl Desk {
 
     /// Carries out a step, and answers whether the library and the model then agree.
     pub fn follows(&mut self, step: Step) -> Result<bool, Refusal>
-        requires { IsWholeManager ⟦<TakenWindow as Defined>⟧.loan self.old.windows
-            (⟦<WindowStock as Stocked>⟧.slots self.old.stock) }
-        ensures { IsWholeManager ⟦<TakenWindow as Defined>⟧.loan self.new.windows
-            (⟦<WindowStock as Stocked>⟧.slots self.new.stock) }
+        requires { ⟦<WindowManager as DeskWindows>⟧.IsWhole self.old.windows self.old.stock }
+        ensures { ⟦<WindowManager as DeskWindows>⟧.IsWhole self.new.windows self.new.stock }
     {
         match step {
             Step::Update(window, kinds) => return self.update(window, kinds),
@@ -234,10 +225,8 @@ impl Desk {
 
     /// Whether the library refuses a step as out of range, and stays as it was.
     pub fn refuses(&mut self, step: Step) -> bool
-        requires { IsWholeManager ⟦<TakenWindow as Defined>⟧.loan self.old.windows
-            (⟦<WindowStock as Stocked>⟧.slots self.old.stock) }
-        ensures { IsWholeManager ⟦<TakenWindow as Defined>⟧.loan self.new.windows
-            (⟦<WindowStock as Stocked>⟧.slots self.new.stock) }
+        requires { ⟦<WindowManager as DeskWindows>⟧.IsWhole self.old.windows self.old.stock }
+        ensures { ⟦<WindowManager as DeskWindows>⟧.IsWhole self.new.windows self.new.stock }
     {
         let answer = self.perform(step);
         is_out_of_range(answer) && self.agrees()
@@ -245,10 +234,8 @@ impl Desk {
 
     /// Carries out a step that is no update by the library.
     fn perform(&mut self, step: Step) -> Result<(), Refusal>
-        requires { IsWholeManager ⟦<TakenWindow as Defined>⟧.loan self.old.windows
-            (⟦<WindowStock as Stocked>⟧.slots self.old.stock) }
-        ensures { IsWholeManager ⟦<TakenWindow as Defined>⟧.loan self.new.windows
-            (⟦<WindowStock as Stocked>⟧.slots self.new.stock) }
+        requires { ⟦<WindowManager as DeskWindows>⟧.IsWhole self.old.windows self.old.stock }
+        ensures { ⟦<WindowManager as DeskWindows>⟧.IsWhole self.new.windows self.new.stock }
     {
         match step {
             Step::Put(window, part, shown, rect) => {
@@ -264,20 +251,16 @@ impl Desk {
     }
 
     fn call(&mut self, call: &WindowCall<'_>) -> Result<(), Refusal>
-        requires { IsWholeManager ⟦<TakenWindow as Defined>⟧.loan self.old.windows
-            (⟦<WindowStock as Stocked>⟧.slots self.old.stock) }
-        ensures { IsWholeManager ⟦<TakenWindow as Defined>⟧.loan self.new.windows
-            (⟦<WindowStock as Stocked>⟧.slots self.new.stock) }
+        requires { ⟦<WindowManager as DeskWindows>⟧.IsWhole self.old.windows self.old.stock }
+        ensures { ⟦<WindowManager as DeskWindows>⟧.IsWhole self.new.windows self.new.stock }
     {
         let _done = self.windows.perform(call, &mut self.stock)?;
         Ok(())
     }
 
     fn replace(&mut self, window: u64, painting: Painting, origin: Point) -> Result<(), Refusal>
-        requires { IsWholeManager ⟦<TakenWindow as Defined>⟧.loan self.old.windows
-            (⟦<WindowStock as Stocked>⟧.slots self.old.stock) }
-        ensures { IsWholeManager ⟦<TakenWindow as Defined>⟧.loan self.new.windows
-            (⟦<WindowStock as Stocked>⟧.slots self.new.stock) }
+        requires { ⟦<WindowManager as DeskWindows>⟧.IsWhole self.old.windows self.old.stock }
+        ensures { ⟦<WindowManager as DeskWindows>⟧.IsWhole self.new.windows self.new.stock }
     {
         let picture = picture(self.alloc, painting)?;
         self.call(&WindowCall::SetPicture(NewPicture {
@@ -294,22 +277,18 @@ impl Desk {
         activity: &mut Activity,
         call: &UpdateCall<'_>,
     ) -> Result<(), Refusal>
-        requires whole { IsWholeManager ⟦<TakenWindow as Defined>⟧.loan self.old.windows
-            (⟦<WindowStock as Stocked>⟧.slots self.old.stock) }
-        requires updates { IsWholeUpdates ⟦<TakenWindow as Defined>⟧.loan activity.old self.old.windows updates.old }
-        ensures whole { IsWholeManager ⟦<TakenWindow as Defined>⟧.loan self.new.windows
-            (⟦<WindowStock as Stocked>⟧.slots self.new.stock) }
-        ensures updates { IsWholeUpdates ⟦<TakenWindow as Defined>⟧.loan activity.new self.new.windows updates.new }
+        requires whole { ⟦<WindowManager as DeskWindows>⟧.IsWhole self.old.windows self.old.stock }
+        requires updates { ⟦<Updates as DeskUpdates>⟧.IsWhole activity.old self.old.windows updates.old }
+        ensures whole { ⟦<WindowManager as DeskWindows>⟧.IsWhole self.new.windows self.new.stock }
+        ensures updates { ⟦<Updates as DeskUpdates>⟧.IsWhole activity.new self.new.windows updates.new }
     {
         update(&mut self.windows, updates, activity, call)
     }
 
     /// Begins the update of a window, draws these kinds of layers, and ends it.
     fn update(&mut self, window: u64, kinds: &[Kind]) -> Result<bool, Refusal>
-        requires { IsWholeManager ⟦<TakenWindow as Defined>⟧.loan self.old.windows
-            (⟦<WindowStock as Stocked>⟧.slots self.old.stock) }
-        ensures { IsWholeManager ⟦<TakenWindow as Defined>⟧.loan self.new.windows
-            (⟦<WindowStock as Stocked>⟧.slots self.new.stock) }
+        requires { ⟦<WindowManager as DeskWindows>⟧.IsWhole self.old.windows self.old.stock }
+        ensures { ⟦<WindowManager as DeskWindows>⟧.IsWhole self.new.windows self.new.stock }
     {
         let mut updates = updates_for(self.alloc, &self.windows)?;
         let mut activity = Activity::Idle;
@@ -330,20 +309,16 @@ impl Desk {
 
     /// Performs a call on updates while none is open.
     fn update_at_once(&mut self, call: &UpdateCall<'_>) -> Result<(), Refusal>
-        requires { IsWholeManager ⟦<TakenWindow as Defined>⟧.loan self.old.windows
-            (⟦<WindowStock as Stocked>⟧.slots self.old.stock) }
-        ensures { IsWholeManager ⟦<TakenWindow as Defined>⟧.loan self.new.windows
-            (⟦<WindowStock as Stocked>⟧.slots self.new.stock) }
+        requires { ⟦<WindowManager as DeskWindows>⟧.IsWhole self.old.windows self.old.stock }
+        ensures { ⟦<WindowManager as DeskWindows>⟧.IsWhole self.new.windows self.new.stock }
     {
         update_at_once(self.alloc, &mut self.windows, call)
     }
 
     /// Serves a window.
     fn serve(&mut self, window: u64) -> Result<bool, Refusal>
-        requires { IsWholeManager ⟦<TakenWindow as Defined>⟧.loan self.old.windows
-            (⟦<WindowStock as Stocked>⟧.slots self.old.stock) }
-        ensures { IsWholeManager ⟦<TakenWindow as Defined>⟧.loan self.new.windows
-            (⟦<WindowStock as Stocked>⟧.slots self.new.stock) }
+        requires { ⟦<WindowManager as DeskWindows>⟧.IsWhole self.old.windows self.old.stock }
+        ensures { ⟦<WindowManager as DeskWindows>⟧.IsWhole self.new.windows self.new.stock }
     {
         self.update_at_once(&UpdateCall::Serve(window))?;
         self.plain = self.plain.served(self.alloc, window)?;

@@ -15,7 +15,13 @@ use Rattle.list_cells.proofs.GridLemmas.{columns_left, columns_more, lines_withi
 use Rattle.list_view.specs.declared.axis.Axis.{Axis}
 use Rattle.list_view.specs.Axes.{IsLine, scrolled_line}
 use Rattle.list_view.proofs.LineLemmas.{scrolled_least, scrolled_most}
+use Rattle.desk_call.specs.declared.list.ListLines.{ListLines}
 use Rattle.control_mgr.proofs.Steps.{none_hold}
+use Rattle.list_mgr.specs.declared.line_edit.LineAxis.{LineAxis}
+use Rattle.list_mgr.specs.declared.line_edit.LineAxis.TheVariants.{Columns, Rows}
+use Rattle.list_mgr.specs.declared.line_edit.LineChange.{LineChange}
+use Rattle.list_mgr.specs.declared.line_edit.LineChange.TheVariants.{Add, Delete}
+use Rattle.list_mgr.specs.LineEdits.{changed_by, refusals_of}
 use Rattle.list_mgr.specs.ListDesks.{KeptList}
 use Rattle.list_mgr.specs.ListSteps.{with_columns_fewer, with_columns_more, with_grid, with_rows_fewer, with_rows_more, with_scroll}
 use Rattle.list_mgr.specs.WholeLists.{IsSettledList}
@@ -83,7 +89,7 @@ in_rows_length width k change each (suc rows) cells len =
 
 -- ---- what holds between calls
 
-pub rows_added_grid : {flags : SelectionFlags} (g : Grid) (at : ℕ) (n : ℤ) → IsGrid g → MayAdd g.rows g.columns n → MayBecomeWider flags g (rows_added at (nat_abs n) g)
+rows_added_grid : {flags : SelectionFlags} (g : Grid) (at : ℕ) (n : ℤ) → IsGrid g → MayAdd g.rows g.columns n → MayBecomeWider flags g (rows_added at (nat_abs n) g)
 rows_added_grid g at n is may = record {
   cells = record {
     grid = rows_more g (rows_added at (nat_abs n) g) (nat_abs n) is may.lines_within may.cells_within refl refl
@@ -94,7 +100,7 @@ rows_added_grid g at n is may = record {
   rows = omega arith;
 }
 
-pub columns_added_grid : {flags : SelectionFlags} (g : Grid) (at : ℕ) (n : ℤ) → IsGrid g → MayAdd g.columns g.rows n → MayBecomeWider flags g (columns_added at (nat_abs n) g)
+columns_added_grid : {flags : SelectionFlags} (g : Grid) (at : ℕ) (n : ℤ) → IsGrid g → MayAdd g.columns g.rows n → MayBecomeWider flags g (columns_added at (nat_abs n) g)
 columns_added_grid g at n is may =
     let len = in_rows_length g.columns (g.columns + nat_abs n) (opened at (nat_abs n)) (λ cells e. opened_length at (nat_abs n) cells ∙ ap (λ k. k + nat_abs n) e) g.rows g.contents is.shape in
     record {
@@ -106,7 +112,7 @@ columns_added_grid g at n is may =
       rows = omega arith;
     }
 
-pub rows_deleted_grid : {flags : SelectionFlags} (g : Grid) (n first : ℤ) → IsGrid g → MayDelete g.rows n first → MayBecome flags g (rows_deleted (nat_abs first) (count_to_delete g.rows n first) g)
+rows_deleted_grid : {flags : SelectionFlags} (g : Grid) (n first : ℤ) → IsGrid g → MayDelete g.rows n first → MayBecome flags g (rows_deleted (nat_abs first) (count_to_delete g.rows n first) g)
 rows_deleted_grid g n first is may =
     let at = nat_abs first in
     let k = count_to_delete g.rows n first in
@@ -119,7 +125,7 @@ rows_deleted_grid g n first is may =
 parted : (rows a b both : ℕ) → a + b ≡ both → rows * a + rows * b ≡ rows * both
 parted rows a b both e = let h : (a + b) * rows ≡ both * rows = ap (λ k. k * rows) e in grind arith
 
-pub columns_deleted_grid : {flags : SelectionFlags} (g : Grid) (n first : ℤ) → IsGrid g → MayDelete g.columns n first
+columns_deleted_grid : {flags : SelectionFlags} (g : Grid) (n first : ℤ) → IsGrid g → MayDelete g.columns n first
     → MayBecome flags g (columns_deleted (nat_abs first) (count_to_delete g.columns n first) g)
 columns_deleted_grid g n first is may =
     let at = nat_abs first in
@@ -135,19 +141,35 @@ columns_deleted_grid g n first is may =
 
 -- ---- that the cells are others
 
-pub rows_added_other : (g : Grid) (at : ℕ) (n : ℤ) → MayAdd g.rows g.columns n → rows_added at (nat_abs n) g ≡ g → ⊥
+rows_added_other : (g : Grid) (at : ℕ) (n : ℤ) → MayAdd g.rows g.columns n → rows_added at (nat_abs n) g ≡ g → ⊥
 rows_added_other g at n may same = let rows : g.rows + nat_abs n ≡ g.rows = ap (λ (h : Grid). h.rows) same in omega (arith, rows, may.some)
 
-pub columns_added_other : (g : Grid) (at : ℕ) (n : ℤ) → MayAdd g.columns g.rows n → columns_added at (nat_abs n) g ≡ g → ⊥
+columns_added_other : (g : Grid) (at : ℕ) (n : ℤ) → MayAdd g.columns g.rows n → columns_added at (nat_abs n) g ≡ g → ⊥
 columns_added_other g at n may same = let columns : g.columns + nat_abs n ≡ g.columns = ap (λ (h : Grid). h.columns) same in omega (arith, columns, may.some)
 
-pub rows_deleted_other : (g : Grid) (n first : ℤ) → MayDelete g.rows n first → rows_deleted (nat_abs first) (count_to_delete g.rows n first) g ≡ g → ⊥
+rows_deleted_other : (g : Grid) (n first : ℤ) → MayDelete g.rows n first → rows_deleted (nat_abs first) (count_to_delete g.rows n first) g ≡ g → ⊥
 rows_deleted_other g n first may same =
     let rows : g.rows - count_to_delete g.rows n first ≡ g.rows = ap (λ (h : Grid). h.rows) same in omega (arith, rows, may.some, may.within)
 
-pub columns_deleted_other : (g : Grid) (n first : ℤ) → MayDelete g.columns n first → columns_deleted (nat_abs first) (count_to_delete g.columns n first) g ≡ g → ⊥
+columns_deleted_other : (g : Grid) (n first : ℤ) → MayDelete g.columns n first → columns_deleted (nat_abs first) (count_to_delete g.columns n first) g ≡ g → ⊥
 columns_deleted_other g n first may same =
     let columns : g.columns - count_to_delete g.columns n first ≡ g.columns = ap (λ (h : Grid). h.columns) same in omega (arith, columns, may.some, may.within)
+
+-- ---- what an edit makes of cells
+
+pub edit_wider : {flags : SelectionFlags} (axis : LineAxis) (n : ListLines) (g : Grid) → IsGrid g → first_refusal (refusals_of Add axis n g) ≡ None → MayBecomeWider flags g (changed_by Add axis n g)
+edit_wider Rows n g is none = rows_added_grid g (place_to_add g.rows n.at) n.count is (may_add g.rows g.columns n.count n.at none)
+edit_wider Columns n g is none = columns_added_grid g (place_to_add g.columns n.at) n.count is (may_add g.columns g.rows n.count n.at none)
+
+pub edit_fewer : {flags : SelectionFlags} (axis : LineAxis) (n : ListLines) (g : Grid) → IsGrid g → first_refusal (refusals_of Delete axis n g) ≡ None → MayBecome flags g (changed_by Delete axis n g)
+edit_fewer Rows n g is none = rows_deleted_grid g n.count n.at is (may_delete g.rows n.count n.at none)
+edit_fewer Columns n g is none = columns_deleted_grid g n.count n.at is (may_delete g.columns n.count n.at none)
+
+pub edit_other : (change : LineChange) (axis : LineAxis) (n : ListLines) (g : Grid) → first_refusal (refusals_of change axis n g) ≡ None → changed_by change axis n g ≡ g → ⊥
+edit_other Add Rows n g none = rows_added_other g (place_to_add g.rows n.at) n.count (may_add g.rows g.columns n.count n.at none)
+edit_other Add Columns n g none = columns_added_other g (place_to_add g.columns n.at) n.count (may_add g.columns g.rows n.count n.at none)
+edit_other Delete Rows n g none = rows_deleted_other g n.count n.at (may_delete g.rows n.count n.at none)
+edit_other Delete Columns n g none = columns_deleted_other g n.count n.at (may_delete g.columns n.count n.at none)
 
 -- ---- scrolled
 

@@ -22,11 +22,18 @@ use Rattle.list_view.specs.Axes.{IsAxis, line_at, line_start}
 use Rattle.list_view.specs.Views.{IsView, View, any_cell_at, cell_at, cell_corner, is_before, view_rect}
 use Rattle.list_view.proofs.LineLemmas.{lies_in_line, line_at_counted, mul_le}
 use Rattle.list_view.specs.Shown.{cell_shown, in_cell, list_shown}
+use Rattle.desk_call.specs.declared.list.ListLines.{ListLines}
 use Rattle.control_mgr.proofs.Steps.{none_hold}
 use Rattle.list_mgr.specs.Changing.{IsSameOrNot}
-use Rattle.list_mgr.specs.LinesFrom.{AreColumnsFrom, AreRowsFrom}
+use Rattle.list_mgr.specs.LinesFrom.{AreLinesFrom}
 use Rattle.list_mgr.specs.ListDesks.{KeptList}
-use Rattle.list_mgr.specs.ListSteps.{with_columns_fewer, with_columns_more, with_grid, with_rows_fewer, with_rows_more}
+use Rattle.list_mgr.specs.ListSteps.{with_grid}
+use Rattle.list_mgr.specs.declared.line_edit.LineAxis.{LineAxis}
+use Rattle.list_mgr.specs.declared.line_edit.LineAxis.TheVariants.{Columns, Rows}
+use Rattle.list_mgr.specs.declared.line_edit.LineChange.{LineChange}
+use Rattle.list_mgr.specs.declared.line_edit.LineChange.TheVariants.{Add, Delete}
+use Rattle.list_mgr.specs.declared.line_edit.LineEdit.{LineEdit}
+use Rattle.list_mgr.specs.LineEdits.{changed_by, edit_refusals, edited, first_changed, first_line, line_of, refusals_of, scrolled_after, with_edit}
 use Rattle.list_mgr.specs.WholeLists.{IsSettledList}
 use Rattle.list_mgr.specs.Within.{IsSameOutside}
 use Rattle.list_mgr.proofs.Cells.{number_in}
@@ -47,7 +54,7 @@ before_line a first line place axis from less =
 not_over : (a b x : ℤ) → a ≤ℤ x → b ≤ℤ x → int_max a b ≤ℤ x
 not_over a b x l k = grind (arith, ints, clamps)
 
-cut_rows : (v : View) (row top : ℤ) → IsView v → top ≡ line_start v.down v.first.row row → AreRowsFrom false v row (record (view_rect v) { top = int_max v.down.start top })
+cut_rows : (v : View) (row top : ℤ) → IsView v → top ≡ line_start v.down v.first.row row → AreLinesFrom Rows false v row (record (view_rect v) { top = int_max v.down.start top })
 cut_rows v row top is at p has out =
     let sides = sides_of (view_rect v) p has in
     let before : p.v <ℤ top =
@@ -55,7 +62,7 @@ cut_rows v row top is at p has out =
     ∙ holds_in (record (view_rect v) { top = int_max v.down.start top }) p sides.left sides.right (not_over v.down.start top p.v sides.top from) sides.bottom))) in
     before_line v.down v.first.row row p.v is.down sides.top (subst (λ z. p.v <ℤ z) at before)
 
-cut_columns : (v : View) (column left : ℤ) → IsView v → left ≡ line_start v.across v.first.column column → AreColumnsFrom false v column (record (view_rect v) { left = int_max v.across.start left })
+cut_columns : (v : View) (column left : ℤ) → IsView v → left ≡ line_start v.across v.first.column column → AreLinesFrom Columns false v column (record (view_rect v) { left = int_max v.across.start left })
 cut_columns v column left is at p has out =
     let sides = sides_of (view_rect v) p has in
     let before : p.h <ℤ left =
@@ -65,20 +72,20 @@ cut_columns v column left is at p has out =
 
 -- so it is of the rectangle of the view whose upper, or left, side is moved there
 pub rows_cut : (v : View) (row : ℤ) (scrolled : Bool) (r : Rect) (corner : Point) (c : Cell) (top : ℤ) → IsView v → scrolled ≡ false → r ≡ view_rect v → corner ≡ cell_corner v c → c.row ≡ row
-    → top ≡ int_max r.top corner.v → AreRowsFrom scrolled v row (record r { top = top })
+    → top ≡ int_max r.top corner.v → AreLinesFrom Rows scrolled v row (record r { top = top })
 rows_cut v row scrolled r corner c top is off sides place its value =
     let e : top ≡ int_max v.down.start corner.v = value ∙ ap (λ (q : Rect). int_max q.top corner.v) sides in
     let begins : corner.v ≡ line_start v.down v.first.row row = ap (λ (p : Point). p.v) place ∙ ap (λ k. line_start v.down v.first.row k) its in
-    subst (λ b. AreRowsFrom b v row (record r { top = top })) (sym off)
-    (subst (AreRowsFrom false v row) (λ i. record (sym sides i) { top = sym e i }) (cut_rows v row corner.v is begins))
+    subst (λ b. AreLinesFrom Rows b v row (record r { top = top })) (sym off)
+    (subst (AreLinesFrom Rows false v row) (λ i. record (sym sides i) { top = sym e i }) (cut_rows v row corner.v is begins))
 
 pub columns_cut : (v : View) (column : ℤ) (scrolled : Bool) (r : Rect) (corner : Point) (c : Cell) (left : ℤ) → IsView v → scrolled ≡ false → r ≡ view_rect v → corner ≡ cell_corner v c → c.column ≡ column
-    → left ≡ int_max r.left corner.h → AreColumnsFrom scrolled v column (record r { left = left })
+    → left ≡ int_max r.left corner.h → AreLinesFrom Columns scrolled v column (record r { left = left })
 columns_cut v column scrolled r corner c left is off sides place its value =
     let e : left ≡ int_max v.across.start corner.h = value ∙ ap (λ (q : Rect). int_max q.left corner.h) sides in
     let begins : corner.h ≡ line_start v.across v.first.column column = ap (λ (p : Point). p.h) place ∙ ap (λ k. line_start v.across v.first.column k) its in
-    subst (λ b. AreColumnsFrom b v column (record r { left = left })) (sym off)
-    (subst (AreColumnsFrom false v column) (λ i. record (sym sides i) { left = sym e i }) (cut_columns v column corner.h is begins))
+    subst (λ b. AreLinesFrom Columns b v column (record r { left = left })) (sym off)
+    (subst (AreLinesFrom Columns false v column) (λ i. record (sym sides i) { left = sym e i }) (cut_columns v column corner.h is begins))
 
 -- ---- what lists show whose cell at a point is the same
 
@@ -174,23 +181,11 @@ column_deleted_right g at n c is low counted left = record {
       (number_below c.column at counted.column left);
 }
 
--- ---- what the four calls leave of what the list showed
+-- ---- which line is the first that changes
 
 -- there is no line of a higher number than 4095 before which lines may be added
-pub added_low : (lines across : ℕ) (n before : ℤ) → first_refusal (add_refusals lines across n before) ≡ None → place_to_add lines before ≤ 4095
+added_low : (lines across : ℕ) (n before : ℤ) → first_refusal (add_refusals lines across n before) ≡ None → place_to_add lines before ≤ 4095
 added_low lines across n before none = let may = may_add lines across n before none in omega (arith, may.some, may.lines_within)
-
-pub rows_more_outside : (within : Rect) (x : KeptList) (n before : ℤ) → IsSettledList x → AreRowsFrom false x.kept.view (pos (place_to_add x.kept.cells.rows before)) within
-    → IsSameOutside within x (with_rows_more n before x)
-rows_more_outside within x n before its from =
-    cells_outside within x (rows_added (place_to_add x.kept.cells.rows before) (nat_abs n))
-    (λ p has out. row_added_below x.kept.cells (place_to_add x.kept.cells.rows before) (nat_abs n) (any_cell_at x.kept.view p) its.grid (omega arith) (counted_at x.kept.view p its.view has) (from p has out))
-
-pub columns_more_outside : (within : Rect) (x : KeptList) (n before : ℤ) → IsSettledList x → AreColumnsFrom false x.kept.view (pos (place_to_add x.kept.cells.columns before)) within
-    → IsSameOutside within x (with_columns_more n before x)
-columns_more_outside within x n before its from =
-    cells_outside within x (columns_added (place_to_add x.kept.cells.columns before) (nat_abs n))
-    (λ p has out. column_added_right x.kept.cells (place_to_add x.kept.cells.columns before) (nat_abs n) (any_cell_at x.kept.view p) its.grid (omega arith) (counted_at x.kept.view p its.view has) (from p has out))
 
 -- lines are deleted from one on that there is
 record IsOne (lines : ℕ) (first : ℤ) : Type 0 where
@@ -208,36 +203,37 @@ deleted_from lines n first none =
     let both = not-false (int_le (pos 0) first && int_lt first (pos lines)) place.0 in
     record { number = as_number first (and_parts (int_le (pos 0) first) (int_lt first (pos lines)) both).0; few = number_in first lines both }
 
--- a number that a line may have
-pub record IsLow (z : ℤ) : Type 0 where
-  pub least : pos 0 ≤ℤ z
-  pub most : z ≤ℤ pos 4095
+-- its number is at least 0, and at most 4095
+pub deleted_least : (lines : ℕ) (n first : ℤ) → first_refusal (delete_refusals lines n first) ≡ None → pos 0 ≤ℤ first
+deleted_least lines n first none = let one = deleted_from lines n first none in let number = one.number in omega (arith, ints, number)
 
-low_number : (z : ℤ) (k : ℕ) → z ≡ pos k → k < 4096 → IsLow z
-low_number z k e l = record { least = omega (arith, ints); most = omega (arith, ints) }
+deleted_low : (lines : ℕ) (n first : ℤ) → lines ≤ 4096 → first_refusal (delete_refusals lines n first) ≡ None → nat_abs first ≤ 4095
+deleted_low lines n first l none = let one = deleted_from lines n first none in omega (arith, l, one.few)
 
-pub deleted_low : (lines : ℕ) (n first : ℤ) → lines ≤ 4096 → first_refusal (delete_refusals lines n first) ≡ None → IsLow first
-deleted_low lines n first l none =
-    let one = deleted_from lines n first none in
-    let few = one.few in
-    low_number first (nat_abs first) one.number (omega arith)
+pub edit_low : (change : LineChange) (axis : LineAxis) (n : ListLines) (g : Grid) → IsGrid g → first_refusal (refusals_of change axis n g) ≡ None → first_changed change axis n g ≤ 4095
+edit_low Add Rows n g is none = added_low g.rows g.columns n.count n.at none
+edit_low Add Columns n g is none = added_low g.columns g.rows n.count n.at none
+edit_low Delete Rows n g is none = deleted_low g.rows n.count n.at is.rows_within none
+edit_low Delete Columns n g is none = deleted_low g.columns n.count n.at is.columns_within none
 
-pub rows_fewer_outside : (within : Rect) (x : KeptList) (n first : ℤ) (scrolled : Bool) → IsSettledList x → first_refusal (delete_refusals x.kept.cells.rows n first) ≡ None → AreRowsFrom scrolled x.kept.view first within
-    → IsSameOrNot scrolled (with_rows_fewer n first x) (with_grid (rows_deleted (nat_abs first) (count_to_delete x.kept.cells.rows n first)) x)
-    → IsSameOutside within x (with_rows_fewer n first x)
-rows_fewer_outside within x n first true its none from same = view_outside within x (with_rows_fewer n first x) from refl
-rows_fewer_outside within x n first false its none from same =
+-- ---- what an edit leaves of what the list showed
+
+edit_before : (change : LineChange) (axis : LineAxis) (n : ListLines) (g : Grid) (c : Cell) → IsGrid g → first_refusal (refusals_of change axis n g) ≡ None → IsCounted c
+    → line_of axis c <ℤ pos (first_changed change axis n g) → IsSameCell g (changed_by change axis n g) c
+edit_before Add Rows n g c is none counted before = row_added_below g (place_to_add g.rows n.at) (nat_abs n.count) c is (omega arith) counted before
+edit_before Add Columns n g c is none counted before = column_added_right g (place_to_add g.columns n.at) (nat_abs n.count) c is (omega arith) counted before
+edit_before Delete Rows n g c is none counted before = row_deleted_below g (nat_abs n.at) (count_to_delete g.rows n.count n.at) c is (may_delete g.rows n.count n.at none).within counted before
+edit_before Delete Columns n g c is none counted before = column_deleted_right g (nat_abs n.at) (count_to_delete g.columns n.count n.at) c is (may_delete g.columns n.count n.at none).within counted before
+
+-- where a list is scrolled back its view lies where it lay
+back_inside : (change : LineChange) (x : KeptList) → view_rect (scrolled_after change x).kept.view ≡ view_rect x.kept.view
+back_inside Add x = refl
+back_inside Delete x = refl
+
+pub edit_outside : (e : LineEdit) (within : Rect) (x : KeptList) (scrolled : Bool) → IsSettledList x → first_refusal (edit_refusals e x.kept.cells) ≡ None
+    → AreLinesFrom e.axis scrolled x.kept.view (pos (first_line e x.kept.cells)) within → IsSameOrNot scrolled (with_edit e x) (with_grid (edited e) x) → IsSameOutside within x (with_edit e x)
+edit_outside e within x true its none from other = view_outside within x (with_edit e x) from (back_inside e.change (with_grid (edited e) x))
+edit_outside e within x false its none from same =
     subst (IsSameOutside within x) (sym same)
-    (cells_outside within x (rows_deleted (nat_abs first) (count_to_delete x.kept.cells.rows n first))
-    (λ p has out. row_deleted_below x.kept.cells (nat_abs first) (count_to_delete x.kept.cells.rows n first) (any_cell_at x.kept.view p) its.grid (may_delete x.kept.cells.rows n first none).within (counted_at x.kept.view p its.view has)
-    (subst (λ z. (any_cell_at x.kept.view p).row <ℤ z) (deleted_from x.kept.cells.rows n first none).number (from p has out))))
-
-pub columns_fewer_outside : (within : Rect) (x : KeptList) (n first : ℤ) (scrolled : Bool) → IsSettledList x → first_refusal (delete_refusals x.kept.cells.columns n first) ≡ None → AreColumnsFrom scrolled x.kept.view first within
-    → IsSameOrNot scrolled (with_columns_fewer n first x) (with_grid (columns_deleted (nat_abs first) (count_to_delete x.kept.cells.columns n first)) x)
-    → IsSameOutside within x (with_columns_fewer n first x)
-columns_fewer_outside within x n first true its none from same = view_outside within x (with_columns_fewer n first x) from refl
-columns_fewer_outside within x n first false its none from same =
-    subst (IsSameOutside within x) (sym same)
-    (cells_outside within x (columns_deleted (nat_abs first) (count_to_delete x.kept.cells.columns n first))
-    (λ p has out. column_deleted_right x.kept.cells (nat_abs first) (count_to_delete x.kept.cells.columns n first) (any_cell_at x.kept.view p) its.grid (may_delete x.kept.cells.columns n first none).within (counted_at x.kept.view p its.view has)
-    (subst (λ z. (any_cell_at x.kept.view p).column <ℤ z) (deleted_from x.kept.cells.columns n first none).number (from p has out))))
+    (cells_outside within x (edited e)
+    (λ p has out. edit_before e.change e.axis e.lines x.kept.cells (any_cell_at x.kept.view p) its.grid none (counted_at x.kept.view p its.view has) (from p has out)))

@@ -1,29 +1,35 @@
 -- A list that was given more or fewer rows and columns where it stands, or scrolled.
-use Rattle.std.proofs.Common.{◌≡◌, ℕ, zero, suc, ℤ, pos, Bool, true, List, [], ◌∷◌, get_or, None, Some, refl, sym, ap, ◌∙◌, subst}
-use Rattle.std.specs.Prelude.{IfSome, nat_abs, slice_get}
+use Rattle.std.proofs.Common.{◌≡◌, ℕ, zero, suc, ℤ, pos, Bool, true, false, List, [], ◌∷◌, get_or, Option, None, Some, refl, sym, ap, ◌∙◌, subst}
+use Rattle.std.specs.Prelude.{IfSome, slice_get}
 use Rattle.tb_geom.specs.Refusals.{first_refusal}
 use Rattle.def_iface.specs.Slots.{TakenBox}
 use Rattle.def_iface.specs.ListMeaning.{ListLoan}
 use Rattle.def_iface.specs.WindowMeaning.{WindowLoan}
-use Rattle.list_cells.specs.Grids.{Grid, IsGrid, columns_added, columns_deleted, rows_added, rows_deleted}
-use Rattle.list_cells.specs.Runs.{add_refusals, count_to_delete, delete_refusals, place_to_add}
+use Rattle.list_cells.specs.Grids.{Grid}
 use Rattle.window_items.specs.declared.item.Item.{Item}
 use Rattle.list_mgr.specs.declared.list_record.ListRecord.{ListRecord}
 use Rattle.window_items.specs.Items.{edit_at}
+use Rattle.desk_call.specs.declared.list.ListLines.{ListLines}
 use Rattle.desk_call.specs.declared.list.ListOf.{ListOf}
 use Rattle.window_mgr.specs.declared.manager.WindowManager.{WindowManager}
+use Rattle.list_mgr.specs.declared.line_edit.LineAxis.{LineAxis}
+use Rattle.list_mgr.specs.declared.line_edit.LineChange.{LineChange}
+use Rattle.list_mgr.specs.declared.line_edit.LineChange.TheVariants.{Add, Delete}
+use Rattle.list_mgr.specs.declared.line_edit.LineEdit.{LineEdit}
 use Rattle.list_mgr.specs.declared.lists.Lists.{Lists}
 use Rattle.list_mgr.specs.declared.spots.ListAt.{ListAt}
 use Rattle.list_mgr.specs.Changing.{IsSameOrNot}
+use Rattle.list_mgr.specs.LineEdits.{changed_by, edit_refusals, edited, refusals_of, scrolled_after, with_edit}
 use Rattle.list_mgr.specs.ListDesks.{KeptList}
-use Rattle.list_mgr.specs.ListSteps.{with_columns_fewer, with_columns_more, with_grid, with_rows_fewer, with_rows_more, with_scroll}
+use Rattle.list_mgr.specs.ListSteps.{with_grid, with_scroll}
+use Rattle.list_mgr.specs.Seen.{seen}
 use Rattle.list_mgr.specs.Spots.{IsSpotOf}
 use Rattle.list_mgr.specs.WholeLists.{records_of, IsSettledList}
-use Rattle.list_mgr.proofs.Becoming.{IsSettledBut, MayBecome, MayBecomeWider, settled_but}
+use Rattle.list_mgr.proofs.Becoming.{IsSettledBut, settled_but}
 use Rattle.list_mgr.proofs.Changed.{grid_keeps}
 use Rattle.list_mgr.proofs.Edited.{Keeps}
 use Rattle.list_mgr.proofs.Given as given
-use Rattle.list_mgr.proofs.LinesChanged as lines
+use Rattle.list_mgr.proofs.LinesChanged.{edit_fewer, edit_other, edit_wider, scroll_settles}
 use Rattle.list_mgr.proofs.Relined.{IsChange}
 use Rattle.window_items.proofs.EditLemmas.{edit_nothing}
 
@@ -32,6 +38,16 @@ edit_twice : (f g : KeptList → KeptList) (i : ℕ) (xs : List KeptList) → ed
 edit_twice f g i [] = refl
 edit_twice f g zero (x ∷ xs) = refl
 edit_twice f g (suc i) (x ∷ xs) = ap (λ ys. x ∷ ys) (edit_twice f g i xs)
+
+-- a list that is scrolled back has the cells that it had
+back_cells : (change : LineChange) (x : KeptList) → (scrolled_after change x).kept.cells ≡ x.kept.cells
+back_cells Add x = refl
+back_cells Delete x = refl
+
+-- a list that is not scrolled stays as it is
+pub stays_same : (o : Option KeptList) → IfSome o (λ x. IsSameOrNot false (scrolled_after Add x) x)
+stays_same None = tt
+stays_same (Some x) = refl
 
 -- whether a list that was scrolled is scrolled otherwise
 pub scroll_agrees : {X : Type 0} {L : X → Type 0} (list_loan : TakenBox X L → ListLoan) (m : Lists (TakenBox X L)) (s : ListAt) (columns rows : ℤ) (changes : Bool)
@@ -66,7 +82,7 @@ module _ {V : Type 0} {H : V → Type 0} (loan : TakenBox V H → WindowLoan) {X
     draws = change.draws;
     edited = scrolled ∙ ap (edit_at (with_scroll columns rows) s.list) change.edited ∙ edit_twice (with_scroll columns rows) f s.list (records_of list_loan m);
     next = next ∙ change.next;
-    stays = λ x there its. lines.scroll_settles columns rows (f x) (change.stays x there its);
+    stays = λ x there its. scroll_settles columns rows (f x) (change.stays x there its);
   }
 
   -- a list that was scrolled
@@ -89,79 +105,41 @@ module _ {V : Type 0} {H : V → Type 0} (loan : TakenBox V H → WindowLoan) {X
     abbrev n : Lists (TakenBox X L)
     n = given.with_cells_there loan list_loan l t m s is x read cells
 
-    given_change : (g : Grid → Grid) → cells ≡ g x.kept.cells → (IsGrid x.kept.cells → MayBecomeWider x.kept.flags x.kept.cells (g x.kept.cells)) → IsChange loan list_loan l t m n s (with_grid g)
-    given_change g now good = record {
-      is = is;
-      keeps = grid_keeps g;
-      draws = λ y. refl;
-      edited = given.edited loan list_loan l t m s is x read g cells now;
-      next = refl;
-      stays = given.stays loan list_loan l t m s is x read g cells now good;
-    }
+    -- given other lines, and scrolled back where some were deleted
+    by_change : (change : LineChange) (axis : LineAxis) (lines : ListLines) → first_refusal (refusals_of change axis lines x.kept.cells) ≡ None → cells ≡ changed_by change axis lines x.kept.cells
+        → (k : Lists (TakenBox X L)) → records_of list_loan k ≡ edit_at (scrolled_after change) s.list (records_of list_loan n) → k.list.next ≡ n.list.next
+        → IsChange loan list_loan l t m k s (λ y. scrolled_after change (with_grid (changed_by change axis lines) y))
+    by_change Add axis lines none now k scrolled next =
+        let g = changed_by Add axis lines in
+        record {
+          is = is;
+          keeps = grid_keeps g;
+          draws = λ y. refl;
+          edited = scrolled ∙ edit_nothing (scrolled_after Add) s.list (records_of list_loan n) (λ y there. refl) ∙ given.edited loan list_loan l t m s is x read g cells now;
+          next = next;
+          stays = given.stays loan list_loan l t m s is x read g cells now (λ good. edit_wider axis lines x.kept.cells good none);
+        }
+    by_change Delete axis lines none now k scrolled next =
+        let g = changed_by Delete axis lines in
+        then_scrolled l t m n k s (with_grid g) (pos 0) (pos 0)
+        (record {
+          is = is;
+          keeps = grid_keeps g;
+          draws = λ y. refl;
+          edited = given.edited loan list_loan l t m s is x read g cells now;
+          next = refl;
+          stays = given.stays_but loan list_loan l t m s is x read g (λ good. edit_fewer axis lines x.kept.cells good none);
+        })
+        scrolled next
 
-    given_but : (g : Grid → Grid) → cells ≡ g x.kept.cells → (IsGrid x.kept.cells → MayBecome x.kept.flags x.kept.cells (g x.kept.cells)) → IsChangeBut l t m n s (with_grid g)
-    given_but g now good = record {
-      is = is;
-      keeps = grid_keeps g;
-      draws = λ y. refl;
-      edited = given.edited loan list_loan l t m s is x read g cells now;
-      next = refl;
-      stays = given.stays_but loan list_loan l t m s is x read g good;
-    }
+    module _ (e : LineEdit) (none : first_refusal (edit_refusals e x.kept.cells) ≡ None) where
+      pub edit_change : cells ≡ edited e x.kept.cells → (k : Lists (TakenBox X L)) → records_of list_loan k ≡ edit_at (scrolled_after e.change) s.list (records_of list_loan n) → k.list.next ≡ n.list.next
+          → IsChange loan list_loan l t m k s (with_edit e)
+      edit_change = by_change e.change e.axis e.lines none
 
-    -- more lines
-    module _ (count at : ℤ) where
-      pub rows_more_change : cells ≡ rows_added (place_to_add x.kept.cells.rows at) (nat_abs count) x.kept.cells → first_refusal (add_refusals x.kept.cells.rows x.kept.cells.columns count at) ≡ None
-          → IsChange loan list_loan l t m n s (with_rows_more count at)
-      rows_more_change now none =
-          given_change (λ y. rows_added (place_to_add y.rows at) (nat_abs count) y) now
-          (λ good. lines.rows_added_grid x.kept.cells (place_to_add x.kept.cells.rows at) count good (lines.may_add x.kept.cells.rows x.kept.cells.columns count at none))
-
-      pub rows_more_other : first_refusal (add_refusals x.kept.cells.rows x.kept.cells.columns count at) ≡ None → (y : KeptList) → slice_get (records_of list_loan m) s.list ≡ Some y
-          → IsSameOrNot true (with_rows_more count at y) y
-      rows_more_other none =
-          given.of_read loan list_loan l t m s is x read (λ y. with_rows_more count at y ≡ y → ⊥)
-          (λ same. lines.rows_added_other x.kept.cells (place_to_add x.kept.cells.rows at) count (lines.may_add x.kept.cells.rows x.kept.cells.columns count at none) (ap (λ (y : KeptList). y.kept.cells) same))
-
-      pub columns_more_change : cells ≡ columns_added (place_to_add x.kept.cells.columns at) (nat_abs count) x.kept.cells → first_refusal (add_refusals x.kept.cells.columns x.kept.cells.rows count at) ≡ None
-          → IsChange loan list_loan l t m n s (with_columns_more count at)
-      columns_more_change now none =
-          given_change (λ y. columns_added (place_to_add y.columns at) (nat_abs count) y) now
-          (λ good. lines.columns_added_grid x.kept.cells (place_to_add x.kept.cells.columns at) count good (lines.may_add x.kept.cells.columns x.kept.cells.rows count at none))
-
-      pub columns_more_other : first_refusal (add_refusals x.kept.cells.columns x.kept.cells.rows count at) ≡ None → (y : KeptList) → slice_get (records_of list_loan m) s.list ≡ Some y
-          → IsSameOrNot true (with_columns_more count at y) y
-      columns_more_other none =
-          given.of_read loan list_loan l t m s is x read (λ y. with_columns_more count at y ≡ y → ⊥)
-          (λ same. lines.columns_added_other x.kept.cells (place_to_add x.kept.cells.columns at) count (lines.may_add x.kept.cells.columns x.kept.cells.rows count at none) (ap (λ (y : KeptList). y.kept.cells) same))
-
-    -- fewer, after which the list is scrolled no further than there are cells
-    module _ (count first : ℤ) (k : Lists (TakenBox X L)) (scrolled : records_of list_loan k ≡ edit_at (with_scroll (pos 0) (pos 0)) s.list (records_of list_loan n)) (next : k.list.next ≡ n.list.next) where
-      pub rows_fewer_change : cells ≡ rows_deleted (nat_abs first) (count_to_delete x.kept.cells.rows count first) x.kept.cells → first_refusal (delete_refusals x.kept.cells.rows count first) ≡ None
-          → IsChange loan list_loan l t m k s (with_rows_fewer count first)
-      rows_fewer_change now none =
-          then_scrolled l t m n k s (with_grid (λ y. rows_deleted (nat_abs first) (count_to_delete y.rows count first) y)) (pos 0) (pos 0)
-          (given_but (λ y. rows_deleted (nat_abs first) (count_to_delete y.rows count first) y) now
-          (λ good. lines.rows_deleted_grid x.kept.cells count first good (lines.may_delete x.kept.cells.rows count first none)))
-          scrolled next
-
-      pub columns_fewer_change : cells ≡ columns_deleted (nat_abs first) (count_to_delete x.kept.cells.columns count first) x.kept.cells → first_refusal (delete_refusals x.kept.cells.columns count first) ≡ None
-          → IsChange loan list_loan l t m k s (with_columns_fewer count first)
-      columns_fewer_change now none =
-          then_scrolled l t m n k s (with_grid (λ y. columns_deleted (nat_abs first) (count_to_delete y.columns count first) y)) (pos 0) (pos 0)
-          (given_but (λ y. columns_deleted (nat_abs first) (count_to_delete y.columns count first) y) now
-          (λ good. lines.columns_deleted_grid x.kept.cells count first good (lines.may_delete x.kept.cells.columns count first none)))
-          scrolled next
-
-    module _ (count first : ℤ) where
-      pub rows_fewer_other : first_refusal (delete_refusals x.kept.cells.rows count first) ≡ None → (y : KeptList) → slice_get (records_of list_loan m) s.list ≡ Some y
-          → IsSameOrNot true (with_rows_fewer count first y) y
-      rows_fewer_other none =
-          given.of_read loan list_loan l t m s is x read (λ y. with_rows_fewer count first y ≡ y → ⊥)
-          (λ same. lines.rows_deleted_other x.kept.cells count first (lines.may_delete x.kept.cells.rows count first none) (ap (λ (y : KeptList). y.kept.cells) same))
-
-      pub columns_fewer_other : first_refusal (delete_refusals x.kept.cells.columns count first) ≡ None → (y : KeptList) → slice_get (records_of list_loan m) s.list ≡ Some y
-          → IsSameOrNot true (with_columns_fewer count first y) y
-      columns_fewer_other none =
-          given.of_read loan list_loan l t m s is x read (λ y. with_columns_fewer count first y ≡ y → ⊥)
-          (λ same. lines.columns_deleted_other x.kept.cells count first (lines.may_delete x.kept.cells.columns count first none) (ap (λ (y : KeptList). y.kept.cells) same))
+      -- that is another list
+      pub edit_differs : (y : KeptList) → slice_get (records_of list_loan m) s.list ≡ Some y → IsSameOrNot true (with_edit e y) y
+      edit_differs =
+          given.of_read loan list_loan l t m s is x read (λ y. with_edit e y ≡ y → ⊥)
+          (λ same. edit_other e.change e.axis e.lines x.kept.cells none
+          (sym (back_cells e.change (with_grid (edited e) (seen list_loan x))) ∙ ap (λ (y : KeptList). y.kept.cells) same))

@@ -13,9 +13,11 @@ pub mod GivenBars
 pub mod BarEnds
 pub mod Spots
 pub mod Lines
+pub mod LineEdits
 pub mod LinesFrom
 pub mod Changing
 pub mod Making
 pub mod NewBars
 pub mod Putting
 pub mod Offers
+pub mod Boxed

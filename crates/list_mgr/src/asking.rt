@@ -1,21 +1,18 @@
 //! What is asked about lists.
 ghost use Rattle.desk_call.specs.declared.list.ListCall.TheVariants as asks;
-ghost use Rattle.window_mgr.specs.Kept.{IsKept};
 ghost use Rattle.list_mgr.specs.ListSteps.{IsListStep};
-ghost use Rattle.list_mgr.specs.WholeLists.{IsToldOver};
 
-use crate::Lists;
-use def_iface::{Defined, TakenList, TakenWindow};
+use crate::{DeskLists, Lists};
+use def_iface::TakenList;
 use desk_call::{CellOf, CellText, ListReply, NextOfCell};
 use tb_geom::Refusal;
-use window_mgr::WindowManager;
+use window_mgr::{DeskWindows, WindowManager};
 
 impl Lists<TakenList> {
     /// The data of a cell.
     pub(crate) fn data(&self, windows: &WindowManager, asked: CellOf) -> Result<ListReply, Refusal>
-        requires { IsKept ⟦<TakenWindow as Defined>⟧.loan windows.now }
-        ensures { IsToldOver ⟦<TakenList as Defined>⟧.loan ⟦<TakenWindow as Defined>⟧.loan
-            (IsListStep (asks.GetCell asked) result) windows.now self.now }
+        requires { ⟦<WindowManager as DeskWindows>⟧.IsKept windows.now }
+        ensures { ⟦<Self as DeskLists>⟧.Tells (IsListStep (asks.GetCell asked) result) windows.now self.now }
     {
         let spot = self.spot(windows, asked.list)?;
         let bytes = self.list.items[spot.list].kept.cells.cell(asked.cell)?;
@@ -30,9 +27,8 @@ impl Lists<TakenList> {
         windows: &WindowManager,
         asked: CellOf,
     ) -> Result<ListReply, Refusal>
-        requires { IsKept ⟦<TakenWindow as Defined>⟧.loan windows.now }
-        ensures { IsToldOver ⟦<TakenList as Defined>⟧.loan ⟦<TakenWindow as Defined>⟧.loan
-            (IsListStep (asks.IsSelected asked) result) windows.now self.now }
+        requires { ⟦<WindowManager as DeskWindows>⟧.IsKept windows.now }
+        ensures { ⟦<Self as DeskLists>⟧.Tells (IsListStep (asks.IsSelected asked) result) windows.now self.now }
     {
         let spot = self.spot(windows, asked.list)?;
         let selected = self.list.items[spot.list]
@@ -48,9 +44,8 @@ impl Lists<TakenList> {
         windows: &WindowManager,
         asked: CellOf,
     ) -> Result<ListReply, Refusal>
-        requires { IsKept ⟦<TakenWindow as Defined>⟧.loan windows.now }
-        ensures { IsToldOver ⟦<TakenList as Defined>⟧.loan ⟦<TakenWindow as Defined>⟧.loan
-            (IsListStep (asks.FirstSelected asked) result) windows.now self.now }
+        requires { ⟦<WindowManager as DeskWindows>⟧.IsKept windows.now }
+        ensures { ⟦<Self as DeskLists>⟧.Tells (IsListStep (asks.FirstSelected asked) result) windows.now self.now }
     {
         let spot = self.spot(windows, asked.list)?;
         let found = self.list.items[spot.list]
@@ -66,9 +61,8 @@ impl Lists<TakenList> {
         windows: &WindowManager,
         asked: NextOfCell,
     ) -> Result<ListReply, Refusal>
-        requires { IsKept ⟦<TakenWindow as Defined>⟧.loan windows.now }
-        ensures { IsToldOver ⟦<TakenList as Defined>⟧.loan ⟦<TakenWindow as Defined>⟧.loan
-            (IsListStep (asks.NextCell asked) result) windows.now self.now }
+        requires { ⟦<WindowManager as DeskWindows>⟧.IsKept windows.now }
+        ensures { ⟦<Self as DeskLists>⟧.Tells (IsListStep (asks.NextCell asked) result) windows.now self.now }
     {
         let spot = self.spot(windows, asked.cell.list)?;
         let cells = &self.list.items[spot.list].kept.cells;
@@ -82,9 +76,8 @@ impl Lists<TakenList> {
         windows: &WindowManager,
         asked: &CellText<'_>,
     ) -> Result<ListReply, Refusal>
-        requires { IsKept ⟦<TakenWindow as Defined>⟧.loan windows.now }
-        ensures { IsToldOver ⟦<TakenList as Defined>⟧.loan ⟦<TakenWindow as Defined>⟧.loan
-            (IsListStep (asks.Search asked.now) result) windows.now self.now }
+        requires { ⟦<WindowManager as DeskWindows>⟧.IsKept windows.now }
+        ensures { ⟦<Self as DeskLists>⟧.Tells (IsListStep (asks.Search asked.now) result) windows.now self.now }
     {
         let spot = self.spot(windows, asked.cell.list)?;
         let cells = &self.list.items[spot.list].kept.cells;

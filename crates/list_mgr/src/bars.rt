@@ -1,20 +1,17 @@
 //! The scroll bars of a list, set as its view is.
-ghost use Rattle.window_mgr.specs.Kept.{IsKept};
-ghost use Rattle.control_mgr.specs.WholeControls.{AreBeside as AreControlsBeside};
 ghost use Rattle.desk_call.specs.declared.list.ListOf.{ListOf as Named};
 ghost use Rattle.list_mgr.specs.Lines.{IsBarSetOver};
 ghost use Rattle.list_mgr.specs.ListSteps.{AreBarsSet};
 ghost use Rattle.list_mgr.specs.Spots.{IsSpot, IsSpotOf};
-ghost use Rattle.list_mgr.specs.WholeLists.{AreBeside, LeavesLists};
 ghost use Rattle.list_mgr.specs.Within.{IsWhereRight};
 
-use crate::Lists;
 use crate::spots::ListAt;
-use control_mgr::Controls;
+use crate::{DeskLists, DeskListsWithBars, Lists};
+use control_mgr::{Controls, DeskControls};
 use control_values::ControlValues;
 use def_iface::{Defined, TakenControl, TakenList, TakenWindow};
 use desk_call::ControlOf;
-use window_mgr::WindowManager;
+use window_mgr::{DeskWindows, WindowManager};
 
 /// Sets a scroll bar of a list in this window, if the list was made with one and the window has it still.
 fn set_bar(
@@ -24,9 +21,8 @@ fn set_bar(
     bar: Option<u64>,
     values: ControlValues,
 )
-    requires kept { IsKept ⟦<TakenWindow as Defined>⟧.loan windows.old }
-    requires beside { AreControlsBeside ⟦<TakenControl as Defined>⟧.loan ⟦<TakenWindow as Defined>⟧.loan windows.old
-        controls.old }
+    requires kept { ⟦<WindowManager as DeskWindows>⟧.IsKept windows.old }
+    requires beside { ⟦<Controls<TakenControl> as DeskControls>⟧.AreBeside windows.old controls.old }
     ensures { IsBarSetOver ⟦<TakenControl as Defined>⟧.loan ⟦<TakenWindow as Defined>⟧.loan window bar values
         windows.old controls.old windows.new controls.new }
 {
@@ -43,14 +39,13 @@ impl Lists<TakenList> {
         controls: &mut Controls<TakenControl>,
         spot: ListAt,
     )
-        requires kept { IsKept ⟦<TakenWindow as Defined>⟧.loan windows.old }
-        requires beside { AreControlsBeside ⟦<TakenControl as Defined>⟧.loan ⟦<TakenWindow as Defined>⟧.loan windows.old
-            controls.old }
-        requires lists { AreBeside ⟦<TakenList as Defined>⟧.loan ⟦<TakenWindow as Defined>⟧.loan windows.old self.now }
+        requires kept { ⟦<WindowManager as DeskWindows>⟧.IsKept windows.old }
+        requires beside { ⟦<Controls<TakenControl> as DeskControls>⟧.AreBeside windows.old controls.old }
+        requires lists { ⟦<Self as DeskLists>⟧.AreBeside windows.old self.now }
         requires spot { IsSpot ⟦<TakenWindow as Defined>⟧.loan ⟦<TakenList as Defined>⟧.loan windows.old self.now spot }
         ensures { (l : Named) → IsSpotOf ⟦<TakenWindow as Defined>⟧.loan ⟦<TakenList as Defined>⟧.loan l windows.old
             self.now spot
-            → LeavesLists ⟦<TakenList as Defined>⟧.loan ⟦<TakenWindow as Defined>⟧.loan ⟦<TakenControl as Defined>⟧.loan
+            → ⟦<Self as DeskListsWithBars>⟧.Leaves
             (IsWhereRight (AreBarsSet l)) windows.old controls.old self.now windows.new controls.new self.now }
     {
         let list = &self.list.items[spot.list];

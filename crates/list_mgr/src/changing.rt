@@ -3,15 +3,13 @@ ghost use Rattle.std.specs.Prelude.{◌≡◌, false, not, MatchResult};
 ghost use Rattle.std.specs.Str.{bytes_eq};
 ghost use Rattle.desk_call.specs.declared.list.ListCall.TheVariants as asks;
 ghost use Rattle.window_mgr.specs.Edits.{IsWindowAt};
-ghost use Rattle.window_mgr.specs.Kept.{IsKept};
 ghost use Rattle.list_mgr.specs.Changing.{IsDrawing, IsItsLayer, IsMark, IsShownOrMarked};
 ghost use Rattle.list_mgr.specs.ListSteps.{IsListStep};
 ghost use Rattle.list_mgr.specs.Spots.{IsSpot};
-ghost use Rattle.list_mgr.specs.WholeLists.{AreBeside, IsChangedOver};
 ghost use Rattle.list_mgr.specs.Within.{IsWhereRight};
 
-use crate::Lists;
 use crate::spots::ListAt;
+use crate::{DeskLists, Lists};
 use def_iface::{Defined, TakenList, TakenWindow};
 use desk_call::{CellOf, CellText, ListDrawing, ListReply};
 use desk_layers::Part;
@@ -19,7 +17,7 @@ use scan_region::Region;
 use std::alloc::AllocError;
 use tb_geom::{Rect, Refusal};
 use window_list::Layers;
-use window_mgr::WindowManager;
+use window_mgr::{DeskWindows, WindowManager};
 
 /// Whether two texts differ.
 fn differ(old: &[u8], new: &[u8]) -> bool
@@ -31,7 +29,7 @@ fn differ(old: &[u8], new: &[u8]) -> bool
 impl Lists<TakenList> {
     /// The index of a list's layer among the layers of its window.
     pub(crate) fn layer(&self, windows: &WindowManager, spot: ListAt) -> usize
-        requires beside { AreBeside ⟦<TakenList as Defined>⟧.loan ⟦<TakenWindow as Defined>⟧.loan windows.now self.now }
+        requires beside { ⟦<Self as DeskLists>⟧.AreBeside windows.now self.now }
         requires spot { IsSpot ⟦<TakenWindow as Defined>⟧.loan ⟦<TakenList as Defined>⟧.loan windows.now self.now spot }
         ensures { (w : _) → IsWindowAt windows.now.windows.records.items spot.window w
             → IsItsLayer ⟦<TakenList as Defined>⟧.loan self.now spot w.layers.layers result }
@@ -48,8 +46,8 @@ impl Lists<TakenList> {
         windows: &WindowManager,
         spot: ListAt,
     ) -> Result<Option<Region>, AllocError>
-        requires kept { IsKept ⟦<TakenWindow as Defined>⟧.loan windows.now }
-        requires beside { AreBeside ⟦<TakenList as Defined>⟧.loan ⟦<TakenWindow as Defined>⟧.loan windows.now self.now }
+        requires kept { ⟦<WindowManager as DeskWindows>⟧.IsKept windows.now }
+        requires beside { ⟦<Self as DeskLists>⟧.AreBeside windows.now self.now }
         requires spot { IsSpot ⟦<TakenWindow as Defined>⟧.loan ⟦<TakenList as Defined>⟧.loan windows.now self.now spot }
         ensures { MatchResult result (IsMark ⟦<TakenList as Defined>⟧.loan ⟦<TakenWindow as Defined>⟧.loan windows.now
             self.now spot)
@@ -76,8 +74,8 @@ impl Lists<TakenList> {
         mark: Option<Region>,
         changes: bool,
     )
-        requires kept { IsKept ⟦<TakenWindow as Defined>⟧.loan windows.old }
-        requires beside { AreBeside ⟦<TakenList as Defined>⟧.loan ⟦<TakenWindow as Defined>⟧.loan windows.old self.now }
+        requires kept { ⟦<WindowManager as DeskWindows>⟧.IsKept windows.old }
+        requires beside { ⟦<Self as DeskLists>⟧.AreBeside windows.old self.now }
         requires spot { IsSpot ⟦<TakenWindow as Defined>⟧.loan ⟦<TakenList as Defined>⟧.loan windows.old self.now spot }
         requires mark { IsMark ⟦<TakenList as Defined>⟧.loan ⟦<TakenWindow as Defined>⟧.loan windows.old self.now spot
             mark }
@@ -103,9 +101,9 @@ impl Lists<TakenList> {
         windows: &mut WindowManager,
         set: &CellText<'_>,
     ) -> Result<ListReply, Refusal>
-        requires kept { IsKept ⟦<TakenWindow as Defined>⟧.loan windows.old }
-        requires beside { AreBeside ⟦<TakenList as Defined>⟧.loan ⟦<TakenWindow as Defined>⟧.loan windows.old self.old }
-        ensures { IsChangedOver ⟦<TakenList as Defined>⟧.loan ⟦<TakenWindow as Defined>⟧.loan
+        requires kept { ⟦<WindowManager as DeskWindows>⟧.IsKept windows.old }
+        requires beside { ⟦<Self as DeskLists>⟧.AreBeside windows.old self.old }
+        ensures { ⟦<Self as DeskLists>⟧.Changes
             (IsWhereRight (IsListStep (asks.SetCell set.now) result)) windows.old self.old windows.new self.new }
     {
         let spot = self.spot(windows, set.cell.list)?;
@@ -131,9 +129,9 @@ impl Lists<TakenList> {
         windows: &mut WindowManager,
         added: &CellText<'_>,
     ) -> Result<ListReply, Refusal>
-        requires kept { IsKept ⟦<TakenWindow as Defined>⟧.loan windows.old }
-        requires beside { AreBeside ⟦<TakenList as Defined>⟧.loan ⟦<TakenWindow as Defined>⟧.loan windows.old self.old }
-        ensures { IsChangedOver ⟦<TakenList as Defined>⟧.loan ⟦<TakenWindow as Defined>⟧.loan
+        requires kept { ⟦<WindowManager as DeskWindows>⟧.IsKept windows.old }
+        requires beside { ⟦<Self as DeskLists>⟧.AreBeside windows.old self.old }
+        ensures { ⟦<Self as DeskLists>⟧.Changes
             (IsWhereRight (IsListStep (asks.AddToCell added.now) result)) windows.old self.old windows.new self.new }
     {
         let spot = self.spot(windows, added.cell.list)?;
@@ -162,9 +160,9 @@ impl Lists<TakenList> {
         windows: &mut WindowManager,
         cleared: CellOf,
     ) -> Result<ListReply, Refusal>
-        requires kept { IsKept ⟦<TakenWindow as Defined>⟧.loan windows.old }
-        requires beside { AreBeside ⟦<TakenList as Defined>⟧.loan ⟦<TakenWindow as Defined>⟧.loan windows.old self.old }
-        ensures { IsChangedOver ⟦<TakenList as Defined>⟧.loan ⟦<TakenWindow as Defined>⟧.loan
+        requires kept { ⟦<WindowManager as DeskWindows>⟧.IsKept windows.old }
+        requires beside { ⟦<Self as DeskLists>⟧.AreBeside windows.old self.old }
+        ensures { ⟦<Self as DeskLists>⟧.Changes
             (IsWhereRight (IsListStep (asks.ClearCell cleared) result)) windows.old self.old windows.new self.new }
     {
         let spot = self.spot(windows, cleared.list)?;
@@ -189,9 +187,9 @@ impl Lists<TakenList> {
         windows: &WindowManager,
         set: ListDrawing,
     ) -> Result<ListReply, Refusal>
-        requires kept { IsKept ⟦<TakenWindow as Defined>⟧.loan windows.now }
-        requires beside { AreBeside ⟦<TakenList as Defined>⟧.loan ⟦<TakenWindow as Defined>⟧.loan windows.now self.old }
-        ensures { IsChangedOver ⟦<TakenList as Defined>⟧.loan ⟦<TakenWindow as Defined>⟧.loan
+        requires kept { ⟦<WindowManager as DeskWindows>⟧.IsKept windows.now }
+        requires beside { ⟦<Self as DeskLists>⟧.AreBeside windows.now self.old }
+        ensures { ⟦<Self as DeskLists>⟧.Changes
             (IsListStep (asks.SetDrawing set) result) windows.now self.old windows.now self.new }
     {
         let spot = self.spot(windows, set.list)?;

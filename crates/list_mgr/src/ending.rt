@@ -1,19 +1,16 @@
 //! Lists that are ended, with their scroll bars; those of a window that is disposed of, and all.
-ghost use Rattle.std.specs.Prelude.{◌≡◌, ◌<◌, [], true, length, IfOk, IfSome};
+ghost use Rattle.std.specs.Prelude.{◌≡◌, ◌<◌, length, IfOk, IfSome};
 ghost use Rattle.window_list.specs.Holders.{ArePartsApart};
 ghost use Rattle.desk_call.specs.declared.list.ListCall.TheVariants as asks;
-ghost use Rattle.window_mgr.specs.Kept.{IsKept};
-ghost use Rattle.window_mgr.specs.Records.{desk_of};
 ghost use Rattle.control_mgr.specs.Ending.{IsPutIfPlanned, IsTakenOut};
 ghost use Rattle.control_mgr.specs.InUse.{AreStocked};
-ghost use Rattle.control_mgr.specs.WholeControls.{AreWholeControls, controls_state};
 ghost use Rattle.list_mgr.specs.BarEnds.{IsBarGoneOver, IsBarPlanned, IsBarToEnd, bar_serial};
 ghost use Rattle.list_mgr.specs.ListClosing.{AreAllListsClosed, AreListsOfLeft};
 ghost use Rattle.list_mgr.specs.ListSteps.{IsListStep};
-ghost use Rattle.list_mgr.specs.WholeLists.{AreLiveLists, AreWholeLists, LeavesOver, lists_state, records_of, slots_of};
+ghost use Rattle.list_mgr.specs.WholeLists.{AreLiveLists, slots_of};
 
-use crate::Lists;
-use control_mgr::{Controls, Ending, layers_left, update_left};
+use crate::{DeskLists, DeskListsWithBars, Lists, ListsOnStock};
+use control_mgr::{Controls, DeskControls, Ending, layers_left, update_left};
 use def_iface::{
     ControlStock, Defined, ListStock, Stocked, TakenControl, TakenList, TakenWindow, put_away,
 };
@@ -23,7 +20,7 @@ use std::alloc::AllocError;
 use tb_geom::Refusal;
 use window_items::Items;
 use window_list::Layers;
-use window_mgr::WindowManager;
+use window_mgr::{DeskWindows, WindowManager};
 
 /// Plans the end of a scroll bar of a list in the window of this serial, which stands at this index, if the list was made with one
 /// and the window will have it still. `layers` are the window's layers when the bar will be ended, and `update` is its update
@@ -37,7 +34,7 @@ fn plan_bar(
     layers: &Layers,
     update: &Region,
 ) -> Result<Option<Ending>, AllocError>
-    requires kept { IsKept ⟦<TakenWindow as Defined>⟧.loan windows.now }
+    requires kept { ⟦<WindowManager as DeskWindows>⟧.IsKept windows.now }
     requires low { at < length windows.now.windows.records.items }
     requires apart { ArePartsApart layers.now.layers }
     ensures out { IfOk result (λ planned. IfSome planned (IsTakenOut at (bar_serial bar) layers.now)) }
@@ -61,9 +58,8 @@ fn end_bar(
     planned: Option<Ending>,
     stock: &mut ControlStock,
 )
-    requires kept { IsKept ⟦<TakenWindow as Defined>⟧.loan windows.old }
-    requires whole { AreWholeControls (desk_of ⟦<TakenWindow as Defined>⟧.loan windows.old []).windows
-        (controls_state ⟦<TakenControl as Defined>⟧.loan controls.old (⟦<ControlStock as Stocked>⟧.slots stock.old)) }
+    requires kept { ⟦<WindowManager as DeskWindows>⟧.IsKept windows.old }
+    requires whole { ⟦<Controls<TakenControl> as DeskControls>⟧.IsWhole windows.old controls.old stock.old }
     requires planned { IsBarToEnd ⟦<TakenControl as Defined>⟧.loan ⟦<TakenWindow as Defined>⟧.loan window bar
         windows.old controls.old planned }
     ensures gone { IsBarGoneOver ⟦<TakenControl as Defined>⟧.loan ⟦<TakenWindow as Defined>⟧.loan
@@ -87,16 +83,10 @@ impl Lists<TakenList> {
         stock: &mut ListStock,
         bars: &mut ControlStock,
     ) -> Result<ListReply, Refusal>
-        requires kept { IsKept ⟦<TakenWindow as Defined>⟧.loan windows.old }
-        requires controls { AreWholeControls (desk_of ⟦<TakenWindow as Defined>⟧.loan windows.old []).windows
-            (controls_state ⟦<TakenControl as Defined>⟧.loan controls.old
-            (⟦<ControlStock as Stocked>⟧.slots bars.old)) }
-        requires lists { AreWholeLists (desk_of ⟦<TakenWindow as Defined>⟧.loan windows.old []).windows
-            (lists_state ⟦<TakenList as Defined>⟧.loan self.old (⟦<ListStock as Stocked>⟧.slots stock.old)) }
-        ensures { LeavesOver ⟦<TakenList as Defined>⟧.loan ⟦<TakenWindow as Defined>⟧.loan
-            ⟦<TakenControl as Defined>⟧.loan
-            (⟦<ControlStock as Stocked>⟧.slots bars.old) (⟦<ControlStock as Stocked>⟧.slots bars.new)
-            (⟦<ListStock as Stocked>⟧.slots stock.old) (⟦<ListStock as Stocked>⟧.slots stock.new)
+        requires kept { ⟦<WindowManager as DeskWindows>⟧.IsKept windows.old }
+        requires controls { ⟦<Controls<TakenControl> as DeskControls>⟧.IsWhole windows.old controls.old bars.old }
+        requires lists { ⟦<Self as DeskLists>⟧.IsWhole windows.old self.old stock.old }
+        ensures { ⟦<Self as DeskListsWithBars>⟧.LeavesStocks bars.old bars.new stock.old stock.new
             (IsListStep (asks.Dispose list) result) windows.old controls.old self.old windows.new controls.new
             self.new }
     {
@@ -132,12 +122,11 @@ impl Lists<TakenList> {
     /// Ends the lists of a window: the definition of each is disposed of, and put back Closed into its slot. Those of other windows
     /// stay. Takes no memory, and draws nothing: this is for a window that is no more, whose controls end with it.
     pub fn end_of(&mut self, window: u64, stock: &mut ListStock)
-        requires live { AreLiveLists (records_of ⟦<TakenList as Defined>⟧.loan self.old) }
-        requires stocked { AreStocked (λ d. d.stage) (slots_of (records_of ⟦<TakenList as Defined>⟧.loan self.old))
+        requires live { AreLiveLists (⟦<Self as ListsOnStock>⟧.records self.old) }
+        requires stocked { AreStocked (λ d. d.stage) (slots_of (⟦<Self as ListsOnStock>⟧.records self.old))
             (⟦<ListStock as Stocked>⟧.slots stock.old) }
-        ensures { AreListsOfLeft window (lists_state ⟦<TakenList as Defined>⟧.loan self.old
-            (⟦<ListStock as Stocked>⟧.slots stock.old))
-            (lists_state ⟦<TakenList as Defined>⟧.loan self.new (⟦<ListStock as Stocked>⟧.slots stock.new)) }
+        ensures { AreListsOfLeft window (⟦<Self as ListsOnStock>⟧.state self.old stock.old)
+            (⟦<Self as ListsOnStock>⟧.state self.new stock.new) }
     {
         while let Some(list) = self.list.take_of(window) {
             put_away(list.kept.definition, stock);
@@ -147,10 +136,10 @@ impl Lists<TakenList> {
     /// Ends the desk's lists: the definition of every one is disposed of, and put back Closed into its slot, while every other slot
     /// stays as it was. Takes no memory, and refuses nothing.
     pub fn close(self, stock: &mut ListStock)
-        requires live { AreLiveLists (records_of ⟦<TakenList as Defined>⟧.loan self) }
-        requires stocked { AreStocked (λ d. d.stage) (slots_of (records_of ⟦<TakenList as Defined>⟧.loan self))
+        requires live { AreLiveLists (⟦<Self as ListsOnStock>⟧.records self) }
+        requires stocked { AreStocked (λ d. d.stage) (slots_of (⟦<Self as ListsOnStock>⟧.records self))
             (⟦<ListStock as Stocked>⟧.slots stock.old) }
-        ensures { AreAllListsClosed (records_of ⟦<TakenList as Defined>⟧.loan self)
+        ensures { AreAllListsClosed (⟦<Self as ListsOnStock>⟧.records self)
             (⟦<ListStock as Stocked>⟧.slots stock.old) (⟦<ListStock as Stocked>⟧.slots stock.new) }
     {
         let Lists { list, .. } = self;

@@ -6,13 +6,11 @@ ghost use Rattle.list_cells.specs.Clicks.{flags_number};
 ghost use Rattle.window_items.specs.Items.{serial_after};
 ghost use Rattle.list_view.specs.Views.{IsView};
 ghost use Rattle.vis_update.specs.Records.{WindowRecord};
-ghost use Rattle.window_mgr.specs.Kept.{IsKept};
 ghost use Rattle.control_mgr.specs.Laying.{definition_if};
 ghost use Rattle.list_mgr.specs.ListRefusals.{bars_wanted, have_room, lacks_kind, list_form_refusals, may_bar_be_in, may_view_be_in, size_of, view_of};
 ghost use Rattle.list_mgr.specs.Making.{IsListTicket, judged_by, lie_refusals, number_refusals, room_refusals};
-ghost use Rattle.list_mgr.specs.WholeLists.{records_of};
 
-use crate::Lists;
+use crate::{Lists, ListsOnStock};
 use control_mgr::{Controls, MOST_CONTROLS, may_be_placed};
 use def_iface::{
     ControlStock, Defined, ListStock, Size, Stocked, TakenControl, TakenList, TakenWindow,
@@ -21,7 +19,7 @@ use desk_call::{ListCall, NewList};
 use list_cells::{ListCells, SelectionFlags};
 use list_view::{Axis, ListView};
 use tb_geom::{Point, Rect, Refusal};
-use window_mgr::WindowManager;
+use window_mgr::{DeskWindows, WindowManager};
 
 /// As many lists as a window may have.
 pub const MOST_LISTS: usize = 8;
@@ -193,7 +191,7 @@ impl Lists<TakenList> {
         next_control: Option<u64>,
     ) -> Result<u64, Refusal>
         ensures { let refusals = room_refusals new.now controls next_control
-            (records_of ⟦<TakenList as Defined>⟧.loan self.now) self.now.list.next in
+            (⟦<Self as ListsOnStock>⟧.records self.now) self.now.list.next in
             MatchResult result (λ serial. (self.now.list.next ≡ Some serial) × (first_refusal refusals ≡ None))
             (λ e. first_refusal refusals ≡ Some e) }
     {
@@ -219,7 +217,7 @@ impl Lists<TakenList> {
         vertical: Option<&TakenControl>,
         horizontal: Option<&TakenControl>,
     ) -> Result<ListTicket, Refusal>
-        requires { IsKept ⟦<TakenWindow as Defined>⟧.loan windows.now }
+        requires { ⟦<WindowManager as DeskWindows>⟧.IsKept windows.now }
         ensures { let v = definition_if ⟦<TakenControl as Defined>⟧.loan vertical.entry in
             let h = definition_if ⟦<TakenControl as Defined>⟧.loan horizontal.entry in
             MatchResult result

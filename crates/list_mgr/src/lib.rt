@@ -17,9 +17,11 @@
 mod asking;
 mod bars;
 mod changing;
+mod desk_lists;
 mod drawing;
 mod ending;
 mod judging;
+mod line_edit;
 mod lines;
 mod lines_from;
 mod list_record;
@@ -32,6 +34,7 @@ mod putting;
 mod selecting;
 mod spots;
 
+pub use desk_lists::{DeskLists, DeskListsWithBars, ListsOnStock};
 pub use drawing::Contents;
 pub use judging::{MOST_LISTS, form_refusal};
 pub use list_record::ListRecord;

@@ -2,25 +2,24 @@
 ghost use Rattle.std.specs.Prelude.{◌≡◌, ◌<◌, length, slice_get, IfSome};
 ghost use Rattle.desk_call.specs.declared.list.ListCall.TheVariants as asks;
 ghost use Rattle.window_items.specs.Items.{edit_at};
-ghost use Rattle.window_mgr.specs.Kept.{IsKept};
-ghost use Rattle.control_mgr.specs.WholeControls.{AreBeside as AreControlsBeside};
 ghost use Rattle.list_mgr.specs.Changing.{IsMark, IsSameOrNot};
+ghost use Rattle.list_mgr.specs.LineEdits.{call_of, scrolled_after};
 ghost use Rattle.list_mgr.specs.Lines.{IsShownWithBars};
 ghost use Rattle.list_mgr.specs.ListSteps.{IsListStep, with_scroll};
 ghost use Rattle.list_mgr.specs.Spots.{IsSpot};
-ghost use Rattle.list_mgr.specs.WholeLists.{AreBeside, LeavesLists, records_of};
 ghost use Rattle.list_mgr.specs.Within.{IsWhereRight};
 
-use crate::Lists;
-use crate::lines_from::{columns_from, line_number, rows_from};
+use crate::line_edit::{LineChange, LineEdit};
+use crate::lines_from::{line_number, lines_from};
 use crate::spots::ListAt;
-use control_mgr::Controls;
+use crate::{DeskLists, DeskListsWithBars, Lists, ListsOnStock};
+use control_mgr::{Controls, DeskControls};
 use def_iface::{Defined, TakenControl, TakenList, TakenWindow};
-use desk_call::{ListLines, ListReply, ScrollList};
+use desk_call::{ListReply, ScrollList};
 use list_view::ListView;
 use scan_region::Region;
 use tb_geom::{Rect, Refusal};
-use window_mgr::WindowManager;
+use window_mgr::{DeskWindows, WindowManager};
 
 /// Whether two views differ.
 fn differ(old: ListView, new: ListView) -> bool
@@ -33,10 +32,10 @@ impl Lists<TakenList> {
     /// Scrolls the list that stands here, as far as there are cells to be seen, and says whether it is scrolled otherwise then.
     fn scroll_by(&mut self, spot: ListAt, columns: i32, rows: i32) -> bool
         requires { spot.list < length self.old.list.items.items }
-        ensures lists { records_of ⟦<TakenList as Defined>⟧.loan self.new
-            ≡ edit_at (with_scroll columns rows) spot.list (records_of ⟦<TakenList as Defined>⟧.loan self.old) }
+        ensures lists { ⟦<Self as ListsOnStock>⟧.records self.new
+            ≡ edit_at (with_scroll columns rows) spot.list (⟦<Self as ListsOnStock>⟧.records self.old) }
         ensures next { self.new.list.next ≡ self.old.list.next }
-        ensures changes { IfSome (slice_get (records_of ⟦<TakenList as Defined>⟧.loan self.old) spot.list)
+        ensures changes { IfSome (slice_get (⟦<Self as ListsOnStock>⟧.records self.old) spot.list)
             (λ x. IsSameOrNot result (with_scroll columns rows x) x) }
     {
         let list = &self.list.items[spot.list];
@@ -51,6 +50,22 @@ impl Lists<TakenList> {
         differ(old, new)
     }
 
+    /// Scrolls the list that stands here back to where there are cells, once lines of it were deleted, and says whether it is
+    /// scrolled otherwise then.
+    fn scroll_back(&mut self, spot: ListAt, change: LineChange) -> bool
+        requires { spot.list < length self.old.list.items.items }
+        ensures lists { ⟦<Self as ListsOnStock>⟧.records self.new
+            ≡ edit_at (scrolled_after change) spot.list (⟦<Self as ListsOnStock>⟧.records self.old) }
+        ensures next { self.new.list.next ≡ self.old.list.next }
+        ensures changes { IfSome (slice_get (⟦<Self as ListsOnStock>⟧.records self.old) spot.list)
+            (λ x. IsSameOrNot result (scrolled_after change x) x) }
+    {
+        match change {
+            LineChange::Add => false,
+            LineChange::Delete => self.scroll_by(spot, 0, 0),
+        }
+    }
+
     /// Draws a list as it is now within a rectangle of its window, or marks it where its drawing is off and something of it
     /// changes, and sets its scroll bars. It takes no memory.
     fn show_with_bars(
@@ -62,10 +77,9 @@ impl Lists<TakenList> {
         mark: Option<Region>,
         changes: bool,
     )
-        requires kept { IsKept ⟦<TakenWindow as Defined>⟧.loan windows.old }
-        requires beside { AreControlsBeside ⟦<TakenControl as Defined>⟧.loan ⟦<TakenWindow as Defined>⟧.loan windows.old
-            controls.old }
-        requires lists { AreBeside ⟦<TakenList as Defined>⟧.loan ⟦<TakenWindow as Defined>⟧.loan windows.old self.now }
+        requires kept { ⟦<WindowManager as DeskWindows>⟧.IsKept windows.old }
+        requires beside { ⟦<Controls<TakenControl> as DeskControls>⟧.AreBeside windows.old controls.old }
+        requires lists { ⟦<Self as DeskLists>⟧.AreBeside windows.old self.now }
         requires spot { IsSpot ⟦<TakenWindow as Defined>⟧.loan ⟦<TakenList as Defined>⟧.loan windows.old self.now spot }
         requires mark { IsMark ⟦<TakenList as Defined>⟧.loan ⟦<TakenWindow as Defined>⟧.loan windows.old self.now spot
             mark }
@@ -77,146 +91,31 @@ impl Lists<TakenList> {
         self.set_bars(windows, controls, spot);
     }
 
-    /// Adds empty rows before one, or behind all.
-    pub(crate) fn add_rows(
+    /// Adds empty rows or columns before one, or behind all, or deletes some from one on.
+    pub(crate) fn change_lines(
         &mut self,
         windows: &mut WindowManager,
         controls: &mut Controls<TakenControl>,
-        lines: ListLines,
+        edit: LineEdit,
     ) -> Result<ListReply, Refusal>
-        requires kept { IsKept ⟦<TakenWindow as Defined>⟧.loan windows.old }
-        requires beside { AreControlsBeside ⟦<TakenControl as Defined>⟧.loan ⟦<TakenWindow as Defined>⟧.loan windows.old
-            controls.old }
-        requires lists { AreBeside ⟦<TakenList as Defined>⟧.loan ⟦<TakenWindow as Defined>⟧.loan windows.old self.old }
-        ensures { LeavesLists ⟦<TakenList as Defined>⟧.loan ⟦<TakenWindow as Defined>⟧.loan
-            ⟦<TakenControl as Defined>⟧.loan
-            (IsWhereRight (IsListStep (asks.AddRows lines) result)) windows.old controls.old self.old windows.new
+        requires kept { ⟦<WindowManager as DeskWindows>⟧.IsKept windows.old }
+        requires beside { ⟦<Controls<TakenControl> as DeskControls>⟧.AreBeside windows.old controls.old }
+        requires lists { ⟦<Self as DeskLists>⟧.AreBeside windows.old self.old }
+        ensures { ⟦<Self as DeskListsWithBars>⟧.Leaves
+            (IsWhereRight (IsListStep (call_of edit) result)) windows.old controls.old self.old windows.new
             controls.new self.new }
     {
-        let spot = self.spot(windows, lines.list)?;
-        if let Some(refusal) = self.list.items[spot.list]
-            .kept
-            .cells
-            .add_rows_refusal(lines.count, lines.at)
-        {
+        let spot = self.spot(windows, edit.lines.list)?;
+        if let Some(refusal) = edit.refusal(&self.list.items[spot.list].kept.cells) {
             return Err(refusal);
         }
         let view = self.list.items[spot.list].kept.view;
         let mark = self.mark(windows, spot)?;
-        let first = self.list.items[spot.list]
-            .kept
-            .cells
-            .add_rows(lines.count, lines.at)?;
-        let within = rows_from(view, line_number(first), false);
+        let first = edit.perform(&mut self.list.items[spot.list].kept.cells)?;
+        let scrolled = self.scroll_back(spot, edit.change);
+        let within = lines_from(edit.axis, view, line_number(first), scrolled);
         self.show_with_bars(windows, controls, spot, within, mark, true);
-        Ok(ListReply::Added(first))
-    }
-
-    /// Adds empty columns before one, or behind all.
-    pub(crate) fn add_columns(
-        &mut self,
-        windows: &mut WindowManager,
-        controls: &mut Controls<TakenControl>,
-        lines: ListLines,
-    ) -> Result<ListReply, Refusal>
-        requires kept { IsKept ⟦<TakenWindow as Defined>⟧.loan windows.old }
-        requires beside { AreControlsBeside ⟦<TakenControl as Defined>⟧.loan ⟦<TakenWindow as Defined>⟧.loan windows.old
-            controls.old }
-        requires lists { AreBeside ⟦<TakenList as Defined>⟧.loan ⟦<TakenWindow as Defined>⟧.loan windows.old self.old }
-        ensures { LeavesLists ⟦<TakenList as Defined>⟧.loan ⟦<TakenWindow as Defined>⟧.loan
-            ⟦<TakenControl as Defined>⟧.loan
-            (IsWhereRight (IsListStep (asks.AddColumns lines) result)) windows.old controls.old self.old windows.new
-            controls.new self.new }
-    {
-        let spot = self.spot(windows, lines.list)?;
-        if let Some(refusal) = self.list.items[spot.list]
-            .kept
-            .cells
-            .add_columns_refusal(lines.count, lines.at)
-        {
-            return Err(refusal);
-        }
-        let view = self.list.items[spot.list].kept.view;
-        let mark = self.mark(windows, spot)?;
-        let first = self.list.items[spot.list]
-            .kept
-            .cells
-            .add_columns(lines.count, lines.at)?;
-        let within = columns_from(view, line_number(first), false);
-        self.show_with_bars(windows, controls, spot, within, mark, true);
-        Ok(ListReply::Added(first))
-    }
-
-    /// Deletes rows from one on.
-    pub(crate) fn delete_rows(
-        &mut self,
-        windows: &mut WindowManager,
-        controls: &mut Controls<TakenControl>,
-        lines: ListLines,
-    ) -> Result<ListReply, Refusal>
-        requires kept { IsKept ⟦<TakenWindow as Defined>⟧.loan windows.old }
-        requires beside { AreControlsBeside ⟦<TakenControl as Defined>⟧.loan ⟦<TakenWindow as Defined>⟧.loan windows.old
-            controls.old }
-        requires lists { AreBeside ⟦<TakenList as Defined>⟧.loan ⟦<TakenWindow as Defined>⟧.loan windows.old self.old }
-        ensures { LeavesLists ⟦<TakenList as Defined>⟧.loan ⟦<TakenWindow as Defined>⟧.loan
-            ⟦<TakenControl as Defined>⟧.loan
-            (IsWhereRight (IsListStep (asks.DeleteRows lines) result)) windows.old controls.old self.old windows.new
-            controls.new self.new }
-    {
-        let spot = self.spot(windows, lines.list)?;
-        if let Some(refusal) = self.list.items[spot.list]
-            .kept
-            .cells
-            .delete_rows_refusal(lines.count, lines.at)
-        {
-            return Err(refusal);
-        }
-        let view = self.list.items[spot.list].kept.view;
-        let mark = self.mark(windows, spot)?;
-        self.list.items[spot.list]
-            .kept
-            .cells
-            .delete_rows(lines.count, lines.at)?;
-        let scrolled = self.scroll_by(spot, 0, 0);
-        let within = rows_from(view, lines.at, scrolled);
-        self.show_with_bars(windows, controls, spot, within, mark, true);
-        Ok(ListReply::Done)
-    }
-
-    /// Deletes columns from one on.
-    pub(crate) fn delete_columns(
-        &mut self,
-        windows: &mut WindowManager,
-        controls: &mut Controls<TakenControl>,
-        lines: ListLines,
-    ) -> Result<ListReply, Refusal>
-        requires kept { IsKept ⟦<TakenWindow as Defined>⟧.loan windows.old }
-        requires beside { AreControlsBeside ⟦<TakenControl as Defined>⟧.loan ⟦<TakenWindow as Defined>⟧.loan windows.old
-            controls.old }
-        requires lists { AreBeside ⟦<TakenList as Defined>⟧.loan ⟦<TakenWindow as Defined>⟧.loan windows.old self.old }
-        ensures { LeavesLists ⟦<TakenList as Defined>⟧.loan ⟦<TakenWindow as Defined>⟧.loan
-            ⟦<TakenControl as Defined>⟧.loan
-            (IsWhereRight (IsListStep (asks.DeleteColumns lines) result)) windows.old controls.old self.old windows.new
-            controls.new self.new }
-    {
-        let spot = self.spot(windows, lines.list)?;
-        if let Some(refusal) = self.list.items[spot.list]
-            .kept
-            .cells
-            .delete_columns_refusal(lines.count, lines.at)
-        {
-            return Err(refusal);
-        }
-        let view = self.list.items[spot.list].kept.view;
-        let mark = self.mark(windows, spot)?;
-        self.list.items[spot.list]
-            .kept
-            .cells
-            .delete_columns(lines.count, lines.at)?;
-        let scrolled = self.scroll_by(spot, 0, 0);
-        let within = columns_from(view, lines.at, scrolled);
-        self.show_with_bars(windows, controls, spot, within, mark, true);
-        Ok(ListReply::Done)
+        Ok(edit.change.reply(first))
     }
 
     /// Scrolls a list.
@@ -226,12 +125,10 @@ impl Lists<TakenList> {
         controls: &mut Controls<TakenControl>,
         scrolled: ScrollList,
     ) -> Result<ListReply, Refusal>
-        requires kept { IsKept ⟦<TakenWindow as Defined>⟧.loan windows.old }
-        requires beside { AreControlsBeside ⟦<TakenControl as Defined>⟧.loan ⟦<TakenWindow as Defined>⟧.loan windows.old
-            controls.old }
-        requires lists { AreBeside ⟦<TakenList as Defined>⟧.loan ⟦<TakenWindow as Defined>⟧.loan windows.old self.old }
-        ensures { LeavesLists ⟦<TakenList as Defined>⟧.loan ⟦<TakenWindow as Defined>⟧.loan
-            ⟦<TakenControl as Defined>⟧.loan
+        requires kept { ⟦<WindowManager as DeskWindows>⟧.IsKept windows.old }
+        requires beside { ⟦<Controls<TakenControl> as DeskControls>⟧.AreBeside windows.old controls.old }
+        requires lists { ⟦<Self as DeskLists>⟧.AreBeside windows.old self.old }
+        ensures { ⟦<Self as DeskListsWithBars>⟧.Leaves
             (IsWhereRight (IsListStep (asks.Scroll scrolled) result)) windows.old controls.old self.old windows.new
             controls.new self.new }
     {

@@ -1,7 +1,8 @@
 //! How much of a view may show otherwise where rows or columns were added or deleted.
 ghost use Rattle.std.specs.Prelude.{◌≡◌, ◌≤◌, pos, ◌≤ℤ◌};
-ghost use Rattle.list_mgr.specs.LinesFrom.{AreColumnsFrom, AreRowsFrom};
+ghost use Rattle.list_mgr.specs.LinesFrom.{AreLinesFrom};
 
+use crate::line_edit::LineAxis;
 use list_cells::Cell;
 use list_view::ListView;
 use tb_geom::Rect;
@@ -14,32 +15,26 @@ pub(crate) fn line_number(place: usize) -> i32
     place as i32
 }
 
-/// The view from a row on, or all of it where it was scrolled as well.
-pub(crate) fn rows_from(view: ListView, row: i32, scrolled: bool) -> Rect
-    requires least { pos 0 ≤ℤ row }
-    requires most { row ≤ℤ pos 4095 }
-    ensures { AreRowsFrom scrolled view row result }
+/// The view from a line on, or all of it where it was scrolled as well.
+pub(crate) fn lines_from(axis: LineAxis, view: ListView, line: i32, scrolled: bool) -> Rect
+    requires least { pos 0 ≤ℤ line }
+    requires most { line ≤ℤ pos 4095 }
+    ensures { AreLinesFrom axis scrolled view line result }
 {
     let mut rect = view.rect();
-    if !scrolled {
-        let column = view.first().column;
-        let corner = view.cell_corner(Cell { column, row });
-        rect.top = rect.top.max(corner.v);
+    if scrolled {
+        return rect;
     }
-    rect
-}
-
-/// The view from a column on, or all of it where it was scrolled as well.
-pub(crate) fn columns_from(view: ListView, column: i32, scrolled: bool) -> Rect
-    requires least { pos 0 ≤ℤ column }
-    requires most { column ≤ℤ pos 4095 }
-    ensures { AreColumnsFrom scrolled view column result }
-{
-    let mut rect = view.rect();
-    if !scrolled {
-        let row = view.first().row;
-        let corner = view.cell_corner(Cell { column, row });
-        rect.left = rect.left.max(corner.h);
+    let Cell { column, row } = view.first();
+    match axis {
+        LineAxis::Rows => {
+            let corner = view.cell_corner(Cell { column, row: line });
+            rect.top = rect.top.max(corner.v);
+        }
+        LineAxis::Columns => {
+            let corner = view.cell_corner(Cell { column: line, row });
+            rect.left = rect.left.max(corner.h);
+        }
     }
     rect
 }

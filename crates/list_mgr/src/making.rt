@@ -1,28 +1,24 @@
 //! Lists that are made: their definitions are taken out of the stocks, they are judged and put, and where they are not made, what
 //! was taken goes back.
-ghost use Rattle.std.specs.Prelude.{◌≡◌, [], None, Some, true, false, IfOk, IfErr};
+ghost use Rattle.std.specs.Prelude.{◌≡◌, None, Some, true, false, IfOk, IfErr};
 ghost use Rattle.std.specs.Option.{option_map};
 ghost use Rattle.def_iface.specs.Slots.{has_kind};
 ghost use Rattle.desk_call.specs.declared.list.ListCall.TheVariants as asks;
-ghost use Rattle.window_mgr.specs.Kept.{IsKept};
-ghost use Rattle.window_mgr.specs.Records.{desk_of};
 ghost use Rattle.control_mgr.specs.Making.{IsRoomier};
-ghost use Rattle.control_mgr.specs.WholeControls.{AreWholeControls, controls_state};
 ghost use Rattle.list_mgr.specs.ListRefusals.{lacks_kind, scroll_kind};
 ghost use Rattle.list_mgr.specs.ListSteps.{IsListMade, IsListStep};
 ghost use Rattle.list_mgr.specs.Making.{IsListTicket};
 ghost use Rattle.list_mgr.specs.Offers.{AreOffered, AreOut, AreOutBeside, IsBack, IsNotMade, IsOffer, IsOfferIf};
 ghost use Rattle.list_mgr.specs.Offers.{MayGoBack, definition_of, lacks_any, seen_offers, why_not};
 ghost use Rattle.list_mgr.specs.Putting.{AreRoomier};
-ghost use Rattle.list_mgr.specs.WholeLists.{AreBeside, AreWholeLists, LeavesOver, lists_state};
 
-use crate::Lists;
 use crate::judging::{ListTicket, SCROLL, lacks_kind};
-use control_mgr::Controls;
+use crate::{DeskLists, DeskListsWithBars, Lists};
+use control_mgr::{Controls, DeskControls};
 use def_iface::{ControlStock, Defined, ListStock, Stocked, TakenControl, TakenList, TakenWindow};
 use desk_call::{ListReply, NewList};
 use tb_geom::Refusal;
-use window_mgr::WindowManager;
+use window_mgr::{DeskWindows, WindowManager};
 
 /// The definitions that a new list and its scroll bars are offered: of those that are wanted, the ones that were to be had.
 #[derive(Drop)]
@@ -158,16 +154,10 @@ impl Lists<TakenList> {
         stock: &mut ListStock,
         bars: &mut ControlStock,
     ) -> Result<ListReply, Refusal>
-        requires kept { IsKept ⟦<TakenWindow as Defined>⟧.loan windows.old }
-        requires controls { AreWholeControls (desk_of ⟦<TakenWindow as Defined>⟧.loan windows.old []).windows
-            (controls_state ⟦<TakenControl as Defined>⟧.loan controls.old
-            (⟦<ControlStock as Stocked>⟧.slots bars.old)) }
-        requires lists { AreWholeLists (desk_of ⟦<TakenWindow as Defined>⟧.loan windows.old []).windows
-            (lists_state ⟦<TakenList as Defined>⟧.loan self.old (⟦<ListStock as Stocked>⟧.slots stock.old)) }
-        ensures { LeavesOver ⟦<TakenList as Defined>⟧.loan ⟦<TakenWindow as Defined>⟧.loan
-            ⟦<TakenControl as Defined>⟧.loan
-            (⟦<ControlStock as Stocked>⟧.slots bars.old) (⟦<ControlStock as Stocked>⟧.slots bars.new)
-            (⟦<ListStock as Stocked>⟧.slots stock.old) (⟦<ListStock as Stocked>⟧.slots stock.new)
+        requires kept { ⟦<WindowManager as DeskWindows>⟧.IsKept windows.old }
+        requires controls { ⟦<Controls<TakenControl> as DeskControls>⟧.IsWhole windows.old controls.old bars.old }
+        requires lists { ⟦<Self as DeskLists>⟧.IsWhole windows.old self.old stock.old }
+        ensures { ⟦<Self as DeskListsWithBars>⟧.LeavesStocks bars.old bars.new stock.old stock.new
             (IsListStep (asks.New new.now) result) windows.old controls.old self.old windows.new controls.new self.new }
     {
         if lacks_kind(new, stock, bars) {
@@ -192,12 +182,12 @@ impl Lists<TakenList> {
         new: &NewList<'_>,
         offers: Offers,
     ) -> Result<u64, (Offers, Refusal)>
-        requires kept { IsKept ⟦<TakenWindow as Defined>⟧.loan windows.old }
+        requires kept { ⟦<WindowManager as DeskWindows>⟧.IsKept windows.old }
         requires out { AreOutBeside ⟦<TakenControl as Defined>⟧.loan ⟦<TakenList as Defined>⟧.loan
             ⟦<TakenWindow as Defined>⟧.loan new.now
             (seen_offers ⟦<TakenControl as Defined>⟧.loan ⟦<TakenList as Defined>⟧.loan offers) windows.old
             controls.old }
-        requires lists { AreBeside ⟦<TakenList as Defined>⟧.loan ⟦<TakenWindow as Defined>⟧.loan windows.old self.old }
+        requires lists { ⟦<Self as DeskLists>⟧.AreBeside windows.old self.old }
         ensures unrefused { IfOk result (λ _. why_not ⟦<TakenControl as Defined>⟧.loan ⟦<TakenList as Defined>⟧.loan
             ⟦<TakenWindow as Defined>⟧.loan new.now
             (seen_offers ⟦<TakenControl as Defined>⟧.loan ⟦<TakenList as Defined>⟧.loan offers) windows.old controls.old
@@ -205,8 +195,7 @@ impl Lists<TakenList> {
         ensures made { IfOk result (λ serial. (kept rest held left : _)
             → AreOffered new.now (seen_offers ⟦<TakenControl as Defined>⟧.loan ⟦<TakenList as Defined>⟧.loan offers)
             kept rest held left
-            → LeavesOver ⟦<TakenList as Defined>⟧.loan ⟦<TakenWindow as Defined>⟧.loan ⟦<TakenControl as Defined>⟧.loan
-            held left kept rest
+            → ⟦<Self as DeskListsWithBars>⟧.LeavesOver held left kept rest
             (IsListMade new.now serial) windows.old controls.old self.old windows.new controls.new self.new) }
         ensures refused { IfErr result (λ back. (back.0 ≡ offers)
             × IsNotMade ⟦<TakenControl as Defined>⟧.loan ⟦<TakenList as Defined>⟧.loan ⟦<TakenWindow as Defined>⟧.loan
@@ -242,12 +231,12 @@ impl Lists<TakenList> {
         ticket: ListTicket,
         offers: Offers,
     ) -> Result<(), Offers>
-        requires kept { IsKept ⟦<TakenWindow as Defined>⟧.loan windows.old }
+        requires kept { ⟦<WindowManager as DeskWindows>⟧.IsKept windows.old }
         requires out { AreOutBeside ⟦<TakenControl as Defined>⟧.loan ⟦<TakenList as Defined>⟧.loan
             ⟦<TakenWindow as Defined>⟧.loan new.now
             (seen_offers ⟦<TakenControl as Defined>⟧.loan ⟦<TakenList as Defined>⟧.loan offers) windows.old
             controls.old }
-        requires lists { AreBeside ⟦<TakenList as Defined>⟧.loan ⟦<TakenWindow as Defined>⟧.loan windows.old self.old }
+        requires lists { ⟦<Self as DeskLists>⟧.AreBeside windows.old self.old }
         requires ticket { IsListTicket ⟦<TakenWindow as Defined>⟧.loan ⟦<TakenControl as Defined>⟧.loan
             ⟦<TakenList as Defined>⟧.loan new.now
             (definition_of (option_map ⟦<TakenControl as Defined>⟧.loan offers.vertical))
@@ -258,8 +247,7 @@ impl Lists<TakenList> {
         ensures made { IfOk result (λ _. (kept rest held left : _)
             → AreOffered new.now (seen_offers ⟦<TakenControl as Defined>⟧.loan ⟦<TakenList as Defined>⟧.loan offers)
             kept rest held left
-            → LeavesOver ⟦<TakenList as Defined>⟧.loan ⟦<TakenWindow as Defined>⟧.loan ⟦<TakenControl as Defined>⟧.loan
-            held left kept rest
+            → ⟦<Self as DeskListsWithBars>⟧.LeavesOver held left kept rest
             (IsListMade new.now ticket.serial) windows.old controls.old self.old windows.new controls.new self.new) }
         ensures same { IfErr result (λ back. (back ≡ offers) × (windows.new ≡ windows.old)
             × IsRoomier controls.old controls.new × AreRoomier self.old self.new) }

@@ -1,18 +1,14 @@
 //! Calls, one by one.
-ghost use Rattle.std.specs.Prelude.{[]};
-ghost use Rattle.window_mgr.specs.Kept.{IsKept};
-ghost use Rattle.window_mgr.specs.Records.{desk_of};
-ghost use Rattle.control_mgr.specs.WholeControls.{AreWholeControls, controls_state};
 ghost use Rattle.list_mgr.specs.ListSteps.{IsListStep};
-ghost use Rattle.list_mgr.specs.WholeLists.{AreWholeLists, LeavesOver, lists_state};
 ghost use Rattle.list_mgr.specs.Within.{IsWhereRight};
 
-use crate::Lists;
-use control_mgr::Controls;
-use def_iface::{ControlStock, Defined, ListStock, Stocked, TakenControl, TakenList, TakenWindow};
+use crate::line_edit::{LineAxis, LineEdit};
+use crate::{DeskLists, DeskListsWithBars, Lists};
+use control_mgr::{Controls, DeskControls};
+use def_iface::{ControlStock, ListStock, TakenControl, TakenList};
 use desk_call::{ListCall, ListReply};
 use tb_geom::Refusal;
-use window_mgr::WindowManager;
+use window_mgr::{DeskWindows, WindowManager};
 
 impl Lists<TakenList> {
     /// Performs one call on these lists of these windows, which have these controls, and gives its answer. A refused call changes
@@ -26,26 +22,32 @@ impl Lists<TakenList> {
         stock: &mut ListStock,
         bars: &mut ControlStock,
     ) -> Result<ListReply, Refusal>
-        requires kept { IsKept ⟦<TakenWindow as Defined>⟧.loan windows.old }
-        requires controls_whole { AreWholeControls (desk_of ⟦<TakenWindow as Defined>⟧.loan windows.old []).windows
-            (controls_state ⟦<TakenControl as Defined>⟧.loan controls.old
-            (⟦<ControlStock as Stocked>⟧.slots bars.old)) }
-        requires lists_whole { AreWholeLists (desk_of ⟦<TakenWindow as Defined>⟧.loan windows.old []).windows
-            (lists_state ⟦<TakenList as Defined>⟧.loan self.old (⟦<ListStock as Stocked>⟧.slots stock.old)) }
-        ensures { LeavesOver ⟦<TakenList as Defined>⟧.loan ⟦<TakenWindow as Defined>⟧.loan
-            ⟦<TakenControl as Defined>⟧.loan
-            (⟦<ControlStock as Stocked>⟧.slots bars.old) (⟦<ControlStock as Stocked>⟧.slots bars.new)
-            (⟦<ListStock as Stocked>⟧.slots stock.old) (⟦<ListStock as Stocked>⟧.slots stock.new)
+        requires kept { ⟦<WindowManager as DeskWindows>⟧.IsKept windows.old }
+        requires controls_whole { ⟦<Controls<TakenControl> as DeskControls>⟧.IsWhole windows.old controls.old bars.old }
+        requires lists_whole { ⟦<Self as DeskLists>⟧.IsWhole windows.old self.old stock.old }
+        ensures { ⟦<Self as DeskListsWithBars>⟧.LeavesStocks bars.old bars.new stock.old stock.new
             (IsWhereRight (IsListStep call.now result)) windows.old controls.old self.old windows.new controls.new
             self.new }
     {
         match call {
             ListCall::New(new) => self.make(windows, controls, new, stock, bars),
             ListCall::Dispose(list) => self.dispose(windows, controls, *list, stock, bars),
-            ListCall::AddRows(lines) => self.add_rows(windows, controls, *lines),
-            ListCall::AddColumns(lines) => self.add_columns(windows, controls, *lines),
-            ListCall::DeleteRows(lines) => self.delete_rows(windows, controls, *lines),
-            ListCall::DeleteColumns(lines) => self.delete_columns(windows, controls, *lines),
+            ListCall::AddRows(lines) => {
+                self.change_lines(windows, controls, LineEdit::add(LineAxis::Rows, *lines))
+            }
+            ListCall::AddColumns(lines) => {
+                self.change_lines(windows, controls, LineEdit::add(LineAxis::Columns, *lines))
+            }
+            ListCall::DeleteRows(lines) => {
+                self.change_lines(windows, controls, LineEdit::delete(LineAxis::Rows, *lines))
+            }
+            ListCall::DeleteColumns(lines) => {
+                self.change_lines(
+                    windows,
+                    controls,
+                    LineEdit::delete(LineAxis::Columns, *lines),
+                )
+            }
             ListCall::SetCell(set) => self.set_cell(windows, set),
             ListCall::AddToCell(added) => self.add_to_cell(windows, added),
             ListCall::ClearCell(cleared) => self.clear_cell(windows, *cleared),

@@ -1,16 +1,14 @@
 //! A new list planned, with all growth: its cells, its layer behind the others, and its scroll bars.
 ghost use Rattle.std.specs.Prelude.{◌≡◌, ◌<◌, length, IfOk};
-ghost use Rattle.window_mgr.specs.Kept.{IsKept};
 ghost use Rattle.control_mgr.specs.Making.{IsRoomier};
 ghost use Rattle.control_mgr.specs.Planned.{IsLaidSo};
 ghost use Rattle.list_mgr.specs.Putting.{AreBarsTaken, AreRoomier, IsBarTaken, IsOneBarTicket, IsPlace};
 ghost use Rattle.list_mgr.specs.Putting.{IsPlannedWithBar, IsPlannedWithBars, IsPlanOfList, IsReadyToPut};
 ghost use Rattle.list_mgr.specs.Putting.{IsTwoBarTicket, MayLay};
-ghost use Rattle.list_mgr.specs.WholeLists.{AreBeside};
 
-use crate::Lists;
 use crate::judging::ListTicket;
 use crate::new_bars::{Bar, horizontal_bar, vertical_bar, wanted_bar};
+use crate::{DeskLists, Lists};
 use control_mgr::{Addition, Controls};
 use def_iface::{Defined, TakenControl, TakenList, TakenWindow};
 use desk_call::NewList;
@@ -21,7 +19,7 @@ use std::alloc::{AllocError, Global};
 use tb_geom::Refusal;
 use vis_update::Relaying;
 use window_list::{Layer, Layers};
-use window_mgr::WindowManager;
+use window_mgr::{DeskWindows, WindowManager};
 
 /// The layers of a window with that of a new list behind them, and what changes by that on the screen.
 #[derive(Drop)]
@@ -67,7 +65,7 @@ fn lay(
     layers: &Layers,
     update: &Region,
 ) -> Result<Laid, AllocError>
-    requires kept { IsKept ⟦<TakenWindow as Defined>⟧.loan windows.now }
+    requires kept { ⟦<WindowManager as DeskWindows>⟧.IsKept windows.now }
     requires at { ticket.now.window < length windows.now.windows.records.items }
     requires may { MayLay ticket.now layers.now }
     ensures { IfOk result (λ laid. (u : _) → IsLaidSo ⟦<TakenWindow as Defined>⟧.loan ticket.now.window layers.now
@@ -100,8 +98,8 @@ impl Lists<TakenList> {
         new: &NewList<'_>,
         ticket: &ListTicket,
     ) -> Result<Planned, Refusal>
-        requires kept { IsKept ⟦<TakenWindow as Defined>⟧.loan windows.now }
-        requires beside { AreBeside ⟦<TakenList as Defined>⟧.loan ⟦<TakenWindow as Defined>⟧.loan windows.now self.old }
+        requires kept { ⟦<WindowManager as DeskWindows>⟧.IsKept windows.now }
+        requires beside { ⟦<Self as DeskLists>⟧.AreBeside windows.now self.old }
         requires place { IsPlace new.now windows.now self.old ticket.now }
         ensures same { AreRoomier self.old self.new }
         ensures planned { IfOk result (IsReadyToPut ⟦<TakenWindow as Defined>⟧.loan new.now ticket.now windows.now
@@ -124,10 +122,10 @@ impl Lists<TakenList> {
         ticket: &ListTicket,
         taken: &TakenControl,
     ) -> Result<PlannedWithBar, Refusal>
-        requires kept { IsKept ⟦<TakenWindow as Defined>⟧.loan windows.now }
+        requires kept { ⟦<WindowManager as DeskWindows>⟧.IsKept windows.now }
         requires took { IsBarTaken ⟦<TakenWindow as Defined>⟧.loan ⟦<TakenControl as Defined>⟧.loan
             (⟦<TakenControl as Defined>⟧.loan taken.now) windows.now controls.old }
-        requires lists { AreBeside ⟦<TakenList as Defined>⟧.loan ⟦<TakenWindow as Defined>⟧.loan windows.now self.old }
+        requires lists { ⟦<Self as DeskLists>⟧.AreBeside windows.now self.old }
         requires ticket { IsOneBarTicket ⟦<TakenWindow as Defined>⟧.loan ⟦<TakenControl as Defined>⟧.loan
             ⟦<TakenList as Defined>⟧.loan
             new.now (⟦<TakenControl as Defined>⟧.loan taken.now).definition windows.now controls.old self.old
@@ -172,11 +170,11 @@ impl Lists<TakenList> {
         vertical: &TakenControl,
         horizontal: &TakenControl,
     ) -> Result<PlannedWithBars, Refusal>
-        requires kept { IsKept ⟦<TakenWindow as Defined>⟧.loan windows.now }
+        requires kept { ⟦<WindowManager as DeskWindows>⟧.IsKept windows.now }
         requires took { AreBarsTaken ⟦<TakenWindow as Defined>⟧.loan ⟦<TakenControl as Defined>⟧.loan
             (⟦<TakenControl as Defined>⟧.loan vertical.now) (⟦<TakenControl as Defined>⟧.loan horizontal.now)
             windows.now controls.old }
-        requires lists { AreBeside ⟦<TakenList as Defined>⟧.loan ⟦<TakenWindow as Defined>⟧.loan windows.now self.old }
+        requires lists { ⟦<Self as DeskLists>⟧.AreBeside windows.now self.old }
         requires ticket { IsTwoBarTicket ⟦<TakenWindow as Defined>⟧.loan ⟦<TakenControl as Defined>⟧.loan
             ⟦<TakenList as Defined>⟧.loan
             new.now (⟦<TakenControl as Defined>⟧.loan vertical.now).definition

@@ -2,22 +2,20 @@
 //! which takes no memory.
 ghost use Rattle.std.specs.Prelude.{◌≡◌, false, if◌then◌else◌, None, Some, IfOk, IfErr};
 ghost use Rattle.def_iface.specs.Slots.{IsTaken};
-ghost use Rattle.window_mgr.specs.Kept.{IsKept};
 ghost use Rattle.control_mgr.specs.Making.{IsRoomier};
 ghost use Rattle.list_mgr.specs.ListRefusals.{scroll_kind};
 ghost use Rattle.list_mgr.specs.ListSteps.{IsListMade, IsListPut};
 ghost use Rattle.list_mgr.specs.Making.{IsListTicket};
 ghost use Rattle.list_mgr.specs.Putting.{AreBarsTaken, AreRoomier, IsBarTaken, IsOneBarTicket, IsReadyToPut, IsTwoBarTicket, LeavesBeside};
-ghost use Rattle.list_mgr.specs.WholeLists.{AreBeside, LeavesOver};
 
 use crate::judging::ListTicket;
 use crate::planning::Planned;
-use crate::{ListRecord, Lists};
+use crate::{DeskLists, DeskListsWithBars, ListRecord, Lists};
 use control_mgr::Controls;
 use def_iface::{Defined, Stage, TakenControl, TakenList, TakenWindow};
 use desk_call::NewList;
 use window_items::Item;
-use window_mgr::WindowManager;
+use window_mgr::{DeskWindows, WindowManager};
 
 /// The serials of a list's scroll bars, of those that it has.
 #[derive(Clone, Copy)]
@@ -69,8 +67,8 @@ impl Lists<TakenList> {
         planned: Planned,
         taken: TakenList,
     )
-        requires kept { IsKept ⟦<TakenWindow as Defined>⟧.loan windows.old }
-        requires beside { AreBeside ⟦<TakenList as Defined>⟧.loan ⟦<TakenWindow as Defined>⟧.loan windows.old self.old }
+        requires kept { ⟦<WindowManager as DeskWindows>⟧.IsKept windows.old }
+        requires beside { ⟦<Self as DeskLists>⟧.AreBeside windows.old self.old }
         requires ready { IsReadyToPut ⟦<TakenWindow as Defined>⟧.loan new.now ticket.now windows.old self.old planned }
         requires fresh { (⟦<TakenList as Defined>⟧.loan taken).definition.stage ≡ Stage.Fresh }
         ensures { (before left : _) → IsTaken (λ d. d.stage) new.now.kind (⟦<TakenList as Defined>⟧.loan taken) before
@@ -113,8 +111,8 @@ impl Lists<TakenList> {
         ticket: ListTicket,
         taken: TakenList,
     ) -> Result<(), TakenList>
-        requires kept { IsKept ⟦<TakenWindow as Defined>⟧.loan windows.old }
-        requires lists { AreBeside ⟦<TakenList as Defined>⟧.loan ⟦<TakenWindow as Defined>⟧.loan windows.old self.old }
+        requires kept { ⟦<WindowManager as DeskWindows>⟧.IsKept windows.old }
+        requires lists { ⟦<Self as DeskLists>⟧.AreBeside windows.old self.old }
         requires ticket { IsListTicket ⟦<TakenWindow as Defined>⟧.loan ⟦<TakenControl as Defined>⟧.loan
             ⟦<TakenList as Defined>⟧.loan
             new.now None None windows.old controls.now self.old ticket }
@@ -122,7 +120,7 @@ impl Lists<TakenList> {
         requires unbarred { (new.now.vertical_bar ≡ false) × (new.now.horizontal_bar ≡ false) }
         ensures put { IfOk result (λ _. (held before left : _)
             → IsTaken (λ d. d.stage) new.now.kind (⟦<TakenList as Defined>⟧.loan taken) before left
-            → LeavesOver ⟦<TakenList as Defined>⟧.loan ⟦<TakenWindow as Defined>⟧.loan ⟦<TakenControl as Defined>⟧.loan
+            → ⟦<Self as DeskListsWithBars>⟧.LeavesOver
             held held before left (IsListMade new.now ticket.serial) windows.old controls.now self.old windows.new
             controls.now self.new) }
         ensures same { IfErr result (λ back. (back ≡ taken) × (windows.new ≡ windows.old)
@@ -148,10 +146,10 @@ impl Lists<TakenList> {
         taken: TakenList,
         bar: TakenControl,
     ) -> Result<(), (TakenList, TakenControl)>
-        requires kept { IsKept ⟦<TakenWindow as Defined>⟧.loan windows.old }
+        requires kept { ⟦<WindowManager as DeskWindows>⟧.IsKept windows.old }
         requires took { IsBarTaken ⟦<TakenWindow as Defined>⟧.loan ⟦<TakenControl as Defined>⟧.loan
             (⟦<TakenControl as Defined>⟧.loan bar) windows.old controls.old }
-        requires lists { AreBeside ⟦<TakenList as Defined>⟧.loan ⟦<TakenWindow as Defined>⟧.loan windows.old self.old }
+        requires lists { ⟦<Self as DeskLists>⟧.AreBeside windows.old self.old }
         requires ticket { IsOneBarTicket ⟦<TakenWindow as Defined>⟧.loan ⟦<TakenControl as Defined>⟧.loan
             ⟦<TakenList as Defined>⟧.loan
             new.now (⟦<TakenControl as Defined>⟧.loan bar).definition windows.old controls.old self.old ticket }
@@ -159,7 +157,7 @@ impl Lists<TakenList> {
         ensures put { IfOk result (λ _. (held rest before left : _)
             → IsTaken (λ d. d.stage) scroll_kind (⟦<TakenControl as Defined>⟧.loan bar) held rest
             → IsTaken (λ d. d.stage) new.now.kind (⟦<TakenList as Defined>⟧.loan taken) before left
-            → LeavesOver ⟦<TakenList as Defined>⟧.loan ⟦<TakenWindow as Defined>⟧.loan ⟦<TakenControl as Defined>⟧.loan
+            → ⟦<Self as DeskListsWithBars>⟧.LeavesOver
             held rest before left (IsListMade new.now ticket.serial) windows.old controls.old self.old windows.new
             controls.new self.new) }
         ensures same { IfErr result (λ back. (back ≡ (taken, bar)) × (windows.new ≡ windows.old)
@@ -190,11 +188,11 @@ impl Lists<TakenList> {
         vertical: TakenControl,
         horizontal: TakenControl,
     ) -> Result<(), (TakenList, TakenControl, TakenControl)>
-        requires kept { IsKept ⟦<TakenWindow as Defined>⟧.loan windows.old }
+        requires kept { ⟦<WindowManager as DeskWindows>⟧.IsKept windows.old }
         requires took { AreBarsTaken ⟦<TakenWindow as Defined>⟧.loan ⟦<TakenControl as Defined>⟧.loan
             (⟦<TakenControl as Defined>⟧.loan vertical) (⟦<TakenControl as Defined>⟧.loan horizontal) windows.old
             controls.old }
-        requires lists { AreBeside ⟦<TakenList as Defined>⟧.loan ⟦<TakenWindow as Defined>⟧.loan windows.old self.old }
+        requires lists { ⟦<Self as DeskLists>⟧.AreBeside windows.old self.old }
         requires ticket { IsTwoBarTicket ⟦<TakenWindow as Defined>⟧.loan ⟦<TakenControl as Defined>⟧.loan
             ⟦<TakenList as Defined>⟧.loan
             new.now (⟦<TakenControl as Defined>⟧.loan vertical).definition
@@ -205,7 +203,7 @@ impl Lists<TakenList> {
             → IsTaken (λ d. d.stage) scroll_kind (⟦<TakenControl as Defined>⟧.loan vertical) held mid
             → IsTaken (λ d. d.stage) scroll_kind (⟦<TakenControl as Defined>⟧.loan horizontal) mid rest
             → IsTaken (λ d. d.stage) new.now.kind (⟦<TakenList as Defined>⟧.loan taken) before left
-            → LeavesOver ⟦<TakenList as Defined>⟧.loan ⟦<TakenWindow as Defined>⟧.loan ⟦<TakenControl as Defined>⟧.loan
+            → ⟦<Self as DeskListsWithBars>⟧.LeavesOver
             held rest before left (IsListMade new.now ticket.serial) windows.old controls.old self.old windows.new
             controls.new self.new) }
         ensures same { IfErr result (λ back. (back ≡ (taken, vertical, horizontal)) × (windows.new ≡ windows.old)

@@ -1,17 +1,16 @@
 //! What changes the selection of a list's cells.
-ghost use Rattle.std.specs.Prelude.{◌≡◌, [], Some, slice_get};
+ghost use Rattle.std.specs.Prelude.{◌≡◌, Some};
 ghost use Rattle.desk_call.specs.declared.list.ListCall.TheVariants as asks;
-ghost use Rattle.window_mgr.specs.Kept.{IsKept};
 ghost use Rattle.list_mgr.specs.ListSteps.{IsListStep};
 ghost use Rattle.list_cells.specs.Selections.{selected_by};
 ghost use Rattle.list_view.specs.Shown.{is_turned};
 ghost use Rattle.list_mgr.specs.Seen.{seen};
 ghost use Rattle.list_mgr.specs.Changing.{IsMark, IsToggledOrMarked};
 ghost use Rattle.list_mgr.specs.Spots.{IsSpot};
-ghost use Rattle.list_mgr.specs.WholeLists.{AreBeside, IsChangedOver, IsSettledList, records_of};
+ghost use Rattle.list_mgr.specs.WholeLists.{IsSettledList};
 
 use crate::spots::ListAt;
-use crate::{ListRecord, Lists};
+use crate::{DeskLists, ListRecord, Lists};
 use def_iface::{Defined, TakenList, TakenWindow};
 use desk_call::{ListClick, ListReply, SelectCell};
 use draw_port::Canvas;
@@ -20,7 +19,7 @@ use list_view::{DrawnList, toggle_cells};
 use scan_region::Region;
 use tb_geom::Refusal;
 use window_items::Item;
-use window_mgr::WindowManager;
+use window_mgr::{DeskWindows, WindowManager};
 use window_paint::Toggling;
 
 /// A list, and what a call is about to make of its selection.
@@ -59,8 +58,8 @@ impl Lists<TakenList> {
         mark: Option<Region>,
         selecting: Selecting,
     )
-        requires kept { IsKept ⟦<TakenWindow as Defined>⟧.loan windows.old }
-        requires beside { AreBeside ⟦<TakenList as Defined>⟧.loan ⟦<TakenWindow as Defined>⟧.loan windows.old self.now }
+        requires kept { ⟦<WindowManager as DeskWindows>⟧.IsKept windows.old }
+        requires beside { ⟦<Self as DeskLists>⟧.AreBeside windows.old self.now }
         requires spot { IsSpot ⟦<TakenWindow as Defined>⟧.loan ⟦<TakenList as Defined>⟧.loan windows.old self.now spot }
         requires mark { IsMark ⟦<TakenList as Defined>⟧.loan ⟦<TakenWindow as Defined>⟧.loan windows.old self.now spot
             mark }
@@ -87,9 +86,9 @@ impl Lists<TakenList> {
         windows: &mut WindowManager,
         chosen: SelectCell,
     ) -> Result<ListReply, Refusal>
-        requires kept { IsKept ⟦<TakenWindow as Defined>⟧.loan windows.old }
-        requires beside { AreBeside ⟦<TakenList as Defined>⟧.loan ⟦<TakenWindow as Defined>⟧.loan windows.old self.old }
-        ensures { IsChangedOver ⟦<TakenList as Defined>⟧.loan ⟦<TakenWindow as Defined>⟧.loan
+        requires kept { ⟦<WindowManager as DeskWindows>⟧.IsKept windows.old }
+        requires beside { ⟦<Self as DeskLists>⟧.AreBeside windows.old self.old }
+        ensures { ⟦<Self as DeskLists>⟧.Changes
             (IsListStep (asks.Select chosen) result) windows.old self.old windows.new self.new }
     {
         let spot = self.spot(windows, chosen.cell.list)?;
@@ -117,9 +116,9 @@ impl Lists<TakenList> {
         windows: &mut WindowManager,
         clicked: ListClick,
     ) -> Result<ListReply, Refusal>
-        requires kept { IsKept ⟦<TakenWindow as Defined>⟧.loan windows.old }
-        requires beside { AreBeside ⟦<TakenList as Defined>⟧.loan ⟦<TakenWindow as Defined>⟧.loan windows.old self.old }
-        ensures { IsChangedOver ⟦<TakenList as Defined>⟧.loan ⟦<TakenWindow as Defined>⟧.loan
+        requires kept { ⟦<WindowManager as DeskWindows>⟧.IsKept windows.old }
+        requires beside { ⟦<Self as DeskLists>⟧.AreBeside windows.old self.old }
+        ensures { ⟦<Self as DeskLists>⟧.Changes
             (IsListStep (asks.Click clicked) result) windows.old self.old windows.new self.new }
     {
         let spot = self.spot(windows, clicked.list)?;

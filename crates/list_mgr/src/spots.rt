@@ -1,17 +1,15 @@
 //! Where a list stands, and its window.
 ghost use Rattle.std.specs.Prelude.{◌≡◌, [], Some, MatchResult};
 ghost use Rattle.tb_geom.specs.Refusals.{first_refusal};
-ghost use Rattle.window_mgr.specs.Records.{desk_of};
 ghost use Rattle.list_mgr.specs.ListRefusals.{missing_refusals};
 ghost use Rattle.list_mgr.specs.Spots.{IsSpotOf};
-ghost use Rattle.list_mgr.specs.WholeLists.{records_of};
 
-use crate::Lists;
+use crate::{Lists, ListsOnStock};
 use control_mgr::spot_of;
 use def_iface::{Defined, TakenList, TakenWindow};
 use desk_call::ListOf;
 use tb_geom::Refusal;
-use window_mgr::WindowManager;
+use window_mgr::{DeskWindows, WindowManager};
 
 /// The index of a list in the list of lists, and that of its window from the front.
 #[derive(Clone, Copy)]
@@ -23,8 +21,8 @@ pub(crate) struct ListAt {
 impl Lists<TakenList> {
     /// Where this list stands.
     pub(crate) fn spot(&self, windows: &WindowManager, list: ListOf) -> Result<ListAt, Refusal>
-        ensures { let refusals = missing_refusals list (desk_of ⟦<TakenWindow as Defined>⟧.loan windows.now [])
-            (records_of ⟦<TakenList as Defined>⟧.loan self.now) in
+        ensures { let refusals = missing_refusals list (⟦<WindowManager as DeskWindows>⟧.desk windows.now [])
+            (⟦<Self as ListsOnStock>⟧.records self.now) in
             MatchResult result
             (λ spot. IsSpotOf ⟦<TakenWindow as Defined>⟧.loan ⟦<TakenList as Defined>⟧.loan list windows.now self.now
             spot)

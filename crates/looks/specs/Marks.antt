@@ -104,9 +104,9 @@ text_at cut column baseline = placed_text cut (record { pen = At column; baselin
 abbrev pub centred_text : Rect → ℕ → Baseline → Step
 centred_text cut w baseline = placed_text cut (record { pen = Middle w; baseline = baseline })
 
--- grey over what stands there
-abbrev pub greyed : Rect → Step
-greyed r = record { on = true; cut = r; mark = Fill r gray_away }
+-- gray over what stands there
+abbrev pub grayed : Rect → Step
+grayed r = record { on = true; cut = r; mark = Fill r gray_away }
 
 -- each pixel turned
 abbrev pub inverted : Rect → Step

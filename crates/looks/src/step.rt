@@ -1,7 +1,7 @@
 //! The steps of a look.
 ghost use Rattle.std.specs.Prelude.{◌≡◌, false};
 ghost use Rattle.looks.specs.Marks.{black_fill, white_fill, black_frame, white_plate, black_text, when, cut_to};
-ghost use Rattle.looks.specs.Marks.{placed_text, text_at, centred_text, greyed, inverted, light_gray_fill, black_cross};
+ghost use Rattle.looks.specs.Marks.{placed_text, text_at, centred_text, grayed, inverted, light_gray_fill, black_cross};
 
 use crate::pen::{Baseline, Pen, Place, Plate};
 use crate::rects::sides;
@@ -135,8 +135,8 @@ impl Step {
     }
 
     /// Every other pixel of a rectangle white, as what cannot be used is shown.
-    pub fn greyed(rect: Rect) -> Step
-        ensures { result ≡ greyed rect }
+    pub fn grayed(rect: Rect) -> Step
+        ensures { result ≡ grayed rect }
     {
         Step {
             on: true,

@@ -8,9 +8,11 @@ use Rattle.bit_map.specs.Bits.{Bits}
 use Rattle.def_iface.specs.Slots.{TakenBox}
 use Rattle.def_iface.specs.WindowMeaning.{WindowLoan}
 use Rattle.def_iface.specs.MenuMeaning.{MenuLoan}
+use Rattle.desk_ground.specs.declared.titles.BarTitle.{BarTitle}
 use Rattle.menu_list.specs.Lists.{menu_index, titles_of}
 use Rattle.menu_list.specs.Seen.{seen}
 use Rattle.menu_list.proofs.SeenLemmas.{length-seen, menu_index-seen}
+use Rattle.overlay.specs.declared.overlay.Overlay.{Overlay}
 use Rattle.overlay.specs.Overlays.{IsShown}
 use Rattle.desk_call.specs.declared.activity.Activity.{Activity}
 use Rattle.desk_call.specs.declared.activity.Activity.TheVariants.{Idle, Pulling}
@@ -21,6 +23,7 @@ use Rattle.desk_call.specs.declared.menu.MenuReply.TheVariants as reply
 use Rattle.menu_list.proofs.FoundMenus.{is_at}
 use Rattle.window_mgr.specs.declared.manager.WindowManager.{WindowManager}
 use Rattle.window_mgr.specs.BarShown.{IsBarShown}
+use Rattle.window_mgr.specs.Kept.{IsKept}
 use Rattle.window_mgr.specs.Records.{desk_of, state_of}
 use Rattle.window_mgr.specs.Updating.{LeavesState}
 use Rattle.menu_mgr.specs.declared.menus.Menus.{Menus}
@@ -29,8 +32,8 @@ use Rattle.menu_mgr.specs.Leaving.{AreKeptMenus, LeavesMenus, indexed, of_anothe
 use Rattle.menu_mgr.specs.MenuDesks.{MenuSlot}
 use Rattle.menu_mgr.specs.MenuSteps.{IsMenuStep, IsMoved, IsMovedOn, IsMenuReleased, IsTold, choice_of}
 use Rattle.menu_mgr.specs.Pulling.{item_under, pulled_of, title_under}
-use Rattle.menu_mgr.specs.WholeMenus.{AreLive, AreMenusStocked, IsWholeMenus, menu_desk, menus_of}
-use Rattle.menu_mgr.proofs.PulledSteps.{near, seen_menus, IsHeld, IsPulledOver, shown, lies_below, pulled_whole}
+use Rattle.menu_mgr.specs.WholeMenus.{AreLive, AreMenusStocked, IsMenuFront, IsWholeMenus, menu_desk, menus_of}
+use Rattle.menu_mgr.proofs.PulledSteps.{near, seen_menus, IsHeld, IsPulledOver, shown, lies_below, pulled_front, pulled_whole}
 use Rattle.menu_mgr.proofs.ShownBars as bars
 use Rattle.menu_mgr.proofs.SeenMenus.{another, on_no_other, on_other, seen_at, title_index}
 use Rattle.menu_mgr.proofs.ToldMenus.{as_large, told_alike}
@@ -42,14 +45,14 @@ module _ {V : Type 0} {H : V → Type 0} (loan : TakenBox V H → WindowLoan) {W
     pub highlighted : k.list.highlighted ≡ m.list.highlighted
     pub room : vec_capacity m.list.menus ≤ vec_capacity k.list.menus
 
-  module _ (t : WindowManager V H) (pulled : PulledMenu) (item : Option ℕ) (m k : Menus W K) (so : IsToldSo pulled item m k) where
+  module _ (pulled : PulledMenu) (item : Option ℕ) (m k : Menus W K) (so : IsToldSo pulled item m k) where
     pub as_many : length k.list.menus.items ≡ length m.list.menus.items
     as_many =
         sym (length-seen menu_loan k.list.menus.items)
         ∙ (told_alike pulled item (seen_menus loan menu_loan m) (seen_menus loan menu_loan k) so.told).many
         ∙ length-seen menu_loan m.list.menus.items
 
-    pub told_held : (slots : List MenuSlot) → IsWholeMenus menu_loan t (Pulling pulled) m slots → IsHeld loan menu_loan k slots
+    pub told_held : (slots : List MenuSlot) → IsWholeMenus menu_loan (Pulling pulled) m slots → IsHeld loan menu_loan k slots
     told_held slots whole =
         let alike = told_alike pulled item (seen_menus loan menu_loan m) (seen_menus loan menu_loan k) so.told in
         record {
@@ -59,21 +62,15 @@ module _ {V : Type 0} {H : V → Type 0} (loan : TakenBox V H → WindowLoan) {W
           stocked = alike.stocked slots whole.stocked;
         }
 
-    -- the map in front shows it
-    pub told_whole : (slots : List MenuSlot) → IsWholeMenus menu_loan t (Pulling pulled) m slots
-        → IsShown t.font (pulled_of (Pulling pulled) (seen_menus loan menu_loan k)) t.screen k.overlay.front
-        → IsWholeMenus menu_loan t (Pulling (record pulled { item = item })) k slots
-    told_whole slots whole front =
+    pub told_whole : (slots : List MenuSlot) → IsWholeMenus menu_loan (Pulling pulled) m slots → IsWholeMenus menu_loan (Pulling (record pulled { item = item })) k slots
+    told_whole slots whole =
         let held = told_held slots whole in
         record {
           few = held.few;
           room = held.room;
           live = held.live;
           stocked = held.stocked;
-          width = front.width;
-          height = front.height;
           placed = whole.placed;
-          front = front;
         }
 
     pub same_index : (id : ℤ) → menu_index id k.list.menus.items ≡ menu_index id m.list.menus.items
@@ -83,48 +80,42 @@ module _ {V : Type 0} {H : V → Type 0} (loan : TakenBox V H → WindowLoan) {W
         ∙ menu_index-seen menu_loan id m.list.menus.items
 
   -- so the menus still hold
-  pub record StillHold (t : WindowManager V H) (m k : Menus W K) : Type 0 where
+  pub record StillHold (m k : Menus W K) : Type 0 where
     pub many : length k.list.menus.items ≡ length m.list.menus.items
     pub few : length k.list.menus.items ≤ 16
     pub live : AreLive (seen_menus loan menu_loan k)
-    pub width : k.overlay.front.width ≡ t.screen.width
-    pub height : k.overlay.front.height ≡ t.screen.height
 
-  pub still_hold : (t : WindowManager V H) (a : Activity) (pulled : PulledMenu) (m k : Menus W K)
-      → AreKeptMenus loan menu_loan t a m → a ≡ Pulling pulled → IsToldSo pulled None m k → k.overlay ≡ m.overlay → StillHold t m k
-  still_hold t a pulled m k kept pulling so overlay =
-      let held = told_held t pulled None m k so kept.slots (subst (λ x. IsWholeMenus menu_loan t x m kept.slots) pulling kept.whole) in
+  pub still_hold : (a : Activity) (pulled : PulledMenu) (m k : Menus W K) → AreKeptMenus menu_loan a m → a ≡ Pulling pulled → IsToldSo pulled None m k → StillHold m k
+  still_hold a pulled m k kept pulling so =
+      let held = told_held pulled None m k so kept.slots (subst (λ x. IsWholeMenus menu_loan x m kept.slots) pulling kept.whole) in
       record {
-        many = as_many t pulled None m k so;
+        many = as_many pulled None m k so;
         few = held.few;
         live = held.live;
-        width = (λ i. (overlay i).front.width) ∙ kept.whole.width;
-        height = (λ i. (overlay i).front.height) ∙ kept.whole.height;
       }
 
   -- ---- the mouse is on the title of another menu
 
-  pub moved_on : (t u : WindowManager V H) (a : Activity) (begun : PixelSet) (m k n : Menus W K) (p : Point) (pulled new : PulledMenu) (title : Titled)
+  pub moved_on : (t u : WindowManager V H) (a : Activity) (begun : PixelSet) (m k n : Menus W K) (front : Overlay) (p : Point) (pulled new : PulledMenu) (title : Titled)
       → in_plane p ≡ true → a ≡ Pulling pulled
       → of_another pulled (indexed m.list.menus.items (title_under (desk_of loan t []) p)) ≡ Some title
       → title.at < length m.list.menus.items → title.at < length k.list.menus.items
-      → IsToldSo pulled None m k → IsPulledOver loan menu_loan title new t u k n
+      → IsToldSo pulled None m k → IsPulledOver loan menu_loan title new t u k n front
       → LeavesMenus loan menu_loan (IsMenuStep (Move p) (Ok (reply.Item None))) t (opened a begun) m u (opened (Pulling new) begun) n
-  moved_on t u a begun m k n p pulled new title e pulling on within there so over kept was slots w =
+  moved_on t u a begun m k n front p pulled new title e pulling on within there so over kept was slots w =
       let under = title_under (desk_of loan t []) p in
-      let whole : IsWholeMenus menu_loan t (Pulling pulled) m kept = subst (λ x. IsWholeMenus menu_loan t x m kept) pulling was in
-      let held = told_held t pulled None m k so kept whole in
+      let whole : IsWholeMenus menu_loan (Pulling pulled) m kept = subst (λ x. IsWholeMenus menu_loan x m kept) pulling was in
+      let held = told_held pulled None m k so kept whole in
       let old = is_at title.at m.list.menus.items within in
       let now = is_at title.at k.list.menus.items there in
       let bar = over.bar slots w in
       let before = menu_desk menu_loan loan t (opened a begun) slots m kept in
       let after = menu_desk menu_loan loan u (opened (Pulling new) begun) slots n kept in
-      let index = (title_index menu_loan m.list.menus.items under title (another pulled (indexed m.list.menus.items under) title on).0).1 in
       let is = on_other menu_loan pulled m.list.menus.items under title old.listed on old.got in
       let size = (told_alike pulled None (seen_menus loan menu_loan m) (seen_menus loan menu_loan k) so.told).size t.font title.at (seen menu_loan old.listed) (seen menu_loan now.listed)
       (seen_at menu_loan m.list.menus.items title.at old.listed old.got) (seen_at menu_loan k.list.menus.items title.at now.listed now.got) in (
         bar.0,
-        pulled_whole loan menu_loan title now.listed new t u k n over now.got (same_index t pulled None m k so (pos title.hit.menu) ∙ index) kept held,
+        pulled_whole loan menu_loan title now.listed new t u k n front over now.got kept held,
         (
           near p e,
           (
@@ -137,7 +128,7 @@ module _ {V : Type 0} {H : V → Type 0} (loan : TakenBox V H → WindowLoan) {W
                     seen_menus loan menu_loan k,
                     so.told,
                     record {
-                      activity = ap Pulling (lies_below loan menu_loan title now.listed new t u k n over now.got ∙ as_large (desk_of loan t []) title.hit (seen menu_loan old.listed) (seen menu_loan now.listed) size);
+                      activity = ap Pulling (lies_below loan menu_loan title now.listed new t u k n front over now.got ∙ as_large (desk_of loan t []) title.hit (seen menu_loan old.listed) (seen menu_loan now.listed) size);
                       begun = refl;
                       shown = shown loan menu_loan t u m n (opened a begun) (opened (Pulling new) begun) slots kept k.list.menus.items (Some title.hit.menu) (λ i. (over.menus i).items) over.highlighted bar.1;
                     },
@@ -147,6 +138,16 @@ module _ {V : Type 0} {H : V → Type 0} (loan : TakenBox V H → WindowLoan) {W
         ),
       )
 
+  -- the map in front shows that menu
+  pub moved_front : (t u : WindowManager V H) (m k n : Menus W K) (front : Overlay) (p : Point) (pulled new : PulledMenu) (title : Titled)
+      → of_another pulled (indexed m.list.menus.items (title_under (desk_of loan t []) p)) ≡ Some title → title.at < length k.list.menus.items
+      → IsToldSo pulled None m k → IsPulledOver loan menu_loan title new t u k n front → IsMenuFront menu_loan (Pulling new) u n front
+  moved_front t u m k n front p pulled new title on there so over =
+      let under = title_under (desk_of loan t []) p in
+      let now = is_at title.at k.list.menus.items there in
+      let index = (title_index menu_loan m.list.menus.items under title (another pulled (indexed m.list.menus.items under) title on).0).1 in
+      pulled_front loan menu_loan title now.listed new t u k n front over now.got (same_index pulled None m k so (pos title.hit.menu) ∙ index)
+
   -- ---- it is on none
 
   pub stayed_on : (t : WindowManager V H) (a : Activity) (begun : PixelSet) (m k : Menus W K) (p : Point) (pulled : PulledMenu) (item : Option ℕ)
@@ -154,16 +155,14 @@ module _ {V : Type 0} {H : V → Type 0} (loan : TakenBox V H → WindowLoan) {W
       → of_another pulled (indexed m.list.menus.items (title_under (desk_of loan t []) p)) ≡ None
       → item ≡ item_under (desk_of loan t []) pulled (seen_menus loan menu_loan m) p
       → IsToldSo pulled item m k
-      → ((base : Bits) → IsShown t.font (pulled_of (Pulling pulled) (seen_menus loan menu_loan m)) base m.overlay.front
-      → IsShown t.font (pulled_of (Pulling pulled) (seen_menus loan menu_loan k)) base k.overlay.front)
       → LeavesMenus loan menu_loan (IsMenuStep (Move p) (Ok (reply.Item item))) t (opened a begun) m t (opened (Pulling (record pulled { item = item })) begun) k
-  stayed_on t a begun m k p pulled item e pulling none over so shows kept was slots w =
-      let whole : IsWholeMenus menu_loan t (Pulling pulled) m kept = subst (λ x. IsWholeMenus menu_loan t x m kept) pulling was in
+  stayed_on t a begun m k p pulled item e pulling none over so kept was slots w =
+      let whole : IsWholeMenus menu_loan (Pulling pulled) m kept = subst (λ x. IsWholeMenus menu_loan x m kept) pulling was in
       let before = menu_desk menu_loan loan t (opened a begun) slots m kept in
       let after = menu_desk menu_loan loan t (opened (Pulling (record pulled { item = item })) begun) slots k kept in
       let is = on_no_other menu_loan pulled m.list.menus.items (title_under (desk_of loan t []) p) none in (
         w,
-        told_whole t pulled item m k so kept whole (shows t.screen whole.front),
+        told_whole pulled item m k so kept whole,
         (
           near p e,
           (
@@ -187,20 +186,29 @@ module _ {V : Type 0} {H : V → Type 0} (loan : TakenBox V H → WindowLoan) {W
         ),
       )
 
+  -- the map in front shows the menu so
+  pub stayed_front : (t : WindowManager V H) (a : Activity) (m k : Menus W K) (before after : Overlay) (pulled : PulledMenu) (item : Option ℕ) → a ≡ Pulling pulled
+      → ((base : Bits) → IsShown t.font (pulled_of (Pulling pulled) (seen_menus loan menu_loan m)) base before.front
+      → IsShown t.font (pulled_of (Pulling pulled) (seen_menus loan menu_loan k)) base after.front)
+      → IsMenuFront menu_loan a t m before → IsMenuFront menu_loan (Pulling (record pulled { item = item })) t k after
+  stayed_front t a m k before after pulled item pulling shows was =
+      let front : IsMenuFront menu_loan (Pulling pulled) t m before = subst (λ x. IsMenuFront menu_loan x t m before) pulling was in
+      let shown = shows t.screen front.shown in
+      record { width = shown.width; height = shown.height; shown = shown }
+
   -- ---- the mouse button is released
 
   pub released : (t u : WindowManager V H) (a : Activity) (begun : PixelSet) (m k n : Menus W K) (p : Point) (pulled : PulledMenu) (choice : Option Choice)
       → in_plane p ≡ true → a ≡ Pulling pulled
       → choice ≡ choice_of pulled (item_under (desk_of loan t []) pulled (seen_menus loan menu_loan m) p)
       → IsToldSo pulled None m k
-      → n.list.menus ≡ k.list.menus → n.list.highlighted ≡ (if is_none choice then None else k.list.highlighted) → n.overlay ≡ m.overlay
+      → n.list.menus ≡ k.list.menus → n.list.highlighted ≡ (if is_none choice then None else k.list.highlighted)
       → LeavesState loan (IsBarShown (titles_of n.list.highlighted n.list.menus.items)) t u
       → LeavesMenus loan menu_loan (IsMenuStep (Up p) (Ok (reply.Chosen choice))) t (opened a begun) m u (opened Idle begun) n
-  released t u a begun m k n p pulled choice e pulling chosen so menus lit overlay leaves kept was slots w =
-      let whole : IsWholeMenus menu_loan t (Pulling pulled) m kept = subst (λ x. IsWholeMenus menu_loan t x m kept) pulling was in
-      let told = told_held t pulled None m k so kept whole in
+  released t u a begun m k n p pulled choice e pulling chosen so menus lit leaves kept was slots w =
+      let whole : IsWholeMenus menu_loan (Pulling pulled) m kept = subst (λ x. IsWholeMenus menu_loan x m kept) pulling was in
+      let told = told_held pulled None m k so kept whole in
       let bar = leaves slots w in
-      let sides = bars.as_large loan t u slots (titles_of n.list.highlighted n.list.menus.items) bar.1 in
       let before = menu_desk menu_loan loan t (opened a begun) slots m kept in
       let after = menu_desk menu_loan loan u (opened Idle begun) slots n kept in
       let items : n.list.menus.items ≡ k.list.menus.items = λ i. (menus i).items in
@@ -211,10 +219,7 @@ module _ {V : Type 0} {H : V → Type 0} (loan : TakenBox V H → WindowLoan) {W
           room = subst (λ v. 16 ≤ v) (sym (λ i. vec_capacity (menus i))) told.room;
           live = subst (λ v. AreLive (menus_of menu_loan v)) (sym items) told.live;
           stocked = subst (λ v. AreMenusStocked (menus_of menu_loan v) kept) (sym items) told.stocked;
-          width = (λ i. (overlay i).front.width) ∙ whole.width ∙ sym sides.width;
-          height = (λ i. (overlay i).front.height) ∙ whole.height ∙ sym sides.height;
           placed = tt;
-          front = tt;
         },
         (
           near p e,
@@ -235,3 +240,10 @@ module _ {V : Type 0} {H : V → Type 0} (loan : TakenBox V H → WindowLoan) {W
           ),
         ),
       )
+
+  -- nothing lies in front then
+  pub released_front : (t u : WindowManager V H) (a : Activity) (m n : Menus W K) (titles : List BarTitle) → IsKept loan t → LeavesState loan (IsBarShown titles) t u
+      → (front : Overlay) → IsMenuFront menu_loan a t m front → IsMenuFront menu_loan Idle u n front
+  released_front t u a m n titles kept leaves front was =
+      let sides = bars.as_large loan t u kept.slots titles (leaves kept.slots kept.whole).1 in
+      record { width = was.width ∙ sym sides.width; height = was.height ∙ sym sides.height; shown = tt }

@@ -1,14 +1,11 @@
--- What lies in front of the base image, painted over it: the menu that is pulled down, or an outline.
-use Rattle.std.proofs.Common.{◌≡◌, ℕ, ◌<◌, ℤ, true, List, length, get_or, Option, Some, None, pos, refl, sym, ap, ◌∙◌, subst}
+-- The menu that is pulled down, painted over a base image.
+use Rattle.std.proofs.Common.{◌≡◌, ℕ, ◌<◌, ℤ, List, length, get_or, Option, Some, None, pos, refl, sym, ap, ◌∙◌, subst}
 use Rattle.std.specs.Prelude.{slice_get}
 use Rattle.std.specs.Option.{option_map}
 use Rattle.std.proofs.lemmas.Option.{slice_get_read}
-use Rattle.tb_geom.specs.declared.point.Point.{Point}
-use Rattle.tb_geom.specs.declared.rect.Rect.{Rect}
 use Rattle.tb_geom.specs.Points.{minus}
 use Rattle.tb_geom.specs.Rects.{rect_holds}
-use Rattle.bit_map.specs.Bits.{Bits, bit, on_map}
-use Rattle.bit_map.proofs.BitsLemmas.{on_map-same}
+use Rattle.bit_map.specs.Bits.{Bits}
 use Rattle.bit_blit.specs.Draws.{Draws}
 use Rattle.def_iface.specs.Slots.{TakenBox}
 use Rattle.def_iface.specs.declared.window_def.Stage.TheVariants.{Live}
@@ -19,16 +16,10 @@ use Rattle.menu_list.specs.Seen.{seen}
 use Rattle.menu_list.proofs.SeenLemmas.{menu_with-seen, slice_get-seen}
 use Rattle.menu_list.proofs.Indices.{with_found, with_none}
 use Rattle.overlay.specs.Overlays.{IsShown, Pulled, pulled_rect}
-use Rattle.overlay.specs.Outlines.{IsOutlined, outline_holds, outlined}
-use Rattle.overlay.proofs.OutlineLemmas.{inverted}
 use Rattle.overlay.proofs.ShownLemmas.{pulled_shows}
-use Rattle.desk_call.specs.declared.activity.Activity.{Activity}
-use Rattle.desk_call.specs.declared.activity.Activity.TheVariants.{Dragging, Growing, Pulling}
-use Rattle.desk_call.specs.declared.activity.DraggedWindow.{DraggedWindow}
-use Rattle.desk_call.specs.declared.activity.GrownWindow.{GrownWindow}
+use Rattle.desk_call.specs.declared.activity.Activity.TheVariants.{Pulling}
 use Rattle.desk_call.specs.declared.activity.PulledMenu.{PulledMenu}
-use Rattle.menu_mgr.specs.MenuDesks.{MenuRecord}
-use Rattle.menu_mgr.specs.Pulling.{IsFrontPainted, as_pulled, pulled_of}
+use Rattle.menu_mgr.specs.Pulling.{as_pulled, pulled_of}
 use Rattle.menu_mgr.specs.WholeMenus.{AreLive, menus_of}
 use Rattle.menu_mgr.proofs.Stocks.{live-at}
 
@@ -62,33 +53,3 @@ module _ {W : Type 0} {K : W → Type 0} (menu_loan : TakenBox W K → MenuLoan)
         → IsShown font (pulled_of (Pulling m) (menus_of menu_loan menus)) base new
     pulled_painted font base new drawn = subst (λ pulled. IsShown font pulled base new) (sym pulled_is)
         (pulled_shows font (as_pulled m (seen menu_loan l)) (pulled_rect m.place m.size) base base new refl drawn (base_shows font None base refl))
-
--- ---- the outline, painted over a base image
-
-outline_painted : (bar : ℤ) (lines : List Rect) (base new : Bits) → Draws (outline_holds bar lines) inverted base new
-    → (p : Point) → on_map new p ≡ true → bit new p ≡ outlined bar lines (bit base) p
-outline_painted bar lines base new drawn p on = drawn.pixels p (sym (on_map-same base new p drawn.width drawn.height) ∙ on)
-
-pub drag_painted : (font : List ℕ) (bar : ℤ) (d : DraggedWindow) (menus : List MenuRecord) (activity : Activity) (base new : Bits) → activity ≡ Dragging d
-    → Draws (outline_holds bar d.outline) inverted base new → IsFrontPainted font bar activity menus base new
-drag_painted font bar d menus activity base new is drawn = subst (λ a. IsFrontPainted font bar a menus base new) (sym is) (record {
-  width = drawn.width;
-  height = drawn.height;
-  pixels = outline_painted bar d.outline base new drawn;
-})
-
-pub growth_painted : (font : List ℕ) (bar : ℤ) (g : GrownWindow) (menus : List MenuRecord) (activity : Activity) (base new : Bits) → activity ≡ Growing g
-    → Draws (outline_holds bar g.outline) inverted base new → IsFrontPainted font bar activity menus base new
-growth_painted font bar g menus activity base new is drawn = subst (λ a. IsFrontPainted font bar a menus base new) (sym is) (record {
-  width = drawn.width;
-  height = drawn.height;
-  pixels = outline_painted bar g.outline base new drawn;
-})
-
--- ---- the outline on the map in front
-
--- other lines over the bar's rows
-pub outlined_again : (bar rows : ℤ) (old new : List Rect) (screen before after : Bits) → bar ≡ rows
-    → ((base : Bits) → IsOutlined bar old base before → IsOutlined bar new base after) → IsOutlined rows old screen before → IsOutlined rows new screen after
-outlined_again bar rows old new screen before after is again shown =
-    subst (λ n. IsOutlined n new screen after) is (again screen (subst (λ n. IsOutlined n old screen before) (sym is) shown))

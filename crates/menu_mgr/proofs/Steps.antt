@@ -41,7 +41,7 @@ use Rattle.menu_mgr.specs.MenuSteps.{AreEdited, IsDisposedAt, IsMenuStep, is_edi
 use Rattle.menu_mgr.specs.WholeMenus.{AreLive, AreMenusStocked, IsWholeMenus, menu_desk, menus_of, menus_state}
 use Rattle.menu_mgr.proofs.Edited.{AreAlike, alike_after, still_stocked}
 use Rattle.menu_mgr.proofs.Made.{one_more}
-use Rattle.menu_mgr.proofs.Showing.{menus_shown, whole_again, whole_beside}
+use Rattle.menu_mgr.proofs.Showing.{menus_shown, whole_again}
 use Rattle.menu_mgr.proofs.Stocks.{live-append, live-remove, stocked_with, stocked_without, uses-remove}
 
 -- a call that changes something may come where nothing is open
@@ -120,7 +120,7 @@ module _ {V : Type 0} {H : V → Type 0} (loan : TakenBox V H → WindowLoan) {W
   -- windows and menus are whole, and this step led to them
   abbrev Leaves : MenuCall → Result MenuReply Refusal → List WindowSlot → WindowManager V H → WindowManager V H → Opened → Opened → Menus W K → Menus W K → List MenuSlot → List MenuSlot → Type 0
   Leaves call result slots t u o r m n before after =
-      IsWholeManager loan u slots × IsWholeMenus menu_loan u r.activity n after
+      IsWholeManager loan u slots × IsWholeMenus menu_loan r.activity n after
       × IsMenuStep call result (menu_desk menu_loan loan t o slots m before) (menu_desk menu_loan loan u r slots n after)
 
   unchanged : (t : WindowManager V H) (o : Opened) (slots : List WindowSlot) (m n : Menus W K) (before after : List MenuSlot)
@@ -133,32 +133,32 @@ module _ {V : Type 0} {H : V → Type 0} (loan : TakenBox V H → WindowLoan) {W
 
   -- a refused call changes nothing
   pub refused_step : (call : MenuCall) (e : Refusal) (slots : List WindowSlot) (t : WindowManager V H) (o : Opened) (m n : Menus W K) (before after : List MenuSlot)
-      → IsWholeManager loan t slots → IsWholeMenus menu_loan t o.activity m before
+      → IsWholeManager loan t slots → IsWholeMenus menu_loan o.activity m before
       → first_refusal (menu_refusals call (menus_state menu_loan m before)) ≡ Some e → n ≡ m → after ≡ before
       → Leaves call (Err e) slots t t o o m n before after
   refused_step call e slots t o m n before after windows menus refused same left = (
     windows,
-    subst (λ k. IsWholeMenus menu_loan t o.activity k after) (sym same) (subst (IsWholeMenus menu_loan t o.activity m) (sym left) menus),
+    subst (λ k. IsWholeMenus menu_loan o.activity k after) (sym same) (subst (IsWholeMenus menu_loan o.activity m) (sym left) menus),
     (inl refused, unchanged t o slots m n before after (λ i. menus_state menu_loan (same i) (left i))),
   )
 
   -- ---- calls that change menus as data
 
   module _ (call : MenuCall) (is : is_edit call ≡ true) (slots : List WindowSlot) (t u : WindowManager V H) (begun : PixelSet) (m n : Menus W K) (kept : List MenuSlot)
-      (menus : IsWholeMenus menu_loan t Idle m kept) (alloc : n.alloc ≡ m.alloc) (overlay : n.overlay ≡ m.overlay) where
+      (menus : IsWholeMenus menu_loan Idle m kept) (alloc : n.alloc ≡ m.alloc) where
     pub edited_step : (answer : MenuReply) → IsEdit call (Ok answer) m.list n.list
         → IsWholeManager loan u slots × IsBarShown (titles_of n.list.highlighted n.list.menus.items) (state_of loan t slots) (state_of loan u slots)
         → Leaves call (Ok answer) slots t u (opened Idle begun) (opened Idle begun) m n kept kept
     edited_step answer (none, done) (windows, shown) = (
       windows,
-      whole_again loan menu_loan _ t u slots m n kept kept shown menus (record { alloc = alloc; room = done.room; overlay = overlay })
+      whole_again menu_loan m n kept kept menus (record { alloc = alloc; room = done.room })
           (subst (λ k. k ≤ 16) (sym many) (seen_few menu_loan m.list.menus.items menus.few)) (subst AreLive (sym now) (alike.live menus.live))
           (subst (λ ls. AreMenusStocked ls kept) (sym now) (still_stocked _ _ kept alike menus.stocked)),
       edit_step call answer _ _ is (edits_refused call None _ _ kept is (ap first_refusal (edit_refusals-seen menu_loan call m.list.menus.items) ∙ none))
           (record {
             answered = done.answered ∙ sym (answer_to-seen menu_loan call m.list.menus.items);
             activity = record { activity = refl; begun = refl };
-            shown = menus_shown loan menu_loan _ _ t u (opened Idle begun) (opened Idle begun) slots m n kept kept now
+            shown = menus_shown menu_loan loan _ _ t u (opened Idle begun) (opened Idle begun) slots m n kept kept now
                 (done.highlighted ∙ sym (highlight_after-seen menu_loan call m.list.menus.items m.list.highlighted)) shown;
           }),
     )
@@ -176,7 +176,7 @@ module _ {V : Type 0} {H : V → Type 0} (loan : TakenBox V H → WindowLoan) {W
         → Leaves call (Err e) slots t t (opened Idle begun) (opened Idle begun) m n kept kept
     refused_edit e (refused, same) windows = (
       windows,
-      whole_beside loan menu_loan t t m n kept kept refl refl menus (record { alloc = alloc; room = same.room; overlay = overlay })
+      whole_again menu_loan m n kept kept menus (record { alloc = alloc; room = same.room })
           (subst (λ ls. length ls ≤ 16) (sym as_seen) (seen_few menu_loan m.list.menus.items menus.few))
           (subst AreLive (sym as_seen) menus.live) (subst (λ ls. AreMenusStocked ls kept) (sym as_seen) menus.stocked),
       (why refused, unchanged t (opened Idle begun) slots m n kept kept (λ i. record { menus = as_seen i; highlighted = same.highlighted i; stock = kept })),
@@ -196,13 +196,13 @@ module _ {V : Type 0} {H : V → Type 0} (loan : TakenBox V H → WindowLoan) {W
   -- ---- menus that are made and ended
 
   module _ (slots : List WindowSlot) (t u : WindowManager V H) (begun : PixelSet) (m n : Menus W K) (kept after : List MenuSlot)
-      (menus : IsWholeMenus menu_loan t Idle m kept)
+      (menus : IsWholeMenus menu_loan Idle m kept)
       (windows : IsWholeManager loan u slots × IsBarShown (titles_of n.list.highlighted n.list.menus.items) (state_of loan t slots) (state_of loan u slots)) where
     pub made_step : (new : NewMenu) (answer : MenuReply) → IsMadeOrRefused menu_loan new (Ok answer) m n kept after
         → Leaves (New new) (Ok answer) slots t u (opened Idle begun) (opened Idle begun) m n kept after
     made_step new answer (done, none, made) = (
       windows.0,
-      whole_again loan menu_loan _ t u slots m n kept after windows.1 menus made.same
+      whole_again menu_loan m n kept after menus made.same
           (subst (λ ls. length ls ≤ 16) (sym made.menus) (one_more menu_loan new m kept one none))
           (subst AreLive (sym made.menus) (live-append _ one menus.live made.live.live))
           (subst (λ ls. AreMenusStocked ls after) (sym made.menus) (stocked_with _ one made.loan kept after refl made.taken menus.stocked)),
@@ -216,7 +216,7 @@ module _ {V : Type 0} {H : V → Type 0} (loan : TakenBox V H → WindowLoan) {W
             taken = made.taken;
             live = made.live;
             activity = record { activity = refl; begun = refl };
-            shown = menus_shown loan menu_loan _ _ t u (opened Idle begun) (opened Idle begun) slots m n kept after made.menus made.highlighted windows.1;
+            shown = menus_shown menu_loan loan _ _ t u (opened Idle begun) (opened Idle begun) slots m n kept after made.menus made.highlighted windows.1;
           },
         ),
       ),
@@ -230,7 +230,7 @@ module _ {V : Type 0} {H : V → Type 0} (loan : TakenBox V H → WindowLoan) {W
         → Leaves (Dispose id) (Ok answer) slots t u (opened Idle begun) (opened Idle begun) m n kept after
     ended_at id at answer is done ended = (
       windows.0,
-      whole_again loan menu_loan _ t u slots m n kept after windows.1 menus ended.same
+      whole_again menu_loan m n kept after menus ended.same
           (few_left menu_loan at m n kept after menus.few ended)
           (subst AreLive (sym ended.menus) (live-remove at ms menus.live))
           (subst (λ ls. AreMenusStocked ls after) (sym ended.menus)
@@ -244,7 +244,7 @@ module _ {V : Type 0} {H : V → Type 0} (loan : TakenBox V H → WindowLoan) {W
             found = ended.found;
             shut = ended.shut;
             activity = record { activity = refl; begun = refl };
-            shown = menus_shown loan menu_loan _ _ t u (opened Idle begun) (opened Idle begun) slots m n kept after ended.menus ended.highlighted windows.1;
+            shown = menus_shown menu_loan loan _ _ t u (opened Idle begun) (opened Idle begun) slots m n kept after ended.menus ended.highlighted windows.1;
           }),
         ),
       ),
@@ -266,7 +266,7 @@ module _ {V : Type 0} {H : V → Type 0} (loan : TakenBox V H → WindowLoan) {W
 
   -- there is no menu to be ended
   pub no_menu_step : (id : ℤ) (o : Option ℕ) (e : Refusal) (slots : List WindowSlot) (t : WindowManager V H) (begun : PixelSet) (m n : Menus W K) (kept after : List MenuSlot)
-      → menu_index id m.list.menus.items ≡ o → IsWholeManager loan t slots → IsWholeMenus menu_loan t Idle m kept → IsEndedIfThere menu_loan o (Err e) m n kept after
+      → menu_index id m.list.menus.items ≡ o → IsWholeManager loan t slots → IsWholeMenus menu_loan Idle m kept → IsEndedIfThere menu_loan o (Err e) m n kept after
       → Leaves (Dispose id) (Err e) slots t t (opened Idle begun) (opened Idle begun) m n kept after
   no_menu_step id None e slots t begun m n kept after is windows menus (refused, same, left) =
       refused_step (Dispose id) e slots t (opened Idle begun) m n kept after windows menus none same left

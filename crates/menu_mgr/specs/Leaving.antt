@@ -36,21 +36,21 @@ abbrev pub of_another : PulledMenu → Option Titled → Option Titled
 of_another m None = None
 of_another m (Some t) = if t.hit.menu == m.menu then None else Some t
 
-module _ {V : Type 0} {H : V → Type 0} (loan : TakenBox V H → WindowLoan) {W : Type 0} {K : W → Type 0} (menu_loan : TakenBox W K → MenuLoan) where
-  -- the menus beside these windows are whole over some slots
-  pub record AreKeptMenus (t : WindowManager V H) (activity : Activity) (m : Menus W K) : Type 0 where
-    pub slots : List MenuSlot
-    pub whole : IsWholeMenus menu_loan t activity m slots
+-- the menus are whole over some slots
+pub record AreKeptMenus {W : Type 0} {K : W → Type 0} (menu_loan : TakenBox W K → MenuLoan) (activity : Activity) (m : Menus W K) : Type 0 where
+  pub slots : List MenuSlot
+  pub whole : IsWholeMenus menu_loan activity m slots
 
+module _ {V : Type 0} {H : V → Type 0} (loan : TakenBox V H → WindowLoan) {W : Type 0} {K : W → Type 0} (menu_loan : TakenBox W K → MenuLoan) where
   -- over any slots over which the windows are whole both are whole afterwards, and together they are one step of the desk
   abbrev pub LeavesDeskOver : List MenuSlot → List MenuSlot → (MenuDesk → MenuDesk → Type 0)
       → WindowManager V H → Opened → Menus W K → WindowManager V H → Opened → Menus W K → Type 0
   LeavesDeskOver before_slots after_slots step old before m new after n = (slots : List WindowSlot) → IsWholeManager loan old slots
-      → IsWholeManager loan new slots × IsWholeMenus menu_loan new after.activity n after_slots
+      → IsWholeManager loan new slots × IsWholeMenus menu_loan after.activity n after_slots
       × step (menu_desk menu_loan loan old before slots m before_slots) (menu_desk menu_loan loan new after slots n after_slots)
 
   -- so over any slots of menus' definitions over which the menus are whole, which a call leaves alone
   abbrev pub LeavesMenus : (MenuDesk → MenuDesk → Type 0)
       → WindowManager V H → Opened → Menus W K → WindowManager V H → Opened → Menus W K → Type 0
-  LeavesMenus step old before m new after n = (kept : List MenuSlot) → IsWholeMenus menu_loan old before.activity m kept
+  LeavesMenus step old before m new after n = (kept : List MenuSlot) → IsWholeMenus menu_loan before.activity m kept
       → LeavesDeskOver kept kept step old before m new after n

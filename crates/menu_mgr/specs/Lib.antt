@@ -1,5 +1,5 @@
--- What the contracts speak of: the menus of a desk as plain data, what a call changes in them, which menu is pulled down and
--- what the screen shows then, why a call is refused, one step, and what holds of the menus between calls.
+-- What the contracts speak of: the menus of a desk as plain data, what a call changes in them, which menu is pulled down, why
+-- a call is refused, one step, and what holds of the menus and of the map in front between calls.
 pub mod MenuDesks
 pub mod MenuRefusals
 pub mod Pulling
@@ -8,3 +8,4 @@ pub mod WholeMenus
 pub mod MakingSteps
 pub mod Leaving
 pub mod MenuClosing
+pub mod Boxed

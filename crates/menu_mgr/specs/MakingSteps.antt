@@ -21,7 +21,6 @@ use Rattle.menu_mgr.specs.WholeMenus.{menus_of, menus_state}
 pub record IsAsRoomy {W : Type 0} {K : W → Type 0} (old new : Menus W K) : Type 0 where
   pub alloc : new.alloc ≡ old.alloc
   pub room : vec_capacity old.list.menus ≤ vec_capacity new.list.menus
-  pub overlay : new.overlay ≡ old.overlay
 
 -- `menu_loan` says what a menu's definition that was taken means
 module _ {W : Type 0} {K : W → Type 0} (menu_loan : TakenBox W K → MenuLoan) where

@@ -1,23 +1,20 @@
--- Which menu is pulled down, which of its items a point is over, and what the screen shows.
-use Rattle.std.specs.Prelude.{◌≡◌, ℕ, ℤ, pos, Bool, true, false, not, ◌&&◌, if◌then◌else◌, List, Option, None, Some}
+-- Which menu is pulled down, and which of its items a point is over.
+use Rattle.std.specs.Prelude.{ℕ, pos, Bool, false, not, ◌&&◌, if◌then◌else◌, List, Option, None, Some}
 use Rattle.std.specs.Option.{option_map, option_and_then}
 use Rattle.std.specs.Ordering.{int_eq}
 use Rattle.tb_geom.specs.declared.point.Point.{Point}
-use Rattle.tb_geom.specs.Points.{PixelSet, minus}
+use Rattle.tb_geom.specs.Points.{minus}
 use Rattle.tb_geom.specs.Rects.{rect_holds}
-use Rattle.bit_map.specs.Bits.{Bits, on_map, bit}
 use Rattle.desk_layers.specs.Desk.{on_screen}
 use Rattle.def_iface.specs.declared.size.Size.{Size}
 use Rattle.desk_ground.specs.declared.bar.TitleHit.{TitleHit}
 use Rattle.desk_ground.specs.Bars.{title_at}
 use Rattle.menu_list.specs.Lists.{menu_with}
-use Rattle.overlay.specs.Overlays.{Pulled, pulled_rect, shown_bit}
+use Rattle.overlay.specs.Overlays.{Pulled, pulled_rect}
 use Rattle.overlay.specs.Places.{pulled_place, shown_size}
-use Rattle.overlay.specs.Outlines.{outlined}
 use Rattle.desk_call.specs.declared.activity.Activity.{Activity}
 use Rattle.desk_call.specs.declared.activity.Activity.TheVariants.{Pulling}
 use Rattle.desk_call.specs.declared.activity.PulledMenu.{PulledMenu}
-use Rattle.desk_call.specs.Outlines.{outline_of}
 use Rattle.window_mgr.specs.FullDesk.{FullDesk, layered_desk}
 use Rattle.menu_mgr.specs.MenuDesks.{MenuDesk, MenuRecord}
 
@@ -81,26 +78,6 @@ abbrev pub is_in : Option Pulled → Point → Bool
 is_in None p = false
 is_in (Some m) p = rect_holds (pulled_rect m.place m.size) p
 
--- what is open pulls no menu down
-abbrev pub PullsNone : Activity → Type 0
-PullsNone (Pulling m) = ⊥
-PullsNone _ = Unit {0}
-
 -- the point is a pixel of the screen that it has
 abbrev pub is_pulled_at : FullDesk → Option Pulled → Point → Bool
 is_pulled_at desk m p = on_screen (layered_desk desk) p && is_in m p
-
--- ---- the screen
-
--- what the screen shows: the base image with the pulled menu where it lies, and with the outline of a window that is dragged
--- or grown
-abbrev pub screen_of : MenuDesk → PixelSet
-screen_of d = outlined d.desk.windows.desk.bar.rows (outline_of d.desk.activity)
-    (shown_bit d.desk.windows.desk.font (pulled_of d.desk.activity d.menus.menus) d.desk.windows.image)
-
--- a base image was painted over with what is in front of it: the pulled menu, or the outline of a window
-pub record IsFrontPainted (font : List ℕ) (bar : ℤ) (activity : Activity) (menus : List MenuRecord) (base new : Bits) : Type 0 where
-  pub width : new.width ≡ base.width
-  pub height : new.height ≡ base.height
-  pub pixels : (p : Point) → on_map new p ≡ true
-      → bit new p ≡ outlined bar (outline_of activity) (shown_bit font (pulled_of activity menus) (bit base)) p

@@ -1,5 +1,5 @@
--- What holds of the menus of a desk and of their stock between calls, and their state as plain data.
-use Rattle.std.specs.Prelude.{◌≡◌, ◌⊎◌, ℕ, ℤ, pos, ◌+◌, ◌≤◌, ◌==◌, true, if◌then◌else◌, List, [], ◌∷◌, length, Option, None, Some, slice_get, vec_capacity}
+-- What holds of the menus of a desk, of their stock and of the map in front between calls, and their state as plain data.
+use Rattle.std.specs.Prelude.{◌≡◌, ◌⊎◌, ℕ, ◌+◌, ◌≤◌, ◌==◌, true, if◌then◌else◌, List, [], ◌∷◌, length, Option, None, Some, slice_get, vec_capacity}
 use Rattle.def_iface.specs.Slots.{TakenBox}
 use Rattle.def_iface.specs.declared.window_def.Stage.TheVariants.{Live}
 use Rattle.def_iface.specs.WindowMeaning.{WindowLoan}
@@ -8,11 +8,10 @@ use Rattle.def_iface.specs.WindowSlots.{WindowSlot}
 use Rattle.def_iface.specs.Stocks.{IsMenuFull}
 use Rattle.menu_list.specs.declared.listed.Listed.{Listed}
 use Rattle.menu_list.specs.Seen.{all_seen}
+use Rattle.overlay.specs.declared.overlay.Overlay.{Overlay}
 use Rattle.overlay.specs.Overlays.{IsShown, is_menu_place}
-use Rattle.overlay.specs.Outlines.{IsOutlined}
 use Rattle.desk_call.specs.declared.activity.Activity.{Activity}
-use Rattle.desk_call.specs.declared.activity.Activity.TheVariants.{Pulling, Dragging, Growing}
-use Rattle.desk_call.specs.Outlines.{IsOutlineKept}
+use Rattle.desk_call.specs.declared.activity.Activity.TheVariants.{Pulling}
 use Rattle.window_mgr.specs.declared.manager.WindowManager.{WindowManager}
 use Rattle.window_mgr.specs.DeskStates.{Opened, desk_state}
 use Rattle.menu_mgr.specs.declared.menus.Menus.{Menus}
@@ -40,18 +39,16 @@ abbrev pub AreLive : List MenuRecord → Type 0
 AreLive [] = Unit {0}
 AreLive (l ∷ ls) = (l.definition.definition.stage ≡ Live) × AreLive ls
 
--- a menu that is pulled down has its corner on a screen, and a size that a menu may have, and an outline is one
+-- a menu that is pulled down has its corner on a screen, and a size that a menu may have
 abbrev pub IsPlaced : Activity → Type 0
 IsPlaced (Pulling m) = (is_menu_place m.place ≡ true) × (is_menu_size m.size ≡ true)
-IsPlaced activity = IsOutlineKept activity
+IsPlaced _ = Unit {0}
 
--- no menus, with room for 16, before a screen of these sides
-pub record AreNoMenus {W : Type 0} {K : W → Type 0} (wide high : ℤ) (m : Menus W K) : Type 0 where
+-- no menus, with room for 16
+pub record AreNoMenus {W : Type 0} {K : W → Type 0} (m : Menus W K) : Type 0 where
   pub none : m.list.menus.items ≡ []
   pub highlighted : m.list.highlighted ≡ None
   pub room : 16 ≤ vec_capacity m.list.menus
-  pub width : pos m.overlay.front.width ≡ wide
-  pub height : pos m.overlay.front.height ≡ high
 
 -- `menu_loan` says what a menu's definition that was taken means
 module _ {W : Type 0} {K : W → Type 0} (menu_loan : TakenBox W K → MenuLoan) where
@@ -66,24 +63,25 @@ module _ {W : Type 0} {K : W → Type 0} (menu_loan : TakenBox W K → MenuLoan)
     stock = slots;
   }
 
-  module _ {V : Type 0} {H : V → Type 0} where
-    -- while a menu is pulled down the map in front shows it over the base image, and so it shows an outline
-    abbrev pub IsFrontShown : Activity → WindowManager V H → Menus W K → Type 0
-    IsFrontShown (Pulling p) t m = IsShown t.font (pulled_of (Pulling p) (menus_of m.list.menus.items)) t.screen m.overlay.front
-    IsFrontShown (Dragging d) t m = IsOutlined t.bar.rows d.outline t.screen m.overlay.front
-    IsFrontShown (Growing g) t m = IsOutlined t.bar.rows g.outline t.screen m.overlay.front
-    IsFrontShown _ t m = Unit {0}
+  -- the menus, with what is open and the slots of their stock, between calls
+  pub record IsWholeMenus (activity : Activity) (m : Menus W K) (slots : List MenuSlot) : Type 0 where
+    pub few : length m.list.menus.items ≤ 16
+    pub room : 16 ≤ vec_capacity m.list.menus
+    pub live : AreLive (menus_of m.list.menus.items)
+    pub stocked : AreMenusStocked (menus_of m.list.menus.items) slots
+    pub placed : IsPlaced activity
 
-    -- the menus beside windows, with what is open and the slots of the menus' stock, between calls
-    pub record IsWholeMenus (t : WindowManager V H) (activity : Activity) (m : Menus W K) (slots : List MenuSlot) : Type 0 where
-      pub few : length m.list.menus.items ≤ 16
-      pub room : 16 ≤ vec_capacity m.list.menus
-      pub live : AreLive (menus_of m.list.menus.items)
-      pub stocked : AreMenusStocked (menus_of m.list.menus.items) slots
-      pub width : m.overlay.front.width ≡ t.screen.width
-      pub height : m.overlay.front.height ≡ t.screen.height
-      pub placed : IsPlaced activity
-      pub front : IsFrontShown activity t m
+  module _ {V : Type 0} {H : V → Type 0} where
+    -- while a menu is pulled down the map in front of the windows' screen shows it over the base image
+    abbrev pub IsPulledShown : Activity → WindowManager V H → Menus W K → Overlay → Type 0
+    IsPulledShown (Pulling p) t m front = IsShown t.font (pulled_of (Pulling p) (menus_of m.list.menus.items)) t.screen front.front
+    IsPulledShown _ t m front = Unit {0}
+
+    -- so it does, and it is as wide and high as that screen
+    pub record IsMenuFront (activity : Activity) (t : WindowManager V H) (m : Menus W K) (front : Overlay) : Type 0 where
+      pub width : front.front.width ≡ t.screen.width
+      pub height : front.front.height ≡ t.screen.height
+      pub shown : IsPulledShown activity t m front
 
     -- `loan` says what a window's definition that was taken means
     module _ (loan : TakenBox V H → WindowLoan) where

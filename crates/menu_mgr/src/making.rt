@@ -1,6 +1,5 @@
 //! Menus that are made and ended, and the end of a desk.
-ghost use Rattle.std.specs.Prelude.{◌≡◌, ◌<◌, ◌≤◌, ◌++◌, ◌∷◌, [], length, vec_capacity, None, Some, true, MatchResult};
-ghost use Rattle.def_iface.specs.MenuMeaning.{IsMenuBegun};
+ghost use Rattle.std.specs.Prelude.{◌≡◌, ◌<◌, ◌≤◌, ◌++◌, ◌∷◌, length, vec_capacity, None, Some, MatchResult};
 ghost use Rattle.menu_list.specs.Lists.{menu_index};
 ghost use Rattle.menu_record.specs.Edits.{new_menu};
 ghost use Rattle.menu_mgr.specs.MakingSteps.{IsEndedIfThere, IsListed, IsMadeOrRefused};
@@ -10,7 +9,7 @@ ghost use Rattle.menu_mgr.specs.MenuRefusals.{menu_form_refusals};
 ghost use Rattle.menu_mgr.specs.WholeMenus.{AreLive, AreMenusStocked, menus_of};
 ghost use Rattle.tb_geom.specs.Refusals.{first_refusal};
 
-use crate::{MenuCall, MenuReply, Menus, NewMenu};
+use crate::{MenuCall, MenuReply, Menus, MenusOnStock, NewMenu};
 use def_iface::{Defined, MenuStock, Stage, Stocked, TakenMenu, put_away};
 use menu_list::{Listed, MenuList, index_of};
 use menu_record::Menu;
@@ -87,8 +86,8 @@ impl Menus {
 
     /// Ends a menu: its definition is disposed of, and put back Closed into its slot.
     pub(crate) fn end(&mut self, menu: i32, stock: &mut MenuStock) -> Result<MenuReply, Refusal>
-        requires live { AreLive (menus_of ⟦<TakenMenu as Defined>⟧.loan self.old.list.menus.items) }
-        requires stocked { AreMenusStocked (menus_of ⟦<TakenMenu as Defined>⟧.loan self.old.list.menus.items)
+        requires live { AreLive (⟦<Self as MenusOnStock>⟧.menus self.old) }
+        requires stocked { AreMenusStocked (⟦<Self as MenusOnStock>⟧.menus self.old)
             (⟦<MenuStock as Stocked>⟧.slots stock.old) }
         ensures { IsEndedIfThere ⟦<TakenMenu as Defined>⟧.loan (menu_index menu self.old.list.menus.items) result
             self.old self.new
@@ -103,10 +102,10 @@ impl Menus {
     /// Ends the desk's menus: the definition of every one is disposed of, and put back Closed into its slot, while every other
     /// slot stays as it was. Takes no memory, and refuses nothing.
     pub fn close(self, stock: &mut MenuStock)
-        requires live { AreLive (menus_of ⟦<TakenMenu as Defined>⟧.loan self.list.menus.items) }
-        requires stocked { AreMenusStocked (menus_of ⟦<TakenMenu as Defined>⟧.loan self.list.menus.items)
+        requires live { AreLive (⟦<Self as MenusOnStock>⟧.menus self) }
+        requires stocked { AreMenusStocked (⟦<Self as MenusOnStock>⟧.menus self)
             (⟦<MenuStock as Stocked>⟧.slots stock.old) }
-        ensures { AreMenusClosed (menus_of ⟦<TakenMenu as Defined>⟧.loan self.list.menus.items)
+        ensures { AreMenusClosed (⟦<Self as MenusOnStock>⟧.menus self)
             (⟦<MenuStock as Stocked>⟧.slots stock.old) (⟦<MenuStock as Stocked>⟧.slots stock.new) }
     {
         let Menus { list, .. } = self;

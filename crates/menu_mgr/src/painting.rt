@@ -1,43 +1,25 @@
-//! What lies in front of the base image, painted from nothing.
+//! The menu that is pulled down, painted over a base image.
 ghost use Rattle.std.specs.Prelude.{◌≡◌, true};
 ghost use Rattle.desk_call.specs.declared.activity.Activity.TheVariants.{Pulling};
 ghost use Rattle.def_iface.specs.MenuMeaning.{is_menu_size};
-ghost use Rattle.menu_mgr.specs.WholeMenus.{AreLive, IsPlaced, menus_of};
-ghost use Rattle.menu_mgr.specs.Pulling.{IsFrontPainted, pulled_of};
+ghost use Rattle.menu_mgr.specs.WholeMenus.{AreLive};
+ghost use Rattle.menu_mgr.specs.Pulling.{pulled_of};
 ghost use Rattle.overlay.specs.Overlays.{IsShown, is_menu_place};
 
-use crate::Menus;
+use crate::{Menus, MenusOnStock};
 use bit_map::BitMap;
-use def_iface::{Defined, TakenMenu};
-use desk_call::{Activity, PulledMenu};
-use overlay::{draw_outline, draw_pulled};
+use desk_call::PulledMenu;
+use overlay::draw_pulled;
 use strike_font::Font;
 
 impl Menus {
-    /// Draws the menu that is pulled down, if one is, over a base image, or the outline of a window that is dragged or grown,
-    /// which leaves the first `bar` rows. It takes no memory, and does not read the map on which that is shown.
-    pub fn paint_front(&self, map: &mut BitMap, font: &Font, bar: i32, activity: Activity)
-        requires live { AreLive (menus_of ⟦<TakenMenu as Defined>⟧.loan self.now.list.menus.items) }
-        requires placed { IsPlaced activity }
-        ensures { IsFrontPainted font.now bar activity
-            (menus_of ⟦<TakenMenu as Defined>⟧.loan self.now.list.menus.items) map.old map.new }
-    {
-        match activity {
-            Activity::Pulling(pulled) => self.paint_pulled(map, font, pulled),
-            Activity::Dragging(dragged) => draw_outline(map, bar, &dragged.outline),
-            Activity::Growing(grown) => draw_outline(map, bar, &grown.outline),
-            _ => {}
-        }
-    }
-
-    /// Draws the menu that is pulled down over a base image.
-    fn paint_pulled(&self, map: &mut BitMap, font: &Font, pulled: PulledMenu)
-        requires live { AreLive (menus_of ⟦<TakenMenu as Defined>⟧.loan self.now.list.menus.items) }
+    /// Draws the menu that is pulled down over a base image. It takes no memory, and does not read the map in front on which
+    /// that is shown.
+    pub fn paint_pulled(&self, map: &mut BitMap, font: &Font, pulled: PulledMenu)
+        requires live { AreLive (⟦<Self as MenusOnStock>⟧.menus self.now) }
         requires place { is_menu_place pulled.place ≡ true }
         requires size { is_menu_size pulled.size ≡ true }
-        ensures { IsShown font.now
-            (pulled_of (Pulling pulled) (menus_of ⟦<TakenMenu as Defined>⟧.loan self.now.list.menus.items)) map.old
-            map.new }
+        ensures { IsShown font.now (pulled_of (Pulling pulled) (⟦<Self as MenusOnStock>⟧.menus self.now)) map.old map.new }
     {
         if let Some(at) = self.list.find(i32::from(pulled.menu)) {
             let listed = &self.list.menus[at];

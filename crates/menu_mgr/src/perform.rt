@@ -3,45 +3,48 @@ ghost use Rattle.std.specs.Prelude.{◌≡◌, ◌≤◌, List, None, length, tr
 ghost use Rattle.tb_geom.specs.Points.{PixelSet};
 ghost use Rattle.desk_call.specs.Gates.{gate, menu_standing};
 ghost use Rattle.desk_call.specs.declared.activity.Activity.TheVariants.{Idle};
-ghost use Rattle.window_mgr.specs.Kept.{IsKept};
-ghost use Rattle.menu_mgr.specs.Leaving.{LeavesDeskOver, opened};
+ghost use Rattle.menu_mgr.specs.Leaving.{opened};
 ghost use Rattle.desk_call.specs.declared.menu.MenuCall.TheVariants as asks;
 ghost use Rattle.menu_mgr.specs.MenuDesks.{MenuSlot};
 ghost use Rattle.menu_mgr.specs.MenuSteps.{IsMenuStep, is_edit};
-ghost use Rattle.menu_mgr.specs.WholeMenus.{IsWholeMenus};
 
-use crate::{MenuCall, MenuReply, Menus, NewMenu};
-use def_iface::{Defined, MenuStock, Stocked, TakenMenu, TakenWindow};
+use crate::{DeskMenus, MenuCall, MenuReply, Menus, MenusOnStock, NewMenu};
+use def_iface::MenuStock;
 use desk_call::Activity;
 use menu_list::edit;
+use overlay::Overlay;
 use tb_geom::Refusal;
-use window_mgr::WindowManager;
+use window_mgr::{DeskWindows, WindowManager};
 
 impl Menus {
-    /// Performs one call on these menus beside these windows, which may come while this is open, and gives its answer. A
-    /// refused call changes nothing; which refusal comes first where several would do stands with the call.
+    /// Performs one call on these menus beside these windows, which may come while this is open, and gives its answer. The
+    /// map in front of the windows' screen then shows the menu that is pulled down. A refused call changes nothing; which
+    /// refusal comes first where several would do stands with the call.
     pub fn perform(
         &mut self,
         windows: &mut WindowManager,
+        front: &mut Overlay,
         activity: &mut Activity,
         call: &MenuCall<'_>,
         stock: &mut MenuStock,
     ) -> Result<MenuReply, Refusal>
-        requires kept { IsKept ⟦<TakenWindow as Defined>⟧.loan windows.old }
-        requires menus { IsWholeMenus ⟦<TakenMenu as Defined>⟧.loan windows.old activity.old self.old
-            (⟦<MenuStock as Stocked>⟧.slots stock.old) }
+        requires kept { ⟦<WindowManager as DeskWindows>⟧.IsKept windows.old }
+        requires menus { ⟦<Self as MenusOnStock>⟧.IsWhole activity.old self.old stock.old }
+        requires front { ⟦<Self as DeskMenus>⟧.IsFront activity.old windows.old self.old front.old }
         requires admitted { gate activity.old (menu_standing call.now) ≡ None }
-        ensures { (begun : PixelSet) → LeavesDeskOver ⟦<TakenWindow as Defined>⟧.loan ⟦<TakenMenu as Defined>⟧.loan
-            (⟦<MenuStock as Stocked>⟧.slots stock.old) (⟦<MenuStock as Stocked>⟧.slots stock.new)
+        ensures step { (begun : PixelSet) → ⟦<Self as DeskMenus>⟧.LeavesStock stock.old stock.new
             (IsMenuStep call.now result)
             windows.old (opened activity.old begun) self.old windows.new (opened activity.new begun) self.new }
+        ensures front { ⟦<Self as DeskMenus>⟧.IsFront activity.new windows.new self.new front.new }
     {
         match call {
             MenuCall::New(new) => self.make_and_show(windows, new, stock),
             MenuCall::Dispose(menu) => self.end_and_show(windows, *menu, stock),
-            MenuCall::Down(point) => self.press_at(windows, activity, *point),
+            MenuCall::Down(point) => self.press_at(windows, front, activity, *point),
             MenuCall::Move(point) => match *activity {
-                Activity::Pulling(pulled) => self.move_to(windows, activity, pulled, *point),
+                Activity::Pulling(pulled) => {
+                    self.move_to(windows, front, activity, pulled, *point)
+                }
                 _ => unreachable!(),
             },
             MenuCall::Up(point) => match *activity {
@@ -59,11 +62,9 @@ impl Menus {
         new: &NewMenu<'_>,
         stock: &mut MenuStock,
     ) -> Result<MenuReply, Refusal>
-        requires kept { IsKept ⟦<TakenWindow as Defined>⟧.loan windows.old }
-        requires menus { IsWholeMenus ⟦<TakenMenu as Defined>⟧.loan windows.old Idle self.old
-            (⟦<MenuStock as Stocked>⟧.slots stock.old) }
-        ensures { (begun : PixelSet) → LeavesDeskOver ⟦<TakenWindow as Defined>⟧.loan ⟦<TakenMenu as Defined>⟧.loan
-            (⟦<MenuStock as Stocked>⟧.slots stock.old) (⟦<MenuStock as Stocked>⟧.slots stock.new)
+        requires kept { ⟦<WindowManager as DeskWindows>⟧.IsKept windows.old }
+        requires menus { ⟦<Self as MenusOnStock>⟧.IsWhole Idle self.old stock.old }
+        ensures { (begun : PixelSet) → ⟦<Self as DeskMenus>⟧.LeavesStock stock.old stock.new
             (IsMenuStep (asks.New new.now) result)
             windows.old (opened Idle begun) self.old windows.new (opened Idle begun) self.new }
     {
@@ -83,11 +84,9 @@ impl Menus {
         menu: i32,
         stock: &mut MenuStock,
     ) -> Result<MenuReply, Refusal>
-        requires kept { IsKept ⟦<TakenWindow as Defined>⟧.loan windows.old }
-        requires menus { IsWholeMenus ⟦<TakenMenu as Defined>⟧.loan windows.old Idle self.old
-            (⟦<MenuStock as Stocked>⟧.slots stock.old) }
-        ensures { (begun : PixelSet) → LeavesDeskOver ⟦<TakenWindow as Defined>⟧.loan ⟦<TakenMenu as Defined>⟧.loan
-            (⟦<MenuStock as Stocked>⟧.slots stock.old) (⟦<MenuStock as Stocked>⟧.slots stock.new)
+        requires kept { ⟦<WindowManager as DeskWindows>⟧.IsKept windows.old }
+        requires menus { ⟦<Self as MenusOnStock>⟧.IsWhole Idle self.old stock.old }
+        ensures { (begun : PixelSet) → ⟦<Self as DeskMenus>⟧.LeavesStock stock.old stock.new
             (IsMenuStep (asks.Dispose menu) result)
             windows.old (opened Idle begun) self.old windows.new (opened Idle begun) self.new }
     {
@@ -106,12 +105,12 @@ impl Menus {
         windows: &mut WindowManager,
         call: &MenuCall<'_>,
     ) -> Result<MenuReply, Refusal>
-        requires kept { IsKept ⟦<TakenWindow as Defined>⟧.loan windows.old }
+        requires kept { ⟦<WindowManager as DeskWindows>⟧.IsKept windows.old }
         requires edits { is_edit call.now ≡ true }
         requires few { length self.old.list.menus.items ≤ 16 }
         ensures { (begun : PixelSet) (kept : List MenuSlot)
-            → IsWholeMenus ⟦<TakenMenu as Defined>⟧.loan windows.old Idle self.old kept
-            → LeavesDeskOver ⟦<TakenWindow as Defined>⟧.loan ⟦<TakenMenu as Defined>⟧.loan kept kept
+            → ⟦<Self as MenusOnStock>⟧.IsWholeOver Idle self.old kept
+            → ⟦<Self as DeskMenus>⟧.LeavesOver kept kept
             (IsMenuStep call.now result)
             windows.old (opened Idle begun) self.old windows.new (opened Idle begun) self.new }
     {

@@ -9,23 +9,21 @@ ghost use Rattle.desk_call.specs.declared.activity.Activity.TheVariants.{Idle, P
 ghost use Rattle.desk_call.specs.declared.menu.MenuCall.TheVariants as asks;
 ghost use Rattle.menu_list.specs.Lists.{menu_index, titles_of};
 ghost use Rattle.menu_list.specs.Seen.{seen};
+ghost use Rattle.overlay.specs.declared.overlay.Overlay.{Overlay as FrontMap};
 ghost use Rattle.overlay.specs.Overlays.{IsShown, is_menu_place};
 ghost use Rattle.window_mgr.specs.BarShown.{IsBarShown};
-ghost use Rattle.window_mgr.specs.Kept.{IsKept};
-ghost use Rattle.window_mgr.specs.Records.{desk_of};
-ghost use Rattle.window_mgr.specs.Updating.{LeavesState};
-ghost use Rattle.menu_mgr.specs.Leaving.{AreKeptMenus, LeavesMenus, indexed, of_another, opened};
+ghost use Rattle.menu_mgr.specs.Leaving.{indexed, of_another, opened};
 ghost use Rattle.menu_mgr.specs.MenuSteps.{IsMenuStep, choice_of};
 ghost use Rattle.menu_mgr.specs.Pulling.{as_pulled, is_pulled_at, item_under, pulled_below, pulled_of, title_under};
-ghost use Rattle.menu_mgr.specs.WholeMenus.{AreLive, IsPlaced, menus_of};
+ghost use Rattle.menu_mgr.specs.WholeMenus.{AreLive, IsPlaced};
 
-use crate::{Choice, MenuReply, Menus};
-use def_iface::{Defined, TakenMenu, TakenWindow};
+use crate::{Choice, DeskMenus, MenuReply, Menus, MenusOnStock};
+use def_iface::{Defined, TakenMenu};
 use desk_call::{Activity, PulledMenu};
 use desk_ground::{TitleHit, title_at};
-use overlay::{pulled_place, pulled_rect, shown_size};
+use overlay::{Overlay, pulled_place, pulled_rect, shown_size};
 use tb_geom::{Point, Refusal};
-use window_mgr::{DeskView, WindowManager};
+use window_mgr::{DeskView, DeskWindows, WindowManager};
 
 /// A title of the menu bar that a point is on.
 #[derive(Clone, Copy)]
@@ -72,7 +70,7 @@ impl Menus {
     /// The title of the menu bar that a point of the screen is on, if it is on one.
     fn title_under(&self, windows: &WindowManager, point: Point) -> Option<Titled>
         ensures value { result ≡ indexed self.now.list.menus.items
-            (title_under (desk_of ⟦<TakenWindow as Defined>⟧.loan windows.now []) point) }
+            (title_under (⟦<WindowManager as DeskWindows>⟧.desk windows.now []) point) }
         ensures within { IfSome result (λ t. t.at < length self.now.list.menus.items) }
         ensures near { IfSome result (λ t. (pos 0 ≤ℤ t.hit.left) × (t.hit.left ≤ℤ pos 1200000)) }
     {
@@ -98,7 +96,7 @@ impl Menus {
         point: Point,
     ) -> Option<Titled>
         ensures value { result ≡ of_another pulled (indexed self.now.list.menus.items
-            (title_under (desk_of ⟦<TakenWindow as Defined>⟧.loan windows.now []) point)) }
+            (title_under (⟦<WindowManager as DeskWindows>⟧.desk windows.now []) point)) }
         ensures within { IfSome result (λ t. t.at < length self.now.list.menus.items) }
         ensures near { IfSome result (λ t. (pos 0 ≤ℤ t.hit.left) × (t.hit.left ≤ℤ pos 1200000)) }
     {
@@ -113,8 +111,8 @@ impl Menus {
         requires place { is_menu_place pulled.place ≡ true }
         requires size { is_menu_size pulled.size ≡ true }
         requires point { in_plane point ≡ true }
-        ensures { result ≡ item_under (desk_of ⟦<TakenWindow as Defined>⟧.loan windows.now []) pulled
-            (menus_of ⟦<TakenMenu as Defined>⟧.loan self.now.list.menus.items) point }
+        ensures { result ≡ item_under (⟦<WindowManager as DeskWindows>⟧.desk windows.now []) pulled
+            (⟦<Self as MenusOnStock>⟧.menus self.now) point }
     {
         let at = self.index_of(pulled.menu)?;
         let area = pulled_rect(pulled.place, pulled.size);
@@ -131,8 +129,8 @@ impl Menus {
     /// Whether a point is a pixel of the screen that the menu has which is pulled down, if one is.
     pub fn has_point(&self, windows: &WindowManager, activity: Activity, point: Point) -> bool
         requires { IsPlaced activity }
-        ensures { result ≡ is_pulled_at (desk_of ⟦<TakenWindow as Defined>⟧.loan windows.now [])
-            (pulled_of activity (menus_of ⟦<TakenMenu as Defined>⟧.loan self.now.list.menus.items)) point }
+        ensures { result ≡ is_pulled_at (⟦<WindowManager as DeskWindows>⟧.desk windows.now [])
+            (pulled_of activity (⟦<Self as MenusOnStock>⟧.menus self.now)) point }
     {
         match activity {
             Activity::Pulling(pulled) => self.is_over(windows, pulled, point),
@@ -144,8 +142,8 @@ impl Menus {
     fn is_over(&self, windows: &WindowManager, pulled: PulledMenu, point: Point) -> bool
         requires place { is_menu_place pulled.place ≡ true }
         requires size { is_menu_size pulled.size ≡ true }
-        ensures { result ≡ is_pulled_at (desk_of ⟦<TakenWindow as Defined>⟧.loan windows.now [])
-            (pulled_of (Pulling pulled) (menus_of ⟦<TakenMenu as Defined>⟧.loan self.now.list.menus.items)) point }
+        ensures { result ≡ is_pulled_at (⟦<WindowManager as DeskWindows>⟧.desk windows.now [])
+            (pulled_of (Pulling pulled) (⟦<Self as MenusOnStock>⟧.menus self.now)) point }
     {
         match self.index_of(pulled.menu) {
             Some(_) => {
@@ -157,40 +155,45 @@ impl Menus {
     }
 
     /// Pulls a menu down below its title, which alone is highlighted then. No item is. Takes no memory.
-    fn pull(&mut self, windows: &mut WindowManager, title: Titled) -> PulledMenu
-        requires kept { IsKept ⟦<TakenWindow as Defined>⟧.loan windows.old }
+    fn pull(
+        &mut self,
+        windows: &mut WindowManager,
+        front: &mut Overlay,
+        title: Titled,
+    ) -> PulledMenu
+        requires kept { ⟦<WindowManager as DeskWindows>⟧.IsKept windows.old }
         requires few { length self.old.list.menus.items ≤ 16 }
         requires at { title.at < length self.old.list.menus.items }
         requires near { (pos 0 ≤ℤ title.hit.left) × (title.hit.left ≤ℤ pos 1200000) }
-        requires live { AreLive (menus_of ⟦<TakenMenu as Defined>⟧.loan self.old.list.menus.items) }
-        requires width { self.old.overlay.front.width ≡ windows.old.screen.width }
-        requires height { self.old.overlay.front.height ≡ windows.old.screen.height }
+        requires live { AreLive (⟦<Self as MenusOnStock>⟧.menus self.old) }
+        requires width { front.old.front.width ≡ windows.old.screen.width }
+        requires height { front.old.front.height ≡ windows.old.screen.height }
         ensures menus { self.new.list.menus ≡ self.old.list.menus }
         ensures highlighted { self.new.list.highlighted ≡ Some title.hit.menu }
         ensures alloc { self.new.alloc ≡ self.old.alloc }
-        ensures bar { LeavesState ⟦<TakenWindow as Defined>⟧.loan
+        ensures bar { ⟦<WindowManager as DeskWindows>⟧.LeavesState
             (IsBarShown (titles_of (Some title.hit.menu) self.old.list.menus.items)) windows.old windows.new }
         ensures pulled { IfSome (slice_get self.old.list.menus.items title.at) (λ l.
             let listed = seen ⟦<TakenMenu as Defined>⟧.loan l in
-            (result ≡ pulled_below (desk_of ⟦<TakenWindow as Defined>⟧.loan windows.old [])
+            (result ≡ pulled_below (⟦<WindowManager as DeskWindows>⟧.desk windows.old [])
             (record { hit = title.hit; record_of = listed }))
-            × IsShown windows.new.font (Some (as_pulled result listed)) windows.new.screen self.new.overlay.front) }
+            × IsShown windows.new.font (Some (as_pulled result listed)) windows.new.screen front.new.front) }
         ensures placed { (is_menu_place result.place ≡ true) × (is_menu_size result.size ≡ true) }
     {
         let pulled = self.below(windows, title);
         self.list.highlight(Some(title.hit.menu));
         self.show_titles(windows);
-        self.show_pulled(windows, title.at, pulled);
+        self.show_pulled(windows, front, title.at, pulled);
         pulled
     }
 
     /// The menu of a title, where it lies below that.
     fn below(&self, windows: &WindowManager, title: Titled) -> PulledMenu
-        requires kept { IsKept ⟦<TakenWindow as Defined>⟧.loan windows.now }
+        requires kept { ⟦<WindowManager as DeskWindows>⟧.IsKept windows.now }
         requires at { title.at < length self.now.list.menus.items }
         requires near { (pos 0 ≤ℤ title.hit.left) × (title.hit.left ≤ℤ pos 1200000) }
         ensures pulled { IfSome (slice_get self.now.list.menus.items title.at) (λ l. result
-            ≡ pulled_below (desk_of ⟦<TakenWindow as Defined>⟧.loan windows.now [])
+            ≡ pulled_below (⟦<WindowManager as DeskWindows>⟧.desk windows.now [])
             (record { hit = title.hit; record_of = seen ⟦<TakenMenu as Defined>⟧.loan l })) }
         ensures placed { (is_menu_place result.place ≡ true) × (is_menu_size result.size ≡ true) }
     {
@@ -210,7 +213,6 @@ impl Menus {
         ensures menus { self.new.list.menus ≡ self.old.list.menus }
         ensures highlighted { self.new.list.highlighted ≡ (if is_none choice then None else self.old.list.highlighted) }
         ensures alloc { self.new.alloc ≡ self.old.alloc }
-        ensures overlay { self.new.overlay ≡ self.old.overlay }
     {
         if choice.is_none() {
             self.list.highlight(None);
@@ -221,23 +223,25 @@ impl Menus {
     pub(crate) fn press_at(
         &mut self,
         windows: &mut WindowManager,
+        front: &mut Overlay,
         activity: &mut Activity,
         point: Point,
     ) -> Result<MenuReply, Refusal>
-        requires kept { IsKept ⟦<TakenWindow as Defined>⟧.loan windows.old }
-        requires menus { AreKeptMenus ⟦<TakenWindow as Defined>⟧.loan ⟦<TakenMenu as Defined>⟧.loan windows.old
-            activity.old self.old }
+        requires kept { ⟦<WindowManager as DeskWindows>⟧.IsKept windows.old }
+        requires menus { ⟦<Self as MenusOnStock>⟧.AreKept activity.old self.old }
+        requires front { ⟦<Self as DeskMenus>⟧.IsFront activity.old windows.old self.old front.old }
         requires idle { activity.old ≡ Idle }
-        ensures { (begun : PixelSet) → LeavesMenus ⟦<TakenWindow as Defined>⟧.loan ⟦<TakenMenu as Defined>⟧.loan
+        ensures step { (begun : PixelSet) → ⟦<Self as DeskMenus>⟧.Leaves
             (IsMenuStep (asks.Down point) result)
             windows.old (opened activity.old begun) self.old windows.new (opened activity.new begun) self.new }
+        ensures front { ⟦<Self as DeskMenus>⟧.IsFront activity.new windows.new self.new front.new }
     {
         if !point.is_in_range() {
             return Err(Refusal::OutOfRange);
         }
         match self.title_under(windows, point) {
             Some(title) => {
-                *activity = Activity::Pulling(self.pull(windows, title));
+                *activity = Activity::Pulling(self.pull(windows, front, title));
                 Ok(MenuReply::Pulled(Some(title.hit.menu)))
             }
             None => Ok(MenuReply::Pulled(None)),
@@ -248,17 +252,19 @@ impl Menus {
     pub(crate) fn move_to(
         &mut self,
         windows: &mut WindowManager,
+        front: &mut Overlay,
         activity: &mut Activity,
         pulled: PulledMenu,
         point: Point,
     ) -> Result<MenuReply, Refusal>
-        requires kept { IsKept ⟦<TakenWindow as Defined>⟧.loan windows.old }
-        requires menus { AreKeptMenus ⟦<TakenWindow as Defined>⟧.loan ⟦<TakenMenu as Defined>⟧.loan windows.old
-            activity.old self.old }
+        requires kept { ⟦<WindowManager as DeskWindows>⟧.IsKept windows.old }
+        requires menus { ⟦<Self as MenusOnStock>⟧.AreKept activity.old self.old }
+        requires front { ⟦<Self as DeskMenus>⟧.IsFront activity.old windows.old self.old front.old }
         requires pulling { activity.old ≡ Pulling pulled }
-        ensures { (begun : PixelSet) → LeavesMenus ⟦<TakenWindow as Defined>⟧.loan ⟦<TakenMenu as Defined>⟧.loan
+        ensures step { (begun : PixelSet) → ⟦<Self as DeskMenus>⟧.Leaves
             (IsMenuStep (asks.Move point) result)
             windows.old (opened activity.old begun) self.old windows.new (opened activity.new begun) self.new }
+        ensures front { ⟦<Self as DeskMenus>⟧.IsFront activity.new windows.new self.new front.new }
     {
         if !point.is_in_range() {
             return Err(Refusal::OutOfRange);
@@ -266,12 +272,12 @@ impl Menus {
         match self.other_title(windows, pulled, point) {
             Some(title) => {
                 self.dim_pulled(pulled);
-                *activity = Activity::Pulling(self.pull(windows, title));
+                *activity = Activity::Pulling(self.pull(windows, front, title));
                 Ok(MenuReply::Item(None))
             }
             None => {
                 let item = self.item_under(windows, pulled, point);
-                self.tell(windows.parts().font, pulled, item);
+                self.tell(front, windows.parts().font, pulled, item);
                 *activity = Activity::Pulling(PulledMenu { item, ..pulled });
                 Ok(MenuReply::Item(item))
             }
@@ -286,13 +292,15 @@ impl Menus {
         pulled: PulledMenu,
         point: Point,
     ) -> Result<MenuReply, Refusal>
-        requires kept { IsKept ⟦<TakenWindow as Defined>⟧.loan windows.old }
-        requires menus { AreKeptMenus ⟦<TakenWindow as Defined>⟧.loan ⟦<TakenMenu as Defined>⟧.loan windows.old
-            activity.old self.old }
+        requires kept { ⟦<WindowManager as DeskWindows>⟧.IsKept windows.old }
+        requires menus { ⟦<Self as MenusOnStock>⟧.AreKept activity.old self.old }
         requires pulling { activity.old ≡ Pulling pulled }
-        ensures { (begun : PixelSet) → LeavesMenus ⟦<TakenWindow as Defined>⟧.loan ⟦<TakenMenu as Defined>⟧.loan
+        ensures step { (begun : PixelSet) → ⟦<Self as DeskMenus>⟧.Leaves
             (IsMenuStep (asks.Up point) result)
             windows.old (opened activity.old begun) self.old windows.new (opened activity.new begun) self.new }
+        ensures front { (front : FrontMap)
+            → ⟦<Self as DeskMenus>⟧.IsFront activity.old windows.old self.old front
+            → ⟦<Self as DeskMenus>⟧.IsFront activity.new windows.new self.new front }
     {
         if !point.is_in_range() {
             return Err(Refusal::OutOfRange);

@@ -9,32 +9,36 @@ ghost use Rattle.menu_list.specs.Seen.{seen};
 ghost use Rattle.overlay.specs.Overlays.{IsShown, is_menu_place};
 ghost use Rattle.menu_mgr.specs.MenuSteps.{IsTold, IsToldAt};
 ghost use Rattle.menu_mgr.specs.Pulling.{as_pulled, pulled_of};
-ghost use Rattle.menu_mgr.specs.WholeMenus.{AreLive, menus_of};
+ghost use Rattle.menu_mgr.specs.WholeMenus.{AreLive};
 
-use crate::Menus;
+use crate::{Menus, MenusOnStock};
 use def_iface::{Defined, MenuChange, TakenMenu};
 use desk_call::PulledMenu;
+use overlay::Overlay;
 use strike_font::Font;
 use window_mgr::WindowManager;
 
 impl Menus {
     /// Shows the menu at an index over the base image, where it lies.
-    pub(crate) fn show_pulled(&mut self, windows: &WindowManager, at: usize, pulled: PulledMenu)
-        requires at { at < length self.old.list.menus.items }
-        requires live { AreLive (menus_of ⟦<TakenMenu as Defined>⟧.loan self.old.list.menus.items) }
+    pub(crate) fn show_pulled(
+        &self,
+        windows: &WindowManager,
+        front: &mut Overlay,
+        at: usize,
+        pulled: PulledMenu,
+    )
+        requires at { at < length self.now.list.menus.items }
+        requires live { AreLive (⟦<Self as MenusOnStock>⟧.menus self.now) }
         requires place { is_menu_place pulled.place ≡ true }
         requires size { is_menu_size pulled.size ≡ true }
-        requires width { self.old.overlay.front.width ≡ windows.now.screen.width }
-        requires height { self.old.overlay.front.height ≡ windows.now.screen.height }
-        ensures list { self.new.list ≡ self.old.list }
-        ensures alloc { self.new.alloc ≡ self.old.alloc }
-        ensures front { IfSome (slice_get self.old.list.menus.items at) (λ l. IsShown windows.now.font
-            (Some (as_pulled pulled (seen ⟦<TakenMenu as Defined>⟧.loan l))) windows.now.screen
-            self.new.overlay.front) }
+        requires width { front.old.front.width ≡ windows.now.screen.width }
+        requires height { front.old.front.height ≡ windows.now.screen.height }
+        ensures { IfSome (slice_get self.now.list.menus.items at) (λ l. IsShown windows.now.font
+            (Some (as_pulled pulled (seen ⟦<TakenMenu as Defined>⟧.loan l))) windows.now.screen front.new.front) }
     {
-        self.overlay.show(windows.screen());
+        front.show(windows.screen());
         let listed = &self.list.menus[at];
-        self.overlay.pull(
+        front.pull(
             &listed.definition,
             &listed.menu,
             pulled.place,
@@ -43,16 +47,14 @@ impl Menus {
         );
     }
 
-    /// Tells the definition of the pulled menu, which is about to be put away, that no item is highlighted. The map in front
-    /// stays as it is. Takes no memory.
+    /// Tells the definition of the pulled menu, which is about to be put away, that no item is highlighted. Takes no memory.
     pub(crate) fn dim_pulled(&mut self, pulled: PulledMenu)
-        requires live { AreLive (menus_of ⟦<TakenMenu as Defined>⟧.loan self.old.list.menus.items) }
-        ensures told { IsTold pulled None (menus_of ⟦<TakenMenu as Defined>⟧.loan self.old.list.menus.items)
-            (menus_of ⟦<TakenMenu as Defined>⟧.loan self.new.list.menus.items) }
+        requires live { AreLive (⟦<Self as MenusOnStock>⟧.menus self.old) }
+        ensures told { IsTold pulled None (⟦<Self as MenusOnStock>⟧.menus self.old)
+            (⟦<Self as MenusOnStock>⟧.menus self.new) }
         ensures highlighted { self.new.list.highlighted ≡ self.old.list.highlighted }
         ensures room { vec_capacity self.old.list.menus ≤ vec_capacity self.new.list.menus }
         ensures alloc { self.new.alloc ≡ self.old.alloc }
-        ensures overlay { self.new.overlay ≡ self.old.overlay }
     {
         if let Some(at) = self.index_of(pulled.menu) {
             let listed = &mut self.list.menus[at];
@@ -61,52 +63,61 @@ impl Menus {
     }
 
     /// Tells the definition of the pulled menu which item is highlighted, and shows the menu so. Takes no memory.
-    pub(crate) fn tell(&mut self, font: &Font, pulled: PulledMenu, item: Option<u8>)
-        requires live { AreLive (menus_of ⟦<TakenMenu as Defined>⟧.loan self.old.list.menus.items) }
+    pub(crate) fn tell(
+        &mut self,
+        front: &mut Overlay,
+        font: &Font,
+        pulled: PulledMenu,
+        item: Option<u8>,
+    )
+        requires live { AreLive (⟦<Self as MenusOnStock>⟧.menus self.old) }
         requires place { is_menu_place pulled.place ≡ true }
         requires size { is_menu_size pulled.size ≡ true }
-        requires screen { (self.old.overlay.front.width ≤ 1024) × (self.old.overlay.front.height ≤ 1024) }
-        ensures told { IsTold pulled item (menus_of ⟦<TakenMenu as Defined>⟧.loan self.old.list.menus.items)
-            (menus_of ⟦<TakenMenu as Defined>⟧.loan self.new.list.menus.items) }
+        requires screen { (front.old.front.width ≤ 1024) × (front.old.front.height ≤ 1024) }
+        ensures told { IsTold pulled item (⟦<Self as MenusOnStock>⟧.menus self.old)
+            (⟦<Self as MenusOnStock>⟧.menus self.new) }
         ensures highlighted { self.new.list.highlighted ≡ self.old.list.highlighted }
         ensures room { vec_capacity self.old.list.menus ≤ vec_capacity self.new.list.menus }
         ensures alloc { self.new.alloc ≡ self.old.alloc }
         ensures front { (base : Bits)
             → IsShown font.now (pulled_of (Pulling pulled)
-            (menus_of ⟦<TakenMenu as Defined>⟧.loan self.old.list.menus.items))
-            base self.old.overlay.front
+            (⟦<Self as MenusOnStock>⟧.menus self.old)) base front.old.front
             → IsShown font.now (pulled_of (Pulling pulled)
-            (menus_of ⟦<TakenMenu as Defined>⟧.loan self.new.list.menus.items))
-            base self.new.overlay.front }
+            (⟦<Self as MenusOnStock>⟧.menus self.new)) base front.new.front }
     {
         if let Some(at) = self.index_of(pulled.menu) {
-            self.tell_at(font, at, pulled, item);
+            self.tell_at(front, font, at, pulled, item);
         }
     }
 
     /// Tells it where its menu stands at this index.
-    fn tell_at(&mut self, font: &Font, at: usize, pulled: PulledMenu, item: Option<u8>)
+    fn tell_at(
+        &mut self,
+        front: &mut Overlay,
+        font: &Font,
+        at: usize,
+        pulled: PulledMenu,
+        item: Option<u8>,
+    )
         requires at { at < length self.old.list.menus.items }
-        requires live { AreLive (menus_of ⟦<TakenMenu as Defined>⟧.loan self.old.list.menus.items) }
+        requires live { AreLive (⟦<Self as MenusOnStock>⟧.menus self.old) }
         requires place { is_menu_place pulled.place ≡ true }
         requires size { is_menu_size pulled.size ≡ true }
-        requires screen { (self.old.overlay.front.width ≤ 1024) × (self.old.overlay.front.height ≤ 1024) }
-        ensures told { IsToldAt (Some at) item (menus_of ⟦<TakenMenu as Defined>⟧.loan self.old.list.menus.items)
-            (menus_of ⟦<TakenMenu as Defined>⟧.loan self.new.list.menus.items) }
+        requires screen { (front.old.front.width ≤ 1024) × (front.old.front.height ≤ 1024) }
+        ensures told { IsToldAt (Some at) item (⟦<Self as MenusOnStock>⟧.menus self.old)
+            (⟦<Self as MenusOnStock>⟧.menus self.new) }
         ensures highlighted { self.new.list.highlighted ≡ self.old.list.highlighted }
         ensures room { vec_capacity self.old.list.menus ≤ vec_capacity self.new.list.menus }
         ensures alloc { self.new.alloc ≡ self.old.alloc }
         ensures front { (base : Bits)
             → IsShown font.now (option_map (as_pulled pulled)
-            (slice_get (menus_of ⟦<TakenMenu as Defined>⟧.loan self.old.list.menus.items) at)) base
-            self.old.overlay.front
+            (slice_get (⟦<Self as MenusOnStock>⟧.menus self.old) at)) base front.old.front
             → IsShown font.now (option_map (as_pulled pulled)
-            (slice_get (menus_of ⟦<TakenMenu as Defined>⟧.loan self.new.list.menus.items) at)) base
-            self.new.overlay.front }
+            (slice_get (⟦<Self as MenusOnStock>⟧.menus self.new) at)) base front.new.front }
     {
         let listed = &mut self.list.menus[at];
         let damage = listed.definition.told(MenuChange::Highlighted(item));
-        self.overlay.redraw(
+        front.redraw(
             &listed.definition,
             &listed.menu,
             pulled.place,

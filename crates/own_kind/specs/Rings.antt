@@ -24,7 +24,7 @@ use Rattle.looks.specs.declared.spot.Spot.{Spot}
 use Rattle.looks.specs.Spots.{first_part, spot}
 use Rattle.looks.specs.declared.step.Step.{Step}
 use Rattle.looks.specs.Letters.{lettering}
-use Rattle.looks.specs.Marks.{box, light_gray_fill, black_frame, black_cross, text_at, inverted, greyed, when, look_bit}
+use Rattle.looks.specs.Marks.{box, light_gray_fill, black_frame, black_cross, text_at, inverted, grayed, when, look_bit}
 use Rattle.own_kind.specs.declared.ring_control.RingControl.{RingControl}
 
 -- n: w div 3
@@ -57,7 +57,7 @@ abbrev pub is_raised : Setting → Bool
 is_raised v = int_lt v.minimum v.value
 
 -- both sides in a black frame, with light gray between them; a cross on the right side where the value is raised; the title
--- over all of that; the side that is highlighted inverted; all of it in grey where it is inactive
+-- over all of that; the side that is highlighted inverted; all of it in gray where it is inactive
 unfoldable pub ring_look : Size → Setting → ℕ → List Step
 ring_look s v highlight =
     light_gray_fill (middle s)
@@ -67,7 +67,7 @@ ring_look s v highlight =
     ∷ text_at (rect_of s) (pos 2) (Middle (nat_abs s.height))
     ∷ when (nat_eq highlight (number_of UpButton)) (inverted (left_side s))
     ∷ when (nat_eq highlight (number_of DownButton)) (inverted (right_side s))
-    ∷ when (nat_eq highlight 255) (greyed (rect_of s))
+    ∷ when (nat_eq highlight 255) (grayed (rect_of s))
     ∷ []
 
 -- the two sides are parts; what lies between them is of none

@@ -117,7 +117,7 @@ pub(crate) fn ring_look(size: Size, values: ControlValues, highlight: Highlight)
         Step::text_at(whole, 2, Baseline::Middle(size.height as u16)),
         Step::inverted(left).when(highlight.shows(ControlPart::UpButton)),
         Step::inverted(right).when(highlight.shows(ControlPart::DownButton)),
-        Step::greyed(whole).when(highlight.is_inactive()),
+        Step::grayed(whole).when(highlight.is_inactive()),
     ]
 }
 

@@ -1,14 +1,22 @@
 -- What lies in front, over the base image.
-use Rattle.std.proofs.Common.{◌≡◌, ℕ, ℤ, List, [], pos, sym, ap, ◌∙◌, subst}
-use Rattle.bit_map.specs.Bits.{Bits, bit}
+use Rattle.std.proofs.Common.{◌≡◌, ℕ, ℤ, true, List, [], pos, sym, ap, ◌∙◌, subst}
+use Rattle.tb_geom.specs.declared.point.Point.{Point}
+use Rattle.tb_geom.specs.declared.rect.Rect.{Rect}
+use Rattle.bit_map.specs.Bits.{Bits, bit, on_map}
 use Rattle.bit_map.proofs.BitsLemmas.{on_map-same}
+use Rattle.bit_blit.specs.Draws.{Draws}
 use Rattle.def_iface.specs.Slots.{TakenBox}
 use Rattle.def_iface.specs.ControlMeaning.{ControlLoan}
 use Rattle.def_iface.specs.ListMeaning.{ListLoan}
 use Rattle.def_iface.specs.WindowMeaning.{WindowLoan}
 use Rattle.def_iface.specs.MenuMeaning.{MenuLoan}
 use Rattle.desk_layers.specs.Scratch.{scratch}
+use Rattle.overlay.specs.Outlines.{outline_holds, outlined}
+use Rattle.overlay.proofs.OutlineLemmas.{inverted}
 use Rattle.desk_call.specs.declared.activity.Activity.{Activity}
+use Rattle.desk_call.specs.declared.activity.Activity.TheVariants.{Dragging, Growing}
+use Rattle.desk_call.specs.declared.activity.DraggedWindow.{DraggedWindow}
+use Rattle.desk_call.specs.declared.activity.GrownWindow.{GrownWindow}
 use Rattle.window_mgr.specs.declared.manager.WindowManager.{WindowManager}
 use Rattle.window_mgr.specs.FullDesk.{layered_desk}
 use Rattle.window_mgr.specs.Records.{desk_of, desk_showing}
@@ -18,17 +26,40 @@ use Rattle.list_mgr.specs.ListDesks.{lists_show}
 use Rattle.list_mgr.specs.WholeLists as lists
 use Rattle.menu_mgr.specs.declared.menus.Menus.{Menus}
 use Rattle.menu_mgr.specs.MenuDesks.{MenuRecord}
-use Rattle.menu_mgr.specs.Pulling.{IsFrontPainted}
 use Rattle.menu_mgr.specs.WholeMenus.{menus_of}
 use Rattle.desk_toolbox.specs.declared.toolbox.Toolbox.{Toolbox}
 use Rattle.desk_toolbox.specs.ToolboxStates.{ToolboxState}
 use Rattle.desk_toolbox.specs.WholeToolbox.{toolbox_state}
 use Rattle.scratch_paint.specs.Paints.{IsPaintedDesk}
 use Rattle.desk_toolbox.specs.Boxed.{no_slots}
-use Rattle.scratch_paint.specs.Screens.{IsPaintedScreen}
+use Rattle.scratch_paint.specs.Screens.{IsFrontPainted, IsPaintedScreen}
 use Rattle.scratch_paint.proofs.DifferenceLemmas.{front_alike, on_its_screen}
 
--- that was drawn over the base image that was painted from nothing
+-- ---- the outline, painted over a base image
+
+outline_painted : (bar : ℤ) (lines : List Rect) (base new : Bits) → Draws (outline_holds bar lines) inverted base new
+    → (p : Point) → on_map new p ≡ true → bit new p ≡ outlined bar lines (bit base) p
+outline_painted bar lines base new drawn p on = drawn.pixels p (sym (on_map-same base new p drawn.width drawn.height) ∙ on)
+
+pub drag_painted : (font : List ℕ) (bar : ℤ) (d : DraggedWindow) (menus : List MenuRecord) (activity : Activity) (base new : Bits) → activity ≡ Dragging d
+    → Draws (outline_holds bar d.outline) inverted base new → IsFrontPainted font bar activity menus base new
+drag_painted font bar d menus activity base new is drawn = subst (λ a. IsFrontPainted font bar a menus base new) (sym is) (record {
+  width = drawn.width;
+  height = drawn.height;
+  pixels = outline_painted bar d.outline base new drawn;
+})
+
+pub growth_painted : (font : List ℕ) (bar : ℤ) (g : GrownWindow) (menus : List MenuRecord) (activity : Activity) (base new : Bits) → activity ≡ Growing g
+    → Draws (outline_holds bar g.outline) inverted base new → IsFrontPainted font bar activity menus base new
+growth_painted font bar g menus activity base new is drawn = subst (λ a. IsFrontPainted font bar a menus base new) (sym is) (record {
+  width = drawn.width;
+  height = drawn.height;
+  pixels = outline_painted bar g.outline base new drawn;
+})
+
+-- ---- what lies in front, over the base image that was painted from nothing
+
+-- that was drawn over it
 over_base : (s : ToolboxState) (base new : Bits) → IsPaintedDesk s.desk.windows.desk base
     → IsFrontPainted s.desk.windows.desk.font s.desk.windows.desk.bar.rows s.desk.activity s.menus.menus base new → IsPaintedScreen s new
 over_base s base new painted shown = record {

@@ -5,7 +5,7 @@
 //! definition draws it, then the picture of its content over that, then its controls and lists from the rearmost to the
 //! frontmost, each cut to the content and to its own region, whatever is to cover them. Only the desktop is painted on, so
 //! the menu bar stays in front. Then the bar gets its titles, and at last comes the menu that is pulled down, if one is, over
-//! all of that.
+//! all of that, or the outline of a window that is dragged or grown.
 //!
 //! Of the Toolbox it reads the desk alone, its windows (`DeskView`), its menus, and which of them is pulled down: neither what
 //! the screen shows, nor a region that is kept from call to call. What controls and lists show, it asks whoever keeps them

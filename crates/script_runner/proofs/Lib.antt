@@ -1,10 +1,13 @@
 mod Checked
 mod ChoicesLemmas
 mod Ends
+mod FormFaults
+mod KeptSessions
 mod SameImages
 mod Sessions
 mod StockKinds
 mod RawRuns
+mod RepliesOut
 mod RightSessions
 mod FirstVersions
 mod Taken

@@ -34,10 +34,8 @@ answers_images s Image text after answered = subst (AreImages 1) (sym answered.0
 answers_images s (Call call) text after answered = subst (AreImages 0) (sym answered.2) none
 
 first_images : (s : ToolboxState) (command : Command) (text : List ℕ) (after : ToolboxState) → FirstAnswers true s command text after → AreImages (asked command) text
-first_images s (Version number) text after answered = answers_images s (Version number) text after answered
 first_images s (Desk size) text after answered = subst (AreImages 0) (sym answered.0) none
-first_images s Image text after answered = answers_images s Image text after answered
-first_images s (Call call) text after answered = answers_images s (Call call) text after answered
+first_images s command text after answered = answers_images s command text after answered
 
 -- the usual desk can always be made, so `image` is not refused
 opens_images : (font : List ℕ) (stocks : AllSlots) (command : Command) (why : Option Refusal) (text : List ℕ) (new : SessionState)

@@ -2,8 +2,9 @@
 use Rattle.std.specs.Prelude.{◌≡◌, ◌⊎◌, ℕ, Bool, true, false, List, ◌++◌, Option, None, Some, Result, Ok, Err, codes, decimal}
 use Rattle.tb_geom.specs.declared.refusal.Refusal.{Refusal}
 use Rattle.scratch_paint.specs.Differences.{difference_count}
-use Rattle.watched_io.specs.Writes.{Output, Sends}
+use Rattle.watched_io.specs.Writes.{Output}
 use Rattle.script_runner.specs.Session.{SessionState, unmade, made}
+use Rattle.script_runner.specs.Writers.{SendsSome}
 
 -- how many pixels differ, or that there was no memory to tell
 abbrev pub check_text : Option ℕ → List ℕ
@@ -21,4 +22,4 @@ IsCheckLine (made s) text = (text ≡ check_text (Some (difference_count s))) �
 abbrev pub IsFollowed : {X : Type 0} → Bool → Result X Refusal → SessionState → Output → Output → Result X Refusal → Type 0
 IsFollowed false script session between new r = (new ≡ between) × (r ≡ script)
 IsFollowed true (Err e) session between new r = (new ≡ between) × (r ≡ Err e)
-IsFollowed true (Ok x) session between new r = (text : List ℕ) × IsCheckLine session text × Sends between new r text
+IsFollowed true (Ok x) session between new r = SendsSome (IsCheckLine session) between new r

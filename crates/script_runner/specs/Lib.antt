@@ -10,5 +10,6 @@ pub mod FirstVersion
 pub mod Script
 pub mod Session
 pub mod SessionViews
+pub mod Writers
 pub mod ChosenRuns
 pub mod Boxed

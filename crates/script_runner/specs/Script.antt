@@ -4,8 +4,7 @@ use Rattle.std.specs.Ordering.{int_eq}
 use Rattle.tb_geom.specs.declared.refusal.Refusal.{Refusal}
 use Rattle.tb_geom.specs.declared.refusal.Refusal.TheVariants.{BadSyntax, OutOfRange}
 use Rattle.def_iface.specs.Stocks.{AllSlots}
-use Rattle.desk_call.specs.declared.call.Call.TheVariants.{Window}
-use Rattle.desk_call.specs.declared.window.WindowCall.TheVariants.{NewFloating}
+use Rattle.desk_call.specs.Natures.{nature_of}
 use Rattle.script_text.specs.declared.command.Command.{Command}
 use Rattle.script_text.specs.declared.command.Command.TheVariants.{Version, Call}
 use Rattle.script_text.specs.Lines.{said}
@@ -27,12 +26,17 @@ first_state font stocks = record { session = unmade font stocks; version = pos 1
 abbrev pub begun : ScriptState → ScriptState
 begun s = record s { is_begun = true }
 
+-- why a call that may be of version 2 is refused in a script of this version
+abbrev pub why_no_call : ℤ → Bool → Option Refusal
+why_no_call version false = None
+why_no_call version true = if int_eq version (pos 2) then None else Some BadSyntax
+
 -- why a command is refused whatever desk there is, where a line was answered or not, in a script of this version: a version
--- stands first and is 1 or 2, and floating windows are of version 2
+-- stands first and is 1 or 2, and a call may be of version 2
 abbrev pub why_unread : Bool → ℤ → Command → Option Refusal
 why_unread is_begun version (Version number) =
     if is_begun then Some BadSyntax else (if int_eq number (pos 1) || int_eq number (pos 2) then None else Some OutOfRange)
-why_unread is_begun version (Call (Window (NewFloating w))) = if int_eq version (pos 2) then None else Some BadSyntax
+why_unread is_begun version (Call call) = why_no_call version (nature_of call).is_version_2
 why_unread is_begun version _ = None
 
 -- whether the command is the one that makes the script's desk

@@ -6,7 +6,7 @@ use Rattle.tb_geom.specs.declared.refusal.Refusal.TheVariants.{NoSuchName, OutOf
 use Rattle.tb_geom.specs.Points.{PixelSet}
 use Rattle.def_iface.specs.WindowSlots.{has_kind}
 use Rattle.def_iface.specs.Stocks.{AllSlots}
-use Rattle.desk_call.specs.declared.call.Call.TheVariants.{Window, Update, Frame, Control, Menu, Outline, Event}
+use Rattle.desk_call.specs.declared.call.Call.TheVariants.{Window, Control, Menu}
 use Rattle.desk_call.specs.declared.call.Call.TheVariants as asks
 use Rattle.desk_call.specs.declared.control.ControlCall.TheVariants as controls
 use Rattle.desk_call.specs.declared.list.ListCall.TheVariants as lists
@@ -56,29 +56,17 @@ pub record IsNewDesk (size : DeskSize) (font : List ℕ) (stocks : AllSlots) (s 
 -- the desk that the first command makes: of the size that it asks for, and else of 512 by 342 with a menu bar of 20 rows
 abbrev pub first_size : Command → DeskSize
 first_size (Desk size) = size
-first_size (Version number) = record { width = pos 512; height = pos 342; bar = pos 20 }
-first_size Image = record { width = pos 512; height = pos 342; bar = pos 20 }
-first_size (Call call) = record { width = pos 512; height = pos 342; bar = pos 20 }
+first_size _ = record { width = pos 512; height = pos 342; bar = pos 20 }
 
 -- whether the stock has a slot of the kind that a command names, if it names one; a new menu is of the one kind of menus, and
 -- with a new list come its scroll bars, where it is to have some
 abbrev pub is_known : Command → AllSlots → Bool
-is_known (Version number) stocks = true
-is_known (Desk size) stocks = true
-is_known Image stocks = true
 is_known (Call (Window (New w))) stocks = has_kind w.kind stocks.windows
 is_known (Call (Window (NewFloating w))) stocks = has_kind w.kind stocks.windows
-is_known (Call (Window _)) stocks = true
-is_known (Call (Update _)) stocks = true
-is_known (Call (Frame _)) stocks = true
-is_known (Call (Outline _)) stocks = true
 is_known (Call (Control (controls.New n))) stocks = has_kind n.kind stocks.controls
-is_known (Call (Control _)) stocks = true
 is_known (Call (asks.List (lists.New n))) stocks = not (lacks_kind n stocks.lists stocks.controls)
-is_known (Call (asks.List _)) stocks = true
 is_known (Call (Menu (menus.New n))) stocks = has_kind menu_kind stocks.menus
-is_known (Call (Menu _)) stocks = true
-is_known (Call (Event _)) stocks = true
+is_known _ stocks = true
 
 -- whether a screen may have this size
 abbrev pub may_be : DeskSize → Bool
@@ -116,10 +104,8 @@ module _ (raw : Bool) where
 
   -- the answer of the command that made the desk: `ok` where it asked for nothing else
   abbrev pub FirstAnswers : ToolboxState → Command → List ℕ → ToolboxState → Type 0
-  FirstAnswers s (Version number) text after = Answers s (Version number) text after
   FirstAnswers s (Desk size) text after = (text ≡ reply_shown raw done_text) × (after ≡ s)
-  FirstAnswers s Image text after = Answers s Image text after
-  FirstAnswers s (Call call) text after = Answers s (Call call) text after
+  FirstAnswers s command text after = Answers s command text after
 
   -- without a desk, the command is refused, or makes the desk and is then answered
   abbrev pub Opens : Option Refusal → List ℕ → AllSlots → Command → List ℕ → SessionState → Type 0

@@ -1,10 +1,14 @@
 //! What the definitions of runs and of checks say of each other.
-ghost use Rattle.std.specs.Prelude.{◌≡◌, ◌⊎◌, ℕ, Bool, true, false, List, None, Some, count_by};
+ghost use Rattle.std.specs.Prelude.{◌≡◌, ◌⊎◌, ℕ, Bool, true, false, List, None, Some, Result, count_by};
+ghost use Rattle.tb_geom.specs.declared.refusal.Refusal.{Refusal};
 ghost use Rattle.def_iface.specs.Stocks.{AllSlots};
 ghost use Rattle.script_text.specs.Lines.{said};
+ghost use Rattle.watched_io.specs.Reads.{Input};
+ghost use Rattle.watched_io.specs.Writes.{Output};
 ghost use Rattle.script_runner.specs.Checks.{IsCheckLine, check_text};
 ghost use Rattle.script_runner.specs.RawText.{asks_image, AreImages};
 ghost use Rattle.script_runner.specs.FirstVersion.{begins_with_version, WrittenBefore};
+ghost use Rattle.script_runner.specs.Runs.{CheckedEnds, IsStoppedByRead};
 ghost use Rattle.script_runner.specs.Script.{ScriptState, first_state, Written};
 ghost use Rattle.script_runner.specs.Session.{unmade};
 
@@ -33,4 +37,13 @@ pub fn scripts_of_version_1_write_what_they_wrote()
         (state : ScriptState) → begins_with_version lines ≡ false
         → Written raw (first_state font stocks) lines text state
         → WrittenBefore raw (unmade font stocks) lines text state.session }
+{}
+
+/// Each reply goes out before the next read: when a read fails, each line that a newline had ended by then is answered, and
+/// all of the answers have gone out. Any read may fail, so they have before each.
+#[tactic(auto, using(crate::proofs::RepliesOut::replies_are_out))]
+pub fn replies_go_out_before_the_next_read()
+    ensures { (raw check : Bool) (first : ScriptState) (input rest : Input) (old new : Output) (state : ScriptState)
+        (r : Result (Unit {0}) Refusal) → CheckedEnds raw check first input rest old new state r
+        → rest.has_failed ≡ true → IsStoppedByRead raw first input rest old new state }
 {}

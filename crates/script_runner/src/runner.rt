@@ -9,8 +9,10 @@ ghost use Rattle.script_runner.specs.Endings.{LineEnds};
 ghost use Rattle.script_runner.specs.Progress.{SoFar, GoesOn};
 ghost use Rattle.watched_io.specs.Reads.{Input, IsOpen};
 ghost use Rattle.script_runner.specs.Runs.{CheckedEnds, RunEnds, ScriptEnds};
+ghost use Rattle.script_runner.specs.Writers.{IsSameWriter};
 ghost use Rattle.watched_io.specs.Writes.{Output};
 
+use crate::answer_writer::AnswerWriter;
 use crate::on_stock::ScriptOnStock;
 use crate::script::Script;
 use def_iface::{Stock, StockedAll};
@@ -54,7 +56,8 @@ pub fn run<R: Source, W: Sink>(
 {
     let font = make_font(alloc, font)?;
     let mut script = Script::new(alloc, font);
-    let outcome = answer_and_check(&mut script, source, sink, stock, raw, check);
+    let mut writer = AnswerWriter { sink, raw };
+    let outcome = answer_and_check(&mut script, source, stock, &mut writer, check);
     script.close(stock);
     outcome
 }
@@ -63,23 +66,23 @@ pub fn run<R: Source, W: Sink>(
 fn answer_and_check<R: Source, W: Sink>(
     script: &mut Script,
     source: &mut R,
-    sink: &mut W,
     stock: &mut Stock,
-    raw: bool,
+    writer: &mut AnswerWriter<'_, W>,
     check: bool,
 ) -> Result<(), Refusal>
     requires ready { ⟦<Script as ScriptOnStock>⟧.IsScriptReady script.old stock.old }
     requires unread { (R.input source.old).reads ≡ 0 }
     requires going { IsOpen (R.input source.old) }
-    requires unfailed { (W.output sink.old).has_failed ≡ false }
+    requires unfailed { (W.output writer.old.sink.now).has_failed ≡ false }
     ensures ready { ⟦<Script as ScriptOnStock>⟧.IsScriptReady script.new stock.new }
-    ensures ends { CheckedEnds raw check
+    ensures same { IsSameWriter writer.old writer.new }
+    ensures ends { CheckedEnds writer.old.raw check
         (⟦<Script as ScriptOnStock>⟧.script script.old stock.old)
-        (R.input source.old) (R.input source.new) (W.output sink.old) (W.output sink.new)
+        (R.input source.old) (R.input source.new) (W.output writer.old.sink.now) (W.output writer.new.sink.now)
         (⟦<Script as ScriptOnStock>⟧.script script.new stock.new) result }
 {
-    match answer_all(script, source, sink, stock, raw) {
-        Ok(()) if check => script.check(sink),
+    match answer_all(script, source, stock, writer) {
+        Ok(()) if check => script.check(writer),
         outcome => outcome,
     }
 }
@@ -100,18 +103,18 @@ fn make_font(alloc: Global, asked: Option<&[u8]>) -> Result<Font, Refusal>
 fn answer_all<R: Source, W: Sink>(
     script: &mut Script,
     source: &mut R,
-    sink: &mut W,
     stock: &mut Stock,
-    raw: bool,
+    writer: &mut AnswerWriter<'_, W>,
 ) -> Result<(), Refusal>
     requires ready { ⟦<Script as ScriptOnStock>⟧.IsScriptReady script.old stock.old }
     requires unread { (R.input source.old).reads ≡ 0 }
     requires going { IsOpen (R.input source.old) }
-    requires unfailed { (W.output sink.old).has_failed ≡ false }
+    requires unfailed { (W.output writer.old.sink.now).has_failed ≡ false }
     ensures ready { ⟦<Script as ScriptOnStock>⟧.IsScriptReady script.new stock.new }
-    ensures ends { ScriptEnds raw
+    ensures same { IsSameWriter writer.old writer.new }
+    ensures ends { ScriptEnds writer.old.raw
         (⟦<Script as ScriptOnStock>⟧.script script.old stock.old)
-        (R.input source.old) (R.input source.new) (W.output sink.old) (W.output sink.new)
+        (R.input source.old) (R.input source.new) (W.output writer.old.sink.now) (W.output writer.new.sink.now)
         (⟦<Script as ScriptOnStock>⟧.script script.new stock.new) result }
 {
     let mut line = LineBuffer::new();
@@ -119,9 +122,9 @@ fn answer_all<R: Source, W: Sink>(
     for read in 0..MOST_READS {
         let count = source.read_some(&mut buffer)?;
         if count == 0 {
-            return script.answer(line.said_last(), stock, sink, raw);
+            return script.answer(line.said_last(), stock, writer);
         }
-        take_all(script, &mut line, &buffer[..count], stock, sink, raw)?;
+        take_all(script, &mut line, &buffer[..count], stock, writer)?;
     }
     Err(Refusal::ReadFault)
 }
@@ -132,21 +135,21 @@ fn take_all<W: Sink>(
     line: &mut LineBuffer,
     bytes: &[u8],
     stock: &mut Stock,
-    sink: &mut W,
-    raw: bool,
+    writer: &mut AnswerWriter<'_, W>,
 ) -> Result<(), Refusal>
     requires ready { ⟦<Script as ScriptOnStock>⟧.IsScriptReady script.old stock.old }
-    requires unfailed { (W.output sink.old).has_failed ≡ false }
+    requires unfailed { (W.output writer.old.sink.now).has_failed ≡ false }
     ensures ready { ⟦<Script as ScriptOnStock>⟧.IsScriptReady script.new stock.new }
-    ensures quiet { OnOk result ((W.output sink.new).has_failed ≡ false) }
+    ensures same { IsSameWriter writer.old writer.new }
+    ensures quiet { OnOk result ((W.output writer.new.sink.now).has_failed ≡ false) }
     ensures goes_on { (first : ScriptState) (input rest : Input) (old : Output)
-        → SoFar raw first input old rest (W.output sink.old)
+        → SoFar writer.old.raw first input old rest (W.output writer.old.sink.now)
         (⟦<Script as ScriptOnStock>⟧.script script.old stock.old) line.old bytes.now
-        → GoesOn raw first input old rest (W.output sink.new)
+        → GoesOn writer.old.raw first input old rest (W.output writer.new.sink.now)
         (⟦<Script as ScriptOnStock>⟧.script script.new stock.new) line.new result }
 {
     for byte in bytes {
-        take(script, line, *byte, stock, sink, raw)?;
+        take(script, line, *byte, stock, writer)?;
     }
     Ok(())
 }
@@ -157,28 +160,28 @@ fn take<W: Sink>(
     line: &mut LineBuffer,
     byte: u8,
     stock: &mut Stock,
-    sink: &mut W,
-    raw: bool,
+    writer: &mut AnswerWriter<'_, W>,
 ) -> Result<(), Refusal>
     requires ready { ⟦<Script as ScriptOnStock>⟧.IsScriptReady script.old stock.old }
-    requires unfailed { (W.output sink.old).has_failed ≡ false }
+    requires unfailed { (W.output writer.old.sink.now).has_failed ≡ false }
     ensures ready { ⟦<Script as ScriptOnStock>⟧.IsScriptReady script.new stock.new }
-    ensures quiet { OnOk result ((W.output sink.new).has_failed ≡ false) }
-    ensures newline { byte ≡ 10 → LineEnds raw
+    ensures same { IsSameWriter writer.old writer.new }
+    ensures quiet { OnOk result ((W.output writer.new.sink.now).has_failed ≡ false) }
+    ensures newline { byte ≡ 10 → LineEnds writer.old.raw
         (⟦<Script as ScriptOnStock>⟧.script script.old stock.old) (said_held line.old)
         (⟦<Script as ScriptOnStock>⟧.script script.new stock.new)
-        (W.output sink.old) (W.output sink.new) result }
+        (W.output writer.old.sink.now) (W.output writer.new.sink.now) result }
     ensures cleared { byte ≡ 10 → OnOk result (line.new ≡ Some []) }
     ensures other { byte ≢ 10 → IsOk result × (line.new ≡ pushed line.old byte)
         × (⟦<Script as ScriptOnStock>⟧.script script.new stock.new
         ≡ ⟦<Script as ScriptOnStock>⟧.script script.old stock.old)
-        × (W.output sink.new ≡ W.output sink.old) }
+        × (W.output writer.new.sink.now ≡ W.output writer.old.sink.now) }
 {
     if byte != b'\n' {
         line.push(byte);
         return Ok(());
     }
-    script.answer(line.said(), stock, sink, raw)?;
+    script.answer(line.said(), stock, writer)?;
     line.clear();
     Ok(())
 }

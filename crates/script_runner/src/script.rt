@@ -1,18 +1,17 @@
 //! A script at work: its desk, the version of its commands, and whether a line was answered.
-ghost use Rattle.std.specs.Prelude.{◌≡◌, ℕ, pos, List, Some, None, OnOk, false};
+ghost use Rattle.std.specs.Prelude.{◌≡◌, pos, Some, None, OnOk, false};
 ghost use Rattle.def_iface.specs.Stocks.{AllSlots, AreAllFull};
-ghost use Rattle.desk_call.specs.declared.call.Call.TheVariants as asks;
-ghost use Rattle.watched_io.specs.Writes.{Sends};
 ghost use Rattle.script_runner.specs.Checks.{IsCheckLine};
 ghost use Rattle.script_runner.specs.Endings.{LineEnds, TakeEnds};
-ghost use Rattle.script_runner.specs.Script.{why_unread};
+ghost use Rattle.script_runner.specs.Script.{why_no_call, why_unread};
 ghost use Rattle.script_runner.specs.Session.{LeavesStock};
+ghost use Rattle.script_runner.specs.Writers.{IsSameWriter, SendsSome};
 
+use crate::answer_writer::AnswerWriter;
 use crate::on_stock::{OnStock, ScriptOnStock};
 use crate::session::Session;
-use crate::shown::{show_done, show_reply};
 use def_iface::{Stock, StockedAll};
-use desk_toolbox::{Call, Desk, Toolbox, WindowCall};
+use desk_toolbox::{Desk, Toolbox};
 use script_text::Command;
 use std::alloc::Global;
 use strike_font::Font;
@@ -45,33 +44,32 @@ impl Script {
         }
     }
 
-    /// Answers what a line says, in bytes to the sink: a reply line, or an image. Nothing is written for a
-    /// line that says nothing, and, where the run is raw, in place of a reply line. The first line that is answered may
-    /// say the version; the first command of another kind makes the desk: where there is no memory for that, the
-    /// answer is NoMemory and nothing is written. Else WriteFault is the only error.
+    /// Answers what a line says, by a reply line or an image, and a line that says nothing by nothing. The first line that is
+    /// answered may say the version; the first command of another kind makes the desk: where there is no memory for that,
+    /// NoMemory is returned and nothing is written. Else WriteFault is the only error.
     pub fn answer<S: Sink>(
         &mut self,
         said: Option<Result<Command<'_>, Refusal>>,
         stock: &mut Stock,
-        sink: &mut S,
-        raw: bool,
+        writer: &mut AnswerWriter<'_, S>,
     ) -> Result<(), Refusal>
         requires ready { ⟦<Self as ScriptOnStock>⟧.IsScriptReady self.old stock.old }
-        requires unfailed { (S.output sink.old).has_failed ≡ false }
+        requires unfailed { (S.output writer.old.sink.now).has_failed ≡ false }
         ensures ready { ⟦<Self as ScriptOnStock>⟧.IsScriptReady self.new stock.new }
-        ensures quiet { OnOk result ((S.output sink.new).has_failed ≡ false) }
-        ensures ends { LineEnds raw
+        ensures same { IsSameWriter writer.old writer.new }
+        ensures quiet { OnOk result ((S.output writer.new.sink.now).has_failed ≡ false) }
+        ensures ends { LineEnds writer.old.raw
             (⟦<Self as ScriptOnStock>⟧.script self.old stock.old) said.entry
             (⟦<Self as ScriptOnStock>⟧.script self.new stock.new)
-            (S.output sink.old) (S.output sink.new) result }
+            (S.output writer.old.sink.now) (S.output writer.new.sink.now) result }
     {
         match said {
             None => Ok(()),
             Some(Err(refusal)) => {
                 self.is_begun = true;
-                show_reply(sink, &Err(refusal), raw)
+                writer.reply(&Err(refusal))
             }
-            Some(Ok(command)) => self.take(&command, stock, sink, raw),
+            Some(Ok(command)) => self.take(&command, stock, writer),
         }
     }
 
@@ -80,39 +78,40 @@ impl Script {
         &mut self,
         command: &Command<'_>,
         stock: &mut Stock,
-        sink: &mut S,
-        raw: bool,
+        writer: &mut AnswerWriter<'_, S>,
     ) -> Result<(), Refusal>
         requires ready { ⟦<Self as ScriptOnStock>⟧.IsScriptReady self.old stock.old }
-        requires unfailed { (S.output sink.old).has_failed ≡ false }
+        requires unfailed { (S.output writer.old.sink.now).has_failed ≡ false }
         ensures ready { ⟦<Self as ScriptOnStock>⟧.IsScriptReady self.new stock.new }
-        ensures quiet { OnOk result ((S.output sink.new).has_failed ≡ false) }
-        ensures ends { TakeEnds raw
+        ensures same { IsSameWriter writer.old writer.new }
+        ensures quiet { OnOk result ((S.output writer.new.sink.now).has_failed ≡ false) }
+        ensures ends { TakeEnds writer.old.raw
             (⟦<Self as ScriptOnStock>⟧.script self.old stock.old) command.now
             (⟦<Self as ScriptOnStock>⟧.script self.new stock.new)
-            (S.output sink.old) (S.output sink.new) result }
+            (S.output writer.old.sink.now) (S.output writer.new.sink.now) result }
     {
         let refusal = why_unread(self.is_begun, self.version, command);
         self.is_begun = true;
         if let Some(refusal) = refusal {
-            return show_reply(sink, &Err(refusal), raw);
+            return writer.reply(&Err(refusal));
         }
         if let Command::Version(version) = command {
             self.version = *version;
-            return show_done(sink, raw);
+            return writer.done();
         }
-        self.session.obey(command, stock, sink, raw)
+        self.session.obey(command, stock, writer)
     }
 
     /// Writes the line of the check of the script's desk, as `Session::check` says.
-    pub fn check<S: Sink>(&self, sink: &mut S) -> Result<(), Refusal>
-        requires kept { (desk : _) → self.now.session.desk ≡ Some desk → ⟦<Toolbox as Desk>⟧.IsKept desk }
-        requires unfailed { (S.output sink.old).has_failed ≡ false }
-        ensures { (stocks : AllSlots) → (text : List ℕ)
-            × IsCheckLine (⟦<Session as OnStock>⟧.session_over self.now.session stocks) text
-            × Sends (S.output sink.old) (S.output sink.new) result text }
+    pub fn check<S: Sink>(&self, writer: &mut AnswerWriter<'_, S>) -> Result<(), Refusal>
+        requires kept { (desk : _) → self.now.session.desk ≡ Some desk → ⟦<Toolbox as Desk>⟧.HasKeptManagers desk }
+        requires unfailed { (S.output writer.old.sink.now).has_failed ≡ false }
+        ensures same { IsSameWriter writer.old writer.new }
+        ensures line { (stocks : AllSlots)
+            → SendsSome (IsCheckLine (⟦<Session as OnStock>⟧.session_over self.now.session stocks))
+            (S.output writer.old.sink.now) (S.output writer.new.sink.now) result }
     {
-        self.session.check(sink)
+        self.session.check(writer)
     }
 
     /// Ends the script: the definition of every window, control, list and menu of its desk is disposed of, and put back
@@ -134,7 +133,7 @@ fn why_unread(is_begun: bool, version: i32, command: &Command<'_>) -> Option<Ref
 {
     match command {
         Command::Version(number) => why_no_version(is_begun, *number),
-        Command::Call(Call::Window(call)) => why_no_call(version, call),
+        Command::Call(call) => why_no_call(version, call.nature().is_version_2),
         _ => None,
     }
 }
@@ -153,12 +152,13 @@ fn why_no_version(is_begun: bool, number: i32) -> Option<Refusal>
     }
 }
 
-/// Why a call on windows is refused in a script of this version: floating windows are of version 2.
-fn why_no_call(version: i32, call: &WindowCall<'_>) -> Option<Refusal>
-    ensures { result ≡ why_unread false version (Command.Call (asks.Window call.now)) }
+/// Why a call that may be of version 2 is refused in a script of this version.
+fn why_no_call(version: i32, is_version_2: bool) -> Option<Refusal>
+    ensures { result ≡ why_no_call version is_version_2 }
 {
-    match call {
-        WindowCall::NewFloating(_) if version != 2 => Some(Refusal::BadSyntax),
-        _ => None,
+    if is_version_2 && version != 2 {
+        Some(Refusal::BadSyntax)
+    } else {
+        None
     }
 }

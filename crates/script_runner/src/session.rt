@@ -1,17 +1,15 @@
 //! The desk of a script: none, until the first command makes it, with the font that waits for it.
-ghost use Rattle.std.specs.Prelude.{◌≡◌, ℕ, true, List, None, Some, OnOk, false};
+ghost use Rattle.std.specs.Prelude.{◌≡◌, true, None, Some, OnOk, false};
 ghost use Rattle.def_iface.specs.Stocks.{AllSlots, AreAllFull};
-ghost use Rattle.watched_io.specs.Writes.{Sends};
 ghost use Rattle.script_runner.specs.Checks.{IsCheckLine};
 ghost use Rattle.script_runner.specs.Session.{LeavesStock, first_size, is_known};
 ghost use Rattle.script_runner.specs.Endings.{IsAnswered, IsFirstAnswered, CommandEnds};
+ghost use Rattle.script_runner.specs.Writers.{IsSameWriter, SendsSome};
 
-use crate::check_line::write_check;
-use crate::known::is_known;
+use crate::answer_writer::AnswerWriter;
 use crate::on_stock::OnStock;
-use crate::shown::{show_done, show_image, show_reply};
 use def_iface::{Stock, StockedAll};
-use desk_toolbox::{Desk, NotBegun, Toolbox};
+use desk_toolbox::{Desk, NotBegun, Toolbox, form_refusal_of};
 use scratch_paint::differences;
 use script_text::{Command, DeskSize};
 use std::alloc::Global;
@@ -48,29 +46,28 @@ impl Session {
         }
     }
 
-    /// Answers a command that is asked of the desk, in bytes to the sink: a reply line, or an image. Where the run is raw,
-    /// nothing is written in place of a reply line. The first command makes the desk: where there is no memory for that,
-    /// the answer is NoMemory and nothing is written. Else WriteFault is the only error.
+    /// Answers a command that is asked of the desk, by a reply line or an image. The first command makes the desk: where
+    /// there is no memory for that, NoMemory is returned and nothing is written. Else WriteFault is the only error.
     pub fn obey<S: Sink>(
         &mut self,
         command: &Command<'_>,
         stock: &mut Stock,
-        sink: &mut S,
-        raw: bool,
+        writer: &mut AnswerWriter<'_, S>,
     ) -> Result<(), Refusal>
         requires ready { ⟦<Self as OnStock>⟧.IsReady self.old stock.old }
-        requires unfailed { (S.output sink.old).has_failed ≡ false }
+        requires unfailed { (S.output writer.old.sink.now).has_failed ≡ false }
         ensures ready { ⟦<Self as OnStock>⟧.IsReady self.new stock.new }
-        ensures quiet { OnOk result ((S.output sink.new).has_failed ≡ false) }
-        ensures ends { CommandEnds raw
+        ensures same { IsSameWriter writer.old writer.new }
+        ensures quiet { OnOk result ((S.output writer.new.sink.now).has_failed ≡ false) }
+        ensures ends { CommandEnds writer.old.raw
             (⟦<Self as OnStock>⟧.session self.old stock.old) command.now
             (⟦<Self as OnStock>⟧.session self.new stock.new)
-            (S.output sink.old) (S.output sink.new) result }
+            (S.output writer.old.sink.now) (S.output writer.new.sink.now) result }
     {
         match &mut self.desk {
-            Some(desk) => answer_on(desk, command, stock, sink, raw),
-            None if is_known(command, stock) => self.open(command, stock, sink, raw),
-            None => show_reply(sink, &Err(Refusal::NoSuchName), raw),
+            Some(desk) => answer_on(desk, command, stock, writer),
+            None if is_known(command, stock) => self.open(command, stock, writer),
+            None => writer.reply(&Err(Refusal::NoSuchName)),
         }
     }
 
@@ -80,19 +77,19 @@ impl Session {
         &mut self,
         command: &Command<'_>,
         stock: &mut Stock,
-        sink: &mut S,
-        raw: bool,
+        writer: &mut AnswerWriter<'_, S>,
     ) -> Result<(), Refusal>
         requires unmade { self.old.desk ≡ None }
         requires ready { ⟦<Self as OnStock>⟧.IsReady self.old stock.old }
         requires known { is_known command.now (⟦<Stock as StockedAll>⟧.all_slots stock.old) ≡ true }
-        requires unfailed { (S.output sink.old).has_failed ≡ false }
+        requires unfailed { (S.output writer.old.sink.now).has_failed ≡ false }
         ensures ready { ⟦<Self as OnStock>⟧.IsReady self.new stock.new }
-        ensures quiet { OnOk result ((S.output sink.new).has_failed ≡ false) }
-        ensures ends { CommandEnds raw
+        ensures same { IsSameWriter writer.old writer.new }
+        ensures quiet { OnOk result ((S.output writer.new.sink.now).has_failed ≡ false) }
+        ensures ends { CommandEnds writer.old.raw
             (⟦<Self as OnStock>⟧.session self.old stock.old) command.now
             (⟦<Self as OnStock>⟧.session self.new stock.new)
-            (S.output sink.old) (S.output sink.new) result }
+            (S.output writer.old.sink.now) (S.output writer.new.sink.now) result }
     {
         let size = first_size(command);
         let Some(font) = self.font.take() else {
@@ -101,7 +98,7 @@ impl Session {
         match Toolbox::new(self.alloc, size.width, size.height, size.bar, font) {
             Ok(desk) => {
                 let mut desk = desk;
-                let outcome = first_answer(&mut desk, command, stock, sink, raw);
+                let outcome = first_answer(&mut desk, command, stock, writer);
                 self.desk = Some(desk);
                 outcome
             }
@@ -109,7 +106,7 @@ impl Session {
                 self.font = Some(font);
                 match refusal {
                     Refusal::NoMemory => Err(Refusal::NoMemory),
-                    refusal => show_reply(sink, &Err(refusal), raw),
+                    refusal => writer.reply(&Err(refusal)),
                 }
             }
         }
@@ -117,18 +114,19 @@ impl Session {
 
     /// Writes the line of the check: how many pixels of the screen in no update region differ from the desk
     /// painted from nothing, or NoMemory where there is none for painting. Without a desk none differs.
-    pub fn check<S: Sink>(&self, sink: &mut S) -> Result<(), Refusal>
-        requires kept { (desk : _) → self.now.desk ≡ Some desk → ⟦<Toolbox as Desk>⟧.IsKept desk }
-        requires unfailed { (S.output sink.old).has_failed ≡ false }
-        ensures { (stocks : AllSlots) → (text : List ℕ)
-            × IsCheckLine (⟦<Self as OnStock>⟧.session_over self.now stocks) text
-            × Sends (S.output sink.old) (S.output sink.new) result text }
+    pub fn check<S: Sink>(&self, writer: &mut AnswerWriter<'_, S>) -> Result<(), Refusal>
+        requires kept { (desk : _) → self.now.desk ≡ Some desk → ⟦<Toolbox as Desk>⟧.HasKeptManagers desk }
+        requires unfailed { (S.output writer.old.sink.now).has_failed ≡ false }
+        ensures same { IsSameWriter writer.old writer.new }
+        ensures line { (stocks : AllSlots)
+            → SendsSome (IsCheckLine (⟦<Self as OnStock>⟧.session_over self.now stocks))
+            (S.output writer.old.sink.now) (S.output writer.new.sink.now) result }
     {
         let count = match &self.desk {
             Some(desk) => differences(self.alloc, desk),
             None => Ok(0),
         };
-        write_check(sink, count.ok())
+        writer.check(count.ok())
     }
 
     /// Ends the session: the definition of every window, control, list and menu is disposed of, and put back
@@ -147,15 +145,24 @@ impl Session {
     }
 }
 
+/// Whether the stock has a slot of the kind that a command names, if it names one. Of the faults of a call's form, a kind that
+/// the stock has not is NoSuchName, and no other is.
+fn is_known(command: &Command<'_>, stock: &Stock) -> bool
+    ensures { result ≡ is_known command.now (⟦<Stock as StockedAll>⟧.all_slots stock.now) }
+{
+    match command {
+        Command::Call(call) => form_refusal_of(call, stock) != Some(Refusal::NoSuchName),
+        _ => true,
+    }
+}
+
 /// The size of the desk that a command makes, where it is the first.
 fn first_size(command: &Command<'_>) -> DeskSize
     ensures { result ≡ first_size command.now }
 {
     match command {
         Command::Desk(size) => *size,
-        Command::Version(_) => USUAL_DESK,
-        Command::Image => USUAL_DESK,
-        Command::Call(_) => USUAL_DESK,
+        _ => USUAL_DESK,
     }
 }
 
@@ -164,23 +171,23 @@ fn first_answer<S: Sink>(
     desk: &mut Toolbox,
     command: &Command<'_>,
     stock: &mut Stock,
-    sink: &mut S,
-    raw: bool,
+    writer: &mut AnswerWriter<'_, S>,
 ) -> Result<(), Refusal>
     requires whole { ⟦<Toolbox as Desk>⟧.IsWhole desk.old stock.old }
-    requires unfailed { (S.output sink.old).has_failed ≡ false }
+    requires unfailed { (S.output writer.old.sink.now).has_failed ≡ false }
     ensures whole { ⟦<Toolbox as Desk>⟧.IsWhole desk.new stock.new }
-    ensures quiet { OnOk result ((S.output sink.new).has_failed ≡ false) }
-    ensures answered { IsFirstAnswered raw
+    ensures same { IsSameWriter writer.old writer.new }
+    ensures quiet { OnOk result ((S.output writer.new.sink.now).has_failed ≡ false) }
+    ensures answered { IsFirstAnswered writer.old.raw
         (⟦<Toolbox as Desk>⟧.state desk.old stock.old) command.now
         (⟦<Toolbox as Desk>⟧.state desk.new stock.new)
-        (S.output sink.old) (S.output sink.new) result }
+        (S.output writer.old.sink.now) (S.output writer.new.sink.now) result }
 {
     match command {
-        Command::Desk(_) => show_done(sink, raw),
-        Command::Version(_) => answer_on(desk, command, stock, sink, raw),
-        Command::Image => answer_on(desk, command, stock, sink, raw),
-        Command::Call(_) => answer_on(desk, command, stock, sink, raw),
+        Command::Desk(_) => writer.done(),
+        Command::Version(_) => answer_on(desk, command, stock, writer),
+        Command::Image => answer_on(desk, command, stock, writer),
+        Command::Call(_) => answer_on(desk, command, stock, writer),
     }
 }
 
@@ -189,25 +196,25 @@ fn answer_on<S: Sink>(
     desk: &mut Toolbox,
     command: &Command<'_>,
     stock: &mut Stock,
-    sink: &mut S,
-    raw: bool,
+    writer: &mut AnswerWriter<'_, S>,
 ) -> Result<(), Refusal>
     requires whole { ⟦<Toolbox as Desk>⟧.IsWhole desk.old stock.old }
-    requires unfailed { (S.output sink.old).has_failed ≡ false }
+    requires unfailed { (S.output writer.old.sink.now).has_failed ≡ false }
     ensures whole { ⟦<Toolbox as Desk>⟧.IsWhole desk.new stock.new }
-    ensures quiet { OnOk result ((S.output sink.new).has_failed ≡ false) }
-    ensures answered { IsAnswered raw
+    ensures same { IsSameWriter writer.old writer.new }
+    ensures quiet { OnOk result ((S.output writer.new.sink.now).has_failed ≡ false) }
+    ensures answered { IsAnswered writer.old.raw
         (⟦<Toolbox as Desk>⟧.state desk.old stock.old) command.now
         (⟦<Toolbox as Desk>⟧.state desk.new stock.new)
-        (S.output sink.old) (S.output sink.new) result }
+        (S.output writer.old.sink.now) (S.output writer.new.sink.now) result }
 {
     match command {
-        Command::Version(_) => show_done(sink, raw),
-        Command::Desk(_) => show_reply(sink, &Err(Refusal::Busy), raw),
-        Command::Image => show_image(sink, desk.screen(), raw),
+        Command::Version(_) => writer.done(),
+        Command::Desk(_) => writer.reply(&Err(Refusal::Busy)),
+        Command::Image => writer.image(desk.screen()),
         Command::Call(call) => {
             let answer = desk.call(call, stock);
-            show_reply(sink, &answer, raw)
+            writer.reply(&answer)
         }
     }
 }

@@ -7,7 +7,7 @@ use Rattle.control_values.specs.declared.part.ControlPart.TheVariants.{Button, C
 use Rattle.def_iface.specs.declared.size.Size.{Size}
 use Rattle.def_iface.specs.Sizes.{rect_of}
 use Rattle.looks.specs.declared.step.Step.{Step}
-use Rattle.looks.specs.Marks.{black_fill, white_fill, black_frame, black_cross, light_gray_fill, greyed, inverted, centred_text, text_at, when}
+use Rattle.looks.specs.Marks.{black_fill, white_fill, black_frame, black_cross, light_gray_fill, grayed, inverted, centred_text, text_at, when}
 use Rattle.std_cdef.specs.declared.check.Variation.{Variation}
 use Rattle.std_cdef.specs.declared.check.Variation.TheVariants as check
 use Rattle.std_cdef.specs.Axes.{middle_of, is_long, first_box, last_box, track, by_box}
@@ -16,24 +16,24 @@ use Rattle.std_cdef.specs.Thumbs.{thumb, has_thumb}
 abbrev pub is_inactive : ℕ → Bool
 is_inactive highlight = nat_eq highlight 255
 
--- a button: its frame, its title in the middle; all of it inverted, or grey
+-- a button: its frame, its title in the middle; all of it inverted, or gray
 unfoldable pub button_look : Size → ℕ → List Step
 button_look s highlight =
     black_frame (rect_of s)
     ∷ centred_text (rect_of s) (nat_abs s.width) (middle_of s)
     ∷ when (nat_eq highlight (number_of Button)) (inverted (rect_of s))
-    ∷ when (is_inactive highlight) (greyed (rect_of s))
+    ∷ when (is_inactive highlight) (grayed (rect_of s))
     ∷ []
 
--- what both check boxes and radio buttons show: the title beside the box, a second frame in the box, and grey
+-- what both check boxes and radio buttons show: the title beside the box, a second frame in the box, and gray
 abbrev pub check_text : Size → Step
 check_text s = text_at (rect_of s) (pos 18) (middle_of s)
 
 abbrev pub lit_box : Size → ℕ → Step
 lit_box s highlight = when (nat_eq highlight (number_of CheckBox)) (black_frame (by_box s 3 1 13 11))
 
-abbrev pub grey_all : Size → ℕ → Step
-grey_all s highlight = when (is_inactive highlight) (greyed (rect_of s))
+abbrev pub gray_all : Size → ℕ → Step
+gray_all s highlight = when (is_inactive highlight) (grayed (rect_of s))
 
 -- the control is on
 abbrev pub is_on : Setting → Bool
@@ -46,7 +46,7 @@ check_look s v highlight =
     ∷ when (is_on v) (black_cross (by_box s 3 1 13 11))
     ∷ check_text s
     ∷ lit_box s highlight
-    ∷ grey_all s highlight
+    ∷ gray_all s highlight
     ∷ []
 
 -- a radio button: the four sides of its box without the corners, with a black square in it where it is on
@@ -59,7 +59,7 @@ radio_look s v highlight =
     ∷ when (is_on v) (black_fill (by_box s 5 3 11 9))
     ∷ check_text s
     ∷ lit_box s highlight
-    ∷ grey_all s highlight
+    ∷ gray_all s highlight
     ∷ []
 
 -- either of the two

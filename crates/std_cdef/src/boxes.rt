@@ -8,7 +8,7 @@ ghost use Rattle.def_iface.specs.ControlMeaning.{is_control_size};
 ghost use Rattle.looks.specs.Letters.{Lettering};
 ghost use Rattle.looks.specs.Marks.{look_bit};
 ghost use Rattle.std_cdef.specs.Axes.{box_top, by_box};
-ghost use Rattle.std_cdef.specs.Looks.{check_text, lit_box, grey_all, is_on, check_look, radio_look, box_look};
+ghost use Rattle.std_cdef.specs.Looks.{check_text, lit_box, gray_all, is_on, check_look, radio_look, box_look};
 ghost use Rattle.std_cdef.specs.Controls.{box_seen};
 
 use crate::check::Variation;
@@ -58,11 +58,11 @@ fn lit_box(size: Size, highlight: Highlight) -> Step
     Step::black_frame(by_box(size, 3, 1, 13, 11)).when(highlight.shows(ControlPart::CheckBox))
 }
 
-/// All of it in grey, where it is inactive.
-fn grey_all(size: Size, highlight: Highlight) -> Step
-    ensures { result ≡ grey_all size highlight }
+/// All of it in gray, where it is inactive.
+fn gray_all(size: Size, highlight: Highlight) -> Step
+    ensures { result ≡ gray_all size highlight }
 {
-    Step::greyed(size.rect()).when(highlight.is_inactive())
+    Step::grayed(size.rect()).when(highlight.is_inactive())
 }
 
 /// Whether the control is on.
@@ -83,7 +83,7 @@ fn check_look(size: Size, values: ControlValues, highlight: Highlight) -> [Step;
         Step::black_cross(by_box(size, 3, 1, 13, 11)).when(is_on(values)),
         check_text(size),
         lit_box(size, highlight),
-        grey_all(size, highlight),
+        gray_all(size, highlight),
     ]
 }
 
@@ -101,7 +101,7 @@ fn radio_look(size: Size, values: ControlValues, highlight: Highlight) -> [Step;
         Step::black_fill(by_box(size, 5, 3, 11, 9)).when(is_on(values)),
         check_text(size),
         lit_box(size, highlight),
-        grey_all(size, highlight),
+        gray_all(size, highlight),
     ]
 }
 

@@ -50,7 +50,7 @@ fn button_look(size: Size, highlight: Highlight) -> [Step; 4]
         Step::black_frame(whole),
         Step::centred_text(whole, columns(size), middle(size)),
         Step::inverted(whole).when(highlight.shows(ControlPart::Button)),
-        Step::greyed(whole).when(highlight.is_inactive()),
+        Step::grayed(whole).when(highlight.is_inactive()),
     ]
 }
 

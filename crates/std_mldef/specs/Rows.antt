@@ -10,7 +10,7 @@ use Rattle.looks.specs.declared.pen.Baseline.TheVariants.{At as AtRow}
 use Rattle.looks.specs.declared.step.Step.{Step}
 use Rattle.looks.specs.Letters.{lettering}
 use Rattle.looks.specs.Lettered.{lettered_value}
-use Rattle.looks.specs.Marks.{black_fill, black_frame, box, greyed, inverted, look_bit, text_at, when}
+use Rattle.looks.specs.Marks.{black_fill, black_frame, box, grayed, inverted, look_bit, text_at, when}
 use Rattle.menu_record.specs.declared.item.MenuItem.{MenuItem}
 use Rattle.menu_record.specs.declared.menu.Menu.{Menu}
 use Rattle.menu_record.specs.Menus.{is_line, is_bright, can_choose}
@@ -52,7 +52,7 @@ key_text (Some c) = 0x5E ∷ c ∷ []
 abbrev pub lettered : List ℕ → Step → Lettered
 lettered text step = record { text = text; step = step }
 
--- a row of these texts, or a line across it; grey where the item does not show as enabled, inverted where it is
+-- a row of these texts, or a line across it; gray where the item does not show as enabled, inverted where it is
 -- highlighted
 abbrev pub row_steps : Row → Bool → List ℕ → List ℕ → List ℕ → Bool → Bool → List Lettered
 row_steps r line mark text key bright lit =
@@ -60,7 +60,7 @@ row_steps r line mark text key bright lit =
     ∷ lettered text (when (not line) (text_in r (pos 15)))
     ∷ lettered key (when (not line) (text_in r (r.width -ℤ pos 21)))
     ∷ lettered [] (when line (black_fill (line_box r)))
-    ∷ lettered [] (when (not bright) (greyed (inner_box r)))
+    ∷ lettered [] (when (not bright) (grayed (inner_box r)))
     ∷ lettered [] (when lit (inverted (inner_box r))) ∷ []
 
 -- the row of an item: its mark, its text and its key

@@ -139,7 +139,7 @@ fn row_steps(row: Row, line: bool, texts: Texts<'_>, bright: bool, lit: bool) ->
         lettered(texts.text, text_in(row, 15).when(!line)),
         lettered(texts.key, key_in(row).when(!line)),
         lettered(b"", Step::black_fill(line_box(row)).when(line)),
-        lettered(b"", Step::greyed(inner_box(row)).when(!bright)),
+        lettered(b"", Step::grayed(inner_box(row)).when(!bright)),
         lettered(b"", Step::inverted(inner_box(row)).when(lit)),
     ]
 }

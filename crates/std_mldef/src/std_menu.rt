@@ -14,7 +14,7 @@ use tb_geom::{Point, Rect};
 
 /// The standard definition of menus (*Inside Macintosh* I, "The Menu Manager"). A point chooses the item in whose row it lies,
 /// inside the menu's frame, where that item can be chosen; dividing lines, disabled items and the items of a disabled menu
-/// cannot. What cannot be used is grey, and the highlighted item is inverted, both inside the frame.
+/// cannot. What cannot be used is gray, and the highlighted item is inverted, both inside the frame.
 #[derive(Drop)]
 pub struct StdMenu {
     stage: Stage,

@@ -2,19 +2,16 @@
 ghost use Rattle.std.specs.Prelude.{◌≡◌, ◌<◌, ◌≤◌, length, List, IfOk};
 ghost use Rattle.def_iface.specs.WindowSlots.{WindowSlot};
 ghost use Rattle.window_list.specs.Holders.{ArePartsApart, IsLayerAt};
-ghost use Rattle.window_mgr.specs.Kept.{IsKept};
-ghost use Rattle.window_mgr.specs.Whole.{IsWholeManager};
 ghost use Rattle.window_mgr.specs.Edits.{IsWindowAt};
 ghost use Rattle.striped_layers.specs.Relaying.{IsRelaying};
 
 use crate::stripes::Stripes;
-use def_iface::{Defined, TakenWindow};
 use desk_layers::Part;
 use scan_region::Region;
 use std::alloc::Global;
 use tb_geom::{Point, Rect, Refusal};
 use window_list::{Layer, LayerShape, Layers, Relaid};
-use window_mgr::WindowManager;
+use window_mgr::{DeskWindows, WindowManager};
 
 /// New layers of a window, and the index of the one that is to be drawn afresh, if one is.
 #[derive(Drop)]
@@ -131,11 +128,11 @@ fn without(alloc: Global, layers: &Layers, part: Part) -> Result<Relaying, Refus
 
 /// Gives the window at this index these layers.
 fn relay(windows: &mut WindowManager, at: usize, relaying: Relaying) -> Result<(), Refusal>
-    requires kept { IsKept ⟦<TakenWindow as Defined>⟧.loan windows.old }
+    requires kept { ⟦<WindowManager as DeskWindows>⟧.IsKept windows.old }
     requires at { at < length windows.old.windows.records.items }
     requires is { (w : _) → IsWindowAt windows.old.windows.records.items at w → IsRelaying w.layers relaying }
-    ensures { (slots : List WindowSlot) → IsWholeManager ⟦<TakenWindow as Defined>⟧.loan windows.old slots
-        → IsWholeManager ⟦<TakenWindow as Defined>⟧.loan windows.new slots }
+    ensures { (slots : List WindowSlot) → ⟦<WindowManager as DeskWindows>⟧.IsWholeOver windows.old slots
+        → ⟦<WindowManager as DeskWindows>⟧.IsWholeOver windows.new slots }
 {
     let Relaying { relaid, afresh } = relaying;
     if !relaid.layers.fit_at(windows.list().at(at).place) {
@@ -155,9 +152,9 @@ pub fn put(
     shown: bool,
     rect: Rect,
 ) -> Result<(), Refusal>
-    requires { IsKept ⟦<TakenWindow as Defined>⟧.loan windows.old }
-    ensures { (slots : List WindowSlot) → IsWholeManager ⟦<TakenWindow as Defined>⟧.loan windows.old slots
-        → IsWholeManager ⟦<TakenWindow as Defined>⟧.loan windows.new slots }
+    requires { ⟦<WindowManager as DeskWindows>⟧.IsKept windows.old }
+    ensures { (slots : List WindowSlot) → ⟦<WindowManager as DeskWindows>⟧.IsWholeOver windows.old slots
+        → ⟦<WindowManager as DeskWindows>⟧.IsWholeOver windows.new slots }
 {
     let Some(at) = windows.find(window) else {
         return Err(Refusal::NoSuchWindow);
@@ -175,9 +172,9 @@ pub fn take_out(
     window: u64,
     part: Part,
 ) -> Result<(), Refusal>
-    requires { IsKept ⟦<TakenWindow as Defined>⟧.loan windows.old }
-    ensures { (slots : List WindowSlot) → IsWholeManager ⟦<TakenWindow as Defined>⟧.loan windows.old slots
-        → IsWholeManager ⟦<TakenWindow as Defined>⟧.loan windows.new slots }
+    requires { ⟦<WindowManager as DeskWindows>⟧.IsKept windows.old }
+    ensures { (slots : List WindowSlot) → ⟦<WindowManager as DeskWindows>⟧.IsWholeOver windows.old slots
+        → ⟦<WindowManager as DeskWindows>⟧.IsWholeOver windows.new slots }
 {
     let Some(at) = windows.find(window) else {
         return Err(Refusal::NoSuchWindow);

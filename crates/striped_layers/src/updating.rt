@@ -2,22 +2,18 @@
 ghost use Rattle.std.specs.Prelude.{List, IfOk};
 ghost use Rattle.def_iface.specs.WindowSlots.{WindowSlot};
 ghost use Rattle.desk_call.specs.declared.activity.Activity.TheVariants.{Idle};
-ghost use Rattle.window_mgr.specs.Kept.{IsKept};
-ghost use Rattle.window_mgr.specs.Whole.{IsWholeManager};
-ghost use Rattle.window_update.specs.WholeUpdates.{IsWholeUpdates};
 
 use crate::stripes::Stripes;
-use def_iface::{Defined, TakenWindow};
 use desk_call::Activity;
 use std::alloc::Global;
 use tb_geom::Refusal;
-use window_mgr::WindowManager;
-use window_update::{UpdateCall, Updates};
+use window_mgr::{DeskWindows, WindowManager};
+use window_update::{DeskUpdates, UpdateCall, Updates};
 
 /// What is kept for updates of these windows, with none open.
 pub fn updates_for(alloc: Global, windows: &WindowManager) -> Result<Updates, Refusal>
-    requires { IsKept ⟦<TakenWindow as Defined>⟧.loan windows.now }
-    ensures { IfOk result (IsWholeUpdates ⟦<TakenWindow as Defined>⟧.loan Idle windows.now) }
+    requires { ⟦<WindowManager as DeskWindows>⟧.IsKept windows.now }
+    ensures { IfOk result (⟦<Updates as DeskUpdates>⟧.IsWhole Idle windows.now) }
 {
     let sides = windows.screen().bounds();
     Ok(Updates::new(alloc, sides.right, sides.bottom)?)
@@ -30,13 +26,13 @@ pub fn update(
     activity: &mut Activity,
     call: &UpdateCall<'_>,
 ) -> Result<(), Refusal>
-    requires kept { IsKept ⟦<TakenWindow as Defined>⟧.loan windows.old }
-    requires whole { IsWholeUpdates ⟦<TakenWindow as Defined>⟧.loan activity.old windows.old updates.old }
-    ensures updates { IsWholeUpdates ⟦<TakenWindow as Defined>⟧.loan activity.new windows.new updates.new }
-    ensures windows { (slots : List WindowSlot) → IsWholeManager ⟦<TakenWindow as Defined>⟧.loan windows.old slots
-        → IsWholeManager ⟦<TakenWindow as Defined>⟧.loan windows.new slots }
+    requires kept { ⟦<WindowManager as DeskWindows>⟧.IsKept windows.old }
+    requires whole { ⟦<Updates as DeskUpdates>⟧.IsWhole activity.old windows.old updates.old }
+    ensures updates { ⟦<Updates as DeskUpdates>⟧.IsWhole activity.new windows.new updates.new }
+    ensures windows { (slots : List WindowSlot) → ⟦<WindowManager as DeskWindows>⟧.IsWholeOver windows.old slots
+        → ⟦<WindowManager as DeskWindows>⟧.IsWholeOver windows.new slots }
 {
-    activity.admit(call.standing())?;
+    activity.admit(call.nature().standing)?;
     let _done = updates.perform(windows, activity, call, &Stripes)?;
     Ok(())
 }
@@ -47,9 +43,9 @@ pub fn update_at_once(
     windows: &mut WindowManager,
     call: &UpdateCall<'_>,
 ) -> Result<(), Refusal>
-    requires { IsKept ⟦<TakenWindow as Defined>⟧.loan windows.old }
-    ensures { (slots : List WindowSlot) → IsWholeManager ⟦<TakenWindow as Defined>⟧.loan windows.old slots
-        → IsWholeManager ⟦<TakenWindow as Defined>⟧.loan windows.new slots }
+    requires { ⟦<WindowManager as DeskWindows>⟧.IsKept windows.old }
+    ensures { (slots : List WindowSlot) → ⟦<WindowManager as DeskWindows>⟧.IsWholeOver windows.old slots
+        → ⟦<WindowManager as DeskWindows>⟧.IsWholeOver windows.new slots }
 {
     let mut updates = updates_for(alloc, windows)?;
     let mut activity = Activity::Idle;

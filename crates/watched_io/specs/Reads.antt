@@ -8,6 +8,10 @@ use Rattle.tb_geom.specs.declared.refusal.Refusal.TheVariants.{NoMemory, ReadFau
 abbrev pub most_reads : ℕ
 most_reads = 1000000
 
+-- each read is offered so many bytes
+abbrev pub read_room : ℕ
+read_room = 4096
+
 -- a reader's side of a run: the bytes that reads will give from here on, where they are known, whether one of its reads
 -- failed, whether one came to the end of the input, and how many there were
 pub record Input : Type 0 where

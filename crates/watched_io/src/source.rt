@@ -1,7 +1,7 @@
 //! Where a run reads its script from.
 ghost use Rattle.std.specs.Prelude.{◌≡◌, ◌<◌, length, false};
 ghost use Rattle.std.specs.Io.{ReadsAtMost};
-ghost use Rattle.watched_io.specs.Reads.{Input, IsOpen, Reads, most_reads};
+ghost use Rattle.watched_io.specs.Reads.{Input, IsOpen, Reads, most_reads, read_room};
 
 use std::io::Read;
 use tb_geom::Refusal;
@@ -17,12 +17,12 @@ pub trait Source {
     ghost input: { Self → Input };
 
     /// Reads some bytes into the front of the buffer, and gives their count: 0 at the end of the
-    /// input alone. A read that fails is a ReadFault. No read may follow the end or a fault, and there
-    /// may be 1,000,000 reads.
+    /// input alone. A read that fails is a ReadFault. No read may follow the end or a fault, there may be
+    /// 1,000,000 reads, and each is offered 4,096 bytes.
     fn read_some(&mut self, buffer: &mut [u8]) -> Result<usize, Refusal>
         requires going { IsOpen (input self.old) }
         requires allowed { (input self.old).reads < most_reads }
-        requires room { 0 < length buffer.old }
+        requires room { length buffer.old ≡ read_room }
         ensures bound { ReadsAtMost result buffer.new }
         ensures bytes { Reads (input self.old) (input self.new) result buffer.new };
 }

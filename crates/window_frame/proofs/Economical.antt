@@ -12,7 +12,7 @@ use Rattle.desk_call.specs.declared.window.WindowReply.{WindowReply}
 use Rattle.desk_call.specs.Gates.{window_standing}
 use Rattle.vis_update.specs.Records.{WindowRecord}
 use Rattle.window_mgr.specs.declared.manager.WindowManager.{WindowManager}
-use Rattle.window_mgr.specs.Arrange.{Arrangement, activation_of, at_place, brought, changed, without}
+use Rattle.window_mgr.specs.Arrange.{Arrangement, activation_of, at_place, brought, changed, way_to, without}
 use Rattle.window_mgr.specs.declared.arrange.Activates.TheVariants.{FrontInItsPlace}
 use Rattle.window_mgr.specs.Effects.{IsArrangement, IsEffect, IsWindowDisposed, places}
 use Rattle.window_mgr.specs.Placings.{sized}
@@ -148,7 +148,7 @@ module _ {V : Type 0} {H : V → Type 0} (loan : TakenBox V H → WindowLoan) wh
   all_economical (SendBehind b) old middle new others spares kept told repaints informed =
       economical b.window None (window_standing (SendBehind b)) old middle new (record { spares = spares; kept = kept; told = told; repaints = repaints; informed = informed; others = others })
   all_economical (Move m) old middle new others spares kept told repaints informed =
-      economical m.window (Some m.place) (window_standing (Move m)) old middle new (record { spares = spares; kept = kept; told = told; repaints = repaints; informed = informed; others = others })
+      economical m.window (way_to m.place (record_with m.window (windows_of loan old))) (window_standing (Move m)) old middle new (record { spares = spares; kept = kept; told = told; repaints = repaints; informed = informed; others = others })
   all_economical (Size z) old middle new others spares kept told repaints informed =
       economical z.window None (window_standing (Size z)) old middle new (record { spares = spares; kept = kept; told = told; repaints = repaints; informed = informed; others = others })
   all_economical _ old middle new others spares kept told repaints informed = tt
@@ -161,7 +161,7 @@ module _ {V : Type 0} {H : V → Type 0} (loan : TakenBox V H → WindowLoan) wh
   refused_economical (ShowHide c) old new spares = weaker c.window None old new spares
   refused_economical (Select s) old new spares = weaker s None old new spares
   refused_economical (SendBehind b) old new spares = weaker b.window None old new spares
-  refused_economical (Move m) old new spares = weaker m.window (Some m.place) old new spares
+  refused_economical (Move m) old new spares = weaker m.window (way_to m.place (record_with m.window (windows_of loan old))) old new spares
   refused_economical (Size z) old new spares = weaker z.window None old new spares
   refused_economical _ old new spares = tt
 
@@ -173,7 +173,7 @@ module _ {V : Type 0} {H : V → Type 0} (loan : TakenBox V H → WindowLoan) wh
   call_spares_same (ShowHide c) t = spares_same loan c.window None t
   call_spares_same (Select s) t = spares_same loan s None t
   call_spares_same (SendBehind b) t = spares_same loan b.window None t
-  call_spares_same (Move m) t = spares_same loan m.window (Some m.place) t
+  call_spares_same (Move m) t = spares_same loan m.window (way_to m.place (record_with m.window (windows_of loan t))) t
   call_spares_same (Size z) t = spares_same loan z.window None t
   call_spares_same _ t = tt
 

@@ -33,11 +33,11 @@ use Rattle.window_mgr.specs.Whole.{IsWholeManager}
 use Rattle.window_mgr.proofs.EditSeats.{same_at, there_is}
 use Rattle.window_mgr.proofs.FrameRight.{told_alike, told_likewise}
 use Rattle.window_mgr.proofs.TellLemmas as telling
-use Rattle.window_mgr.specs.DeskStates.{Opened, IsDeskUnchanged, desk_state}
+use Rattle.window_mgr.specs.DeskStates.{Opened, IsDeskUnchanged, desk_state, LeavesDesk}
 use Rattle.window_mgr.proofs.ScreenSides.{SameSides}
 use Rattle.window_frame.specs.Followers.{Flag, Knows, IsInformed, told_flag, with_heard}
 use Rattle.window_frame.specs.FrameRefusals.{frame_refusals, tracking_refusals}
-use Rattle.window_frame.specs.FrameSteps.{IsFrameStepOverAnySlots, IsTrackedAt, IsTrackingNotified, in_go_away, with_flag, with_title, with_tracked}
+use Rattle.window_frame.specs.FrameSteps.{IsTrackedAt, IsTrackingNotified, in_go_away, with_flag, with_title, with_tracked, IsFrameStep}
 use Rattle.window_frame.proofs.FrameKeeps.{frame_told_keeps, tracking_keeps}
 
 -- a window manager that was whole over some slots, and is so over the same
@@ -53,7 +53,7 @@ module _ {V : Type 0} {H : V → Type 0} (loan : TakenBox V H → WindowLoan) (t
   unchanged u slots = record { windows = record { desk = refl; stale = λ p on. refl; image = λ p on. refl }; activity = refl; begun = refl }
 
   pub refused : (u : Opened) (call : FrameCall) (e : Refusal) → ((slots : List WindowSlot) → first_refusal (frame_refusals call (desk_of loan t slots)) ≡ Some e)
-      → IsFrameStepOverAnySlots loan call (Err e) t u t u
+      → LeavesDesk loan (IsFrameStep call (Err e)) t u t u
   refused u call e why slots whole = (whole, (inl (why slots), unchanged u slots))
 
   -- a window that is not there is missing
@@ -121,13 +121,13 @@ module _ {V : Type 0} {H : V → Type 0} (loan : TakenBox V H → WindowLoan) (t
     is_long : (b : Bool) → nat_lt longest_text (length title) ≡ b → nat_lt longest_text (length n.title) ≡ b
     is_long b e = subst (λ (l : List ℕ). nat_lt longest_text (length l) ≡ b) same e
 
-    pub too_long : (u : Opened) → nat_lt longest_text (length title) ≡ true → IsFrameStepOverAnySlots loan (asks.SetTitle n) (Err TooLong) t u t u
+    pub too_long : (u : Opened) → nat_lt longest_text (length title) ≡ true → LeavesDesk loan (IsFrameStep (asks.SetTitle n) (Err TooLong)) t u t u
     too_long u e = refused u (asks.SetTitle n) TooLong
         (λ slots. λ i. first_refusal ((is_there kept n.window at stands slots i, NoSuchWindow) ∷ (is_long true e i, TooLong) ∷ []))
 
     pub titled : (u : Opened) (new : WindowManager V H) → nat_lt longest_text (length title) ≡ false
         → ((w : Window V H) → IsWindowAt t.windows.records.items at w → LeavesState loan (IsFrameNotified w.serial (λ _. told_title title) (with_title title)) t new)
-        → IsFrameStepOverAnySlots loan (asks.SetTitle n) (Ok Done) t u new u
+        → LeavesDesk loan (IsFrameStep (asks.SetTitle n) (Ok Done)) t u new u
     titled u new e leaves slots whole =
         let left = by_number kept n.window at stands new (λ _. told_title title) (with_title title) leaves slots whole in (
           left.0,
@@ -142,7 +142,7 @@ module _ {V : Type 0} {H : V → Type 0} (loan : TakenBox V H → WindowLoan) (t
 
   pub highlighted : (kept : IsKept loan t) (h : HiliteWindow) (at : ℕ) → StandsAt t.windows.records.items h.window at → (u : Opened) (new : WindowManager V H)
       → ((w : Window V H) → IsWindowAt t.windows.records.items at w → LeavesState loan (IsFrameNotified w.serial (λ _. told_highlighted h.highlighted) (with_flag h.highlighted)) t new)
-      → IsFrameStepOverAnySlots loan (asks.Hilite h) (Ok Done) t u new u
+      → LeavesDesk loan (IsFrameStep (asks.Hilite h) (Ok Done)) t u new u
   highlighted kept h at stands u new leaves slots whole =
       let left = by_number kept h.window at stands new (λ _. told_highlighted h.highlighted) (with_flag h.highlighted) leaves slots whole in
       (left.0, (λ i. first_refusal ((is_there kept h.window at stands slots i, NoSuchWindow) ∷ []), (record { activity = refl; begun = refl }, left.1)))
@@ -154,15 +154,15 @@ module _ {V : Type 0} {H : V → Type 0} (loan : TakenBox V H → WindowLoan) (t
     refused_or_not slots true e = λ i. first_refusal ((is_there kept g.window at stands slots i, NoSuchWindow) ∷ (not (e i), OutOfRange) ∷ [])
     refused_or_not slots false e = λ i. first_refusal ((is_there kept g.window at stands slots i, NoSuchWindow) ∷ (not (e i), OutOfRange) ∷ [])
 
-    pub no_point : (u : Opened) (e : Refusal) → in_plane g.point ≡ false → e ≡ OutOfRange → IsFrameStepOverAnySlots loan (asks.TrackGoAway g) (Err e) t u t u
-    no_point u e outside is = subst (λ f. IsFrameStepOverAnySlots loan (asks.TrackGoAway g) (Err f) t u t u) (sym is) (refused u (asks.TrackGoAway g) OutOfRange (λ slots. refused_or_not slots false outside))
+    pub no_point : (u : Opened) (e : Refusal) → in_plane g.point ≡ false → e ≡ OutOfRange → LeavesDesk loan (IsFrameStep (asks.TrackGoAway g) (Err e)) t u t u
+    no_point u e outside is = subst (λ f. LeavesDesk loan (IsFrameStep (asks.TrackGoAway g) (Err f)) t u t u) (sym is) (refused u (asks.TrackGoAway g) OutOfRange (λ slots. refused_or_not slots false outside))
 
     pub begun : (u after : Opened) (new : WindowManager V H) → in_plane g.point ≡ true → true ≡ in_go_away g.window (desk_of loan t []) g.point → after.activity ≡ Tracking g.window
-        → LeavesState loan (IsTrackingNotified true g.window) t new → IsFrameStepOverAnySlots loan (asks.TrackGoAway g) (Ok (Tracked true)) t u new after
+        → LeavesState loan (IsTrackingNotified true g.window) t new → LeavesDesk loan (IsFrameStep (asks.TrackGoAway g) (Ok (Tracked true))) t u new after
     begun u after new inside is opened leaves slots whole =
         let left = leaves slots whole in (left.0, (refused_or_not slots true inside, (is, (opened, left.1))))
 
-    pub not_begun : (u : Opened) → in_plane g.point ≡ true → false ≡ in_go_away g.window (desk_of loan t []) g.point → IsFrameStepOverAnySlots loan (asks.TrackGoAway g) (Ok (Tracked false)) t u t u
+    pub not_begun : (u : Opened) → in_plane g.point ≡ true → false ≡ in_go_away g.window (desk_of loan t []) g.point → LeavesDesk loan (IsFrameStep (asks.TrackGoAway g) (Ok (Tracked false))) t u t u
     not_begun u inside is slots whole = (whole, (refused_or_not slots true inside, (is, unchanged u slots)))
 
   module _ (u : Opened) (w : ℕ) (p : Point) (inside shows : Bool) (new : WindowManager V H) (open_is : Tracking w ≡ u.activity) (planar : in_plane p ≡ true) (is : inside ≡ in_go_away w (desk_of loan t []) p) (leaves : LeavesState loan (IsTrackingNotified shows w) t new) where
@@ -173,12 +173,12 @@ module _ {V : Type 0} {H : V → Type 0} (loan : TakenBox V H → WindowLoan) (t
     tracked_at after slots whole = record { window = w; tracked = sym open_is; answer = is; told = (leaves slots whole).1 }
 
   pub stepped : (u : Opened) (w : ℕ) (p : Point) (inside : Bool) (new : WindowManager V H) → Tracking w ≡ u.activity → in_plane p ≡ true → inside ≡ in_go_away w (desk_of loan t []) p
-      → LeavesState loan (IsTrackingNotified inside w) t new → IsFrameStepOverAnySlots loan (asks.StepGoAway p) (Ok (Tracked inside)) t u new u
+      → LeavesState loan (IsTrackingNotified inside w) t new → LeavesDesk loan (IsFrameStep (asks.StepGoAway p) (Ok (Tracked inside))) t u new u
   stepped u w p inside new open_is planar is leaves slots whole =
       ((leaves slots whole).0, (free u w p inside inside new open_is planar is leaves, (record { activity = refl; begun = refl }, tracked_at u w p inside inside new open_is planar is leaves u slots whole)))
 
   pub ended : (u : Opened) (w : ℕ) (p : Point) (inside : Bool) (new : WindowManager V H) → Tracking w ≡ u.activity → in_plane p ≡ true → inside ≡ in_go_away w (desk_of loan t []) p
-      → LeavesState loan (IsTrackingNotified false w) t new → (after : Opened) → after.activity ≡ Idle → IsFrameStepOverAnySlots loan (asks.EndGoAway p) (Ok (Tracked inside)) t u new after
+      → LeavesState loan (IsTrackingNotified false w) t new → (after : Opened) → after.activity ≡ Idle → LeavesDesk loan (IsFrameStep (asks.EndGoAway p) (Ok (Tracked inside))) t u new after
   ended u w p inside new open_is planar is leaves after idle slots whole =
       ((leaves slots whole).0, (free u w p inside false new open_is planar is leaves, (idle, tracked_at u w p inside false new open_is planar is leaves after slots whole)))
 
@@ -206,5 +206,5 @@ module _ {V : Type 0} {H : V → Type 0} (loan : TakenBox V H → WindowLoan) (t
 
 -- the step of a call is that of the call that it is
 pub of_call : {V : Type 0} {H : V → Type 0} (loan : TakenBox V H → WindowLoan) (t new : WindowManager V H) (u after : Opened) (call other : FrameCall) (result : Result FrameReply Refusal) → call ≡ other
-    → IsFrameStepOverAnySlots loan other result t u new after → IsFrameStepOverAnySlots loan call result t u new after
-of_call loan t new u after call other result is step = subst (λ k. IsFrameStepOverAnySlots loan k result t u new after) (sym is) step
+    → LeavesDesk loan (IsFrameStep other result) t u new after → LeavesDesk loan (IsFrameStep call result) t u new after
+of_call loan t new u after call other result is step = subst (λ k. LeavesDesk loan (IsFrameStep k result) t u new after) (sym is) step

@@ -5,7 +5,6 @@ pub mod FrameKeeps
 pub mod FrameLaws
 pub mod FrameSteps
 pub mod Informing
-pub mod Outcomes
 pub mod FramesShowing
 pub mod Repainting
 pub mod Relighting

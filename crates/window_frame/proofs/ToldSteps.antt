@@ -1,6 +1,8 @@
 -- What holds of each definition that is told holds of all that are told after a call on windows, and of a call about a frame.
 use Rattle.std.proofs.Common.{◌≡◌, ◌⊎◌, inl, inr, ℕ, Bool, true, false, List, [], ◌∷◌, Result, Ok, Err, refl, sym, subst}
 use Rattle.tb_geom.specs.declared.refusal.Refusal.{Refusal}
+use Rattle.def_iface.specs.Slots.{TakenBox}
+use Rattle.def_iface.specs.WindowMeaning.{WindowLoan}
 use Rattle.def_iface.specs.WindowNews.{told_title, told_highlighted, told_tracked}
 use Rattle.desk_call.specs.declared.activity.Standing.{Standing}
 use Rattle.desk_call.specs.declared.activity.Standing.TheVariants.{Asks, Updates, Tracks, Pulls, TracksControl, Drags, Grows, Changes}
@@ -8,10 +10,12 @@ use Rattle.desk_call.specs.declared.frame.FrameCall.{FrameCall}
 use Rattle.desk_call.specs.declared.frame.FrameCall.TheVariants.{SetTitle, Hilite, TrackGoAway, StepGoAway, EndGoAway}
 use Rattle.desk_call.specs.declared.frame.FrameReply.{FrameReply}
 use Rattle.desk_call.specs.declared.frame.FrameReply.TheVariants.{Done, Tracked}
+use Rattle.window_mgr.specs.declared.manager.WindowManager.{WindowManager}
 use Rattle.window_mgr.specs.DeskStates.{DeskState}
 use Rattle.window_mgr.specs.Effects.{IsUnchanged}
 use Rattle.window_mgr.specs.FrameNotices.{IsFrameNotified}
 use Rattle.window_mgr.specs.FullDesk.{FullState}
+use Rattle.window_mgr.specs.Updating.{LeavesState}
 use Rattle.window_frame.specs.Followers.{AreNotified, Flag, IsCaughtUp, IsCaughtUpBy, Telling, told_flag, with_heard}
 use Rattle.window_frame.specs.FrameSteps.{IsBegunAt, IsFrameEffect, IsFrameStep, IsTrackingNotified, with_flag, with_title, with_tracked}
 
@@ -25,6 +29,12 @@ caught_up_cases TracksControl before after told = inr told
 caught_up_cases Drags before after told = inr told
 caught_up_cases Grows before after told = inr told
 caught_up_cases Changes before after told = inr told
+
+-- after a call that does not just ask, definitions that know how their windows stand are told as after the call
+pub caught_up_after : {V : Type 0} {H : V → Type 0} (loan : TakenBox V H → WindowLoan) (t new : WindowManager V H) (standing : Standing) → (standing ≡ Asks → ⊥)
+    → LeavesState loan IsCaughtUp t new → LeavesState loan (IsCaughtUpBy standing) t new
+caught_up_after loan t new Asks changes leaves = absurd (changes refl)
+caught_up_after loan t new _ changes leaves = leaves
 
 -- `R` relates the states before and after
 module _ (R : FullState → FullState → Type 0) where

@@ -8,6 +8,7 @@ use Rattle.desk_call.specs.declared.window.WindowCall.{WindowCall}
 use Rattle.desk_call.specs.declared.window.WindowCall.TheVariants.{Dispose, Show, Hide, ShowHide, Select, SendBehind, Move, Size}
 use Rattle.vis_update.specs.Records.{WindowRecord, record_of}
 use Rattle.window_mgr.specs.declared.manager.WindowManager.{WindowManager}
+use Rattle.window_mgr.specs.Arrange.{way_to}
 use Rattle.window_mgr.specs.Finding.{record_with}
 use Rattle.window_mgr.specs.FullDesk.{layered_desk}
 use Rattle.window_mgr.specs.Records.{desk_of}
@@ -69,6 +70,6 @@ module _ {V : Type 0} {H : V → Type 0} (loan : TakenBox V H → WindowLoan) wh
   IsEconomical (ShowHide c) old new = Economical c.window None old new
   IsEconomical (Select s) old new = Economical s None old new
   IsEconomical (SendBehind b) old new = Economical b.window None old new
-  IsEconomical (Move m) old new = Economical m.window (Some m.place) old new
+  IsEconomical (Move m) old new = Economical m.window (way_to m.place (record_with m.window (windows_of old))) old new
   IsEconomical (Size z) old new = Economical z.window None old new
   IsEconomical _ old new = Unit {0}

@@ -3,8 +3,6 @@ use Rattle.std.specs.Prelude.{◌≡◌, ◌⊎◌, ℕ, Bool, true, false, ◌&
 use Rattle.tb_geom.specs.declared.point.Point.{Point}
 use Rattle.tb_geom.specs.declared.refusal.Refusal.{Refusal}
 use Rattle.def_iface.specs.WindowNews.{told_title, told_highlighted, told_tracked}
-use Rattle.def_iface.specs.Slots.{TakenBox}
-use Rattle.def_iface.specs.WindowMeaning.{WindowLoan}
 use Rattle.desk_call.specs.declared.activity.Activity.TheVariants.{Idle, Tracking}
 use Rattle.desk_call.specs.declared.frame.FrameCall.{FrameCall}
 use Rattle.desk_call.specs.declared.frame.FrameCall.TheVariants.{SetTitle, Hilite, TrackGoAway, StepGoAway, EndGoAway}
@@ -15,13 +13,12 @@ use Rattle.desk_call.specs.declared.window.WindowPart.{WindowPart}
 use Rattle.desk_call.specs.declared.window.WindowPart.TheVariants.{InGoAway}
 use Rattle.vis_update.specs.Records.{WindowRecord}
 use Rattle.vis_update.specs.Touches.{is_this}
-use Rattle.window_mgr.specs.declared.manager.WindowManager.{WindowManager}
 use Rattle.window_mgr.specs.Finding.{found_at}
 use Rattle.window_mgr.specs.FrameNotices.{IsFrameNotified}
 use Rattle.window_mgr.specs.FullDesk.{FullDesk, FullState}
 use Rattle.tb_geom.specs.Refusals.{first_refusal}
 use Rattle.window_mgr.specs.Refused.{is_missing}
-use Rattle.window_mgr.specs.DeskStates.{Opened, DeskState, IsDeskUnchanged, SameActivity, LeavesDesk}
+use Rattle.window_mgr.specs.DeskStates.{DeskState, IsDeskUnchanged, SameActivity}
 use Rattle.window_frame.specs.FrameRefusals.{frame_refusals}
 
 abbrev pub with_title : List ℕ → WindowRecord → WindowRecord
@@ -73,9 +70,3 @@ IsFrameEffect _ _ before after = ⊥
 abbrev pub IsFrameStep : FrameCall → Result FrameReply Refusal → DeskState → DeskState → Type 0
 IsFrameStep call = IsStepOf (λ before why. first_refusal (frame_refusals call before.windows.desk) ≡ why) false
     (IsFrameEffect call) IsDeskUnchanged
-
--- `loan` says what a definition that was taken means
-module _ {V : Type 0} {H : V → Type 0} (loan : TakenBox V H → WindowLoan) where
-  -- over any slots over which the window manager is whole, it is whole after the call, which is one step
-  abbrev pub IsFrameStepOverAnySlots : FrameCall → Result FrameReply Refusal → WindowManager V H → Opened → WindowManager V H → Opened → Type 0
-  IsFrameStepOverAnySlots call result = LeavesDesk loan (IsFrameStep call result)

@@ -1,39 +1,35 @@
 //! Definitions that are told how their windows stand.
 ghost use Rattle.std.specs.Prelude.{◌≡◌, ◌<◌, length, map};
 ghost use Rattle.window_mgr.specs.Edits.{IsWindowAt};
-ghost use Rattle.window_mgr.specs.Kept.{IsKept};
-ghost use Rattle.window_mgr.specs.Updating.{LeavesState};
 ghost use Rattle.window_frame.specs.Followers.{IsCaughtUp, IsCaughtUpBy, IsInformed, draws_told, is_behind};
-ghost use Rattle.window_frame.specs.Outcomes.{standing_after};
 ghost use Rattle.window_mgr.specs.Sparing.{Repaints};
 ghost use Rattle.vis_update.specs.Records.{record_of};
 ghost use Rattle.window_frame.specs.Followers.Flag.{Highlighting, Zooming};
 
-use crate::outcome::Outcome;
 use def_iface::{Defined, TakenWindow, WindowChange};
-use window_mgr::WindowManager;
+use desk_call::Standing;
+use window_mgr::{DeskWindows, WindowManager};
 
-/// Notifies definitions of how their windows stand, once this came of a call on windows: each that heard otherwise, and no other,
+/// Notifies definitions of how their windows stand, once a call of this standing was done: each that heard otherwise, and no other,
 /// is told whether its window is highlighted, and whether it is zoomed, and has the frame drawn where that shows. After a call
 /// that asks none is told anything. Takes no memory.
-pub fn follow(windows: &mut WindowManager, outcome: Outcome)
-    requires { IsKept ⟦<TakenWindow as Defined>⟧.loan windows.old }
-    ensures told { LeavesState ⟦<TakenWindow as Defined>⟧.loan (IsCaughtUpBy (standing_after outcome)) windows.old
-        windows.new }
+pub fn follow(windows: &mut WindowManager, standing: Standing)
+    requires { ⟦<WindowManager as DeskWindows>⟧.IsKept windows.old }
+    ensures told { ⟦<WindowManager as DeskWindows>⟧.LeavesState (IsCaughtUpBy standing) windows.old windows.new }
     ensures repainted { Repaints ⟦<TakenWindow as Defined>⟧.loan
         (is_behind (map (record_of ⟦<TakenWindow as Defined>⟧.loan) windows.old.windows.records.items)) windows.old
         windows.new }
 {
-    match outcome {
-        Outcome::Asked => {}
+    match standing {
+        Standing::Asks => {}
         _ => inform_all(windows),
     }
 }
 
 /// Notifies the definition of each window, from front to back.
 fn inform_all(windows: &mut WindowManager)
-    requires { IsKept ⟦<TakenWindow as Defined>⟧.loan windows.old }
-    ensures told { LeavesState ⟦<TakenWindow as Defined>⟧.loan IsCaughtUp windows.old windows.new }
+    requires { ⟦<WindowManager as DeskWindows>⟧.IsKept windows.old }
+    ensures told { ⟦<WindowManager as DeskWindows>⟧.LeavesState IsCaughtUp windows.old windows.new }
     ensures repainted { Repaints ⟦<TakenWindow as Defined>⟧.loan
         (is_behind (map (record_of ⟦<TakenWindow as Defined>⟧.loan) windows.old.windows.records.items)) windows.old
         windows.new }
@@ -47,10 +43,10 @@ fn inform_all(windows: &mut WindowManager)
 
 /// Notifies the definition of the window at this index of whether the window is highlighted, where it heard otherwise.
 fn notify_highlighting(windows: &mut WindowManager, at: usize)
-    requires kept { IsKept ⟦<TakenWindow as Defined>⟧.loan windows.old }
+    requires kept { ⟦<WindowManager as DeskWindows>⟧.IsKept windows.old }
     requires at { at < length windows.old.windows.records.items }
     ensures told { (w : _) → IsWindowAt windows.old.windows.records.items at w
-        → LeavesState ⟦<TakenWindow as Defined>⟧.loan (IsInformed Highlighting w.serial) windows.old windows.new }
+        → ⟦<WindowManager as DeskWindows>⟧.LeavesState (IsInformed Highlighting w.serial) windows.old windows.new }
     ensures repainted { (w : _) → IsWindowAt windows.old.windows.records.items at w
         → Repaints ⟦<TakenWindow as Defined>⟧.loan (draws_told Highlighting
         (record_of ⟦<TakenWindow as Defined>⟧.loan w)) windows.old windows.new }
@@ -64,10 +60,10 @@ fn notify_highlighting(windows: &mut WindowManager, at: usize)
 
 /// Notifies it of whether the window is zoomed, where it heard otherwise.
 fn notify_zooming(windows: &mut WindowManager, at: usize)
-    requires kept { IsKept ⟦<TakenWindow as Defined>⟧.loan windows.old }
+    requires kept { ⟦<WindowManager as DeskWindows>⟧.IsKept windows.old }
     requires at { at < length windows.old.windows.records.items }
     ensures told { (w : _) → IsWindowAt windows.old.windows.records.items at w
-        → LeavesState ⟦<TakenWindow as Defined>⟧.loan (IsInformed Zooming w.serial) windows.old windows.new }
+        → ⟦<WindowManager as DeskWindows>⟧.LeavesState (IsInformed Zooming w.serial) windows.old windows.new }
     ensures repainted { (w : _) → IsWindowAt windows.old.windows.records.items at w
         → Repaints ⟦<TakenWindow as Defined>⟧.loan (draws_told Zooming (record_of ⟦<TakenWindow as Defined>⟧.loan w))
         windows.old windows.new }

@@ -4,17 +4,16 @@ ghost use Rattle.tb_geom.specs.Points.{PixelSet};
 ghost use Rattle.desk_call.specs.declared.frame.FrameCall.TheVariants as asks;
 ghost use Rattle.desk_call.specs.Gates.{gate, frame_standing};
 ghost use Rattle.window_mgr.specs.DeskStates.{Opened};
-ghost use Rattle.window_mgr.specs.Kept.{IsKept};
 ghost use Rattle.window_mgr.specs.Refused.{longest_text};
-ghost use Rattle.window_frame.specs.FrameSteps.{IsFrameStepOverAnySlots};
+ghost use Rattle.window_frame.specs.FrameSteps.{IsFrameStep};
 
 use crate::goaway::{end_go_away, step_go_away, track_go_away};
 use crate::{FrameCall, FrameReply, HiliteWindow, NewTitle};
-use def_iface::{Defined, TakenWindow, WindowChange};
+use def_iface::WindowChange;
 use desk_call::Activity;
 use draw_port::LONGEST_TEXT;
 use tb_geom::Refusal;
-use window_mgr::WindowManager;
+use window_mgr::{DeskWindows, WindowManager};
 
 /// Performs one call on these windows, which may come while this is open, and gives its answer. A refused call changes nothing:
 /// NoSuchWindow, OutOfRange and TooLong come in this order. Takes no memory.
@@ -23,11 +22,11 @@ pub fn perform(
     activity: &mut Activity,
     call: &FrameCall<'_>,
 ) -> Result<FrameReply, Refusal>
-    requires kept { IsKept ⟦<TakenWindow as Defined>⟧.loan windows.old }
+    requires kept { ⟦<WindowManager as DeskWindows>⟧.IsKept windows.old }
     requires admitted { gate activity.old (frame_standing call.now) ≡ None }
     ensures width { windows.new.screen.width ≡ windows.old.screen.width }
     ensures height { windows.new.screen.height ≡ windows.old.screen.height }
-    ensures step { (begun : PixelSet) → IsFrameStepOverAnySlots ⟦<TakenWindow as Defined>⟧.loan call.now result
+    ensures step { (begun : PixelSet) → ⟦<WindowManager as DeskWindows>⟧.LeavesDesk (IsFrameStep call.now result)
         windows.old (record { activity = activity.old; begun = begun }) windows.new
         (record { activity = activity.new; begun = begun }) }
 {
@@ -47,10 +46,11 @@ pub fn perform(
 
 /// Gives a window another title.
 fn set_title(windows: &mut WindowManager, new: &NewTitle<'_>) -> Result<FrameReply, Refusal>
-    requires { IsKept ⟦<TakenWindow as Defined>⟧.loan windows.old }
+    requires { ⟦<WindowManager as DeskWindows>⟧.IsKept windows.old }
     ensures width { windows.new.screen.width ≡ windows.old.screen.width }
     ensures height { windows.new.screen.height ≡ windows.old.screen.height }
-    ensures step { (o : Opened) → IsFrameStepOverAnySlots ⟦<TakenWindow as Defined>⟧.loan (asks.SetTitle new.now) result
+    ensures step { (o : Opened) → ⟦<WindowManager as DeskWindows>⟧.LeavesDesk
+        (IsFrameStep (asks.SetTitle new.now) result)
         windows.old o windows.new o }
 {
     let Some(at) = windows.find(new.window) else {
@@ -73,10 +73,10 @@ fn is_too_long(title: &[u8]) -> bool
 
 /// Highlights a window, or not.
 fn hilite(windows: &mut WindowManager, change: HiliteWindow) -> Result<FrameReply, Refusal>
-    requires { IsKept ⟦<TakenWindow as Defined>⟧.loan windows.old }
+    requires { ⟦<WindowManager as DeskWindows>⟧.IsKept windows.old }
     ensures width { windows.new.screen.width ≡ windows.old.screen.width }
     ensures height { windows.new.screen.height ≡ windows.old.screen.height }
-    ensures step { (o : Opened) → IsFrameStepOverAnySlots ⟦<TakenWindow as Defined>⟧.loan (asks.Hilite change) result
+    ensures step { (o : Opened) → ⟦<WindowManager as DeskWindows>⟧.LeavesDesk (IsFrameStep (asks.Hilite change) result)
         windows.old o windows.new o }
 {
     let Some(at) = windows.find(change.window) else {

@@ -4,16 +4,13 @@ ghost use Rattle.tb_geom.specs.Points.{PixelSet};
 ghost use Rattle.tb_geom.specs.Rects.{in_plane};
 ghost use Rattle.desk_call.specs.declared.activity.Activity.TheVariants.{Tracking};
 ghost use Rattle.desk_call.specs.declared.frame.FrameCall.TheVariants as asks;
-ghost use Rattle.window_mgr.specs.Kept.{IsKept};
-ghost use Rattle.window_mgr.specs.Records.{desk_of};
-ghost use Rattle.window_mgr.specs.Updating.{LeavesState};
-ghost use Rattle.window_frame.specs.FrameSteps.{IsFrameStepOverAnySlots, IsTrackingNotified, in_go_away, is_go_away};
+ghost use Rattle.window_frame.specs.FrameSteps.{IsFrameStep, IsTrackingNotified, in_go_away, is_go_away};
 
 use crate::{FrameReply, GoAwayPoint};
-use def_iface::{Defined, TakenWindow, WindowChange};
+use def_iface::WindowChange;
 use desk_call::{Activity, WindowPart};
 use tb_geom::{Point, Refusal};
-use window_mgr::WindowManager;
+use window_mgr::{DeskWindows, WindowManager};
 
 /// Begins to track the go-away box of a window, where the mouse button was pressed in it.
 pub(crate) fn track_go_away(
@@ -21,11 +18,11 @@ pub(crate) fn track_go_away(
     activity: &mut Activity,
     pressed: GoAwayPoint,
 ) -> Result<FrameReply, Refusal>
-    requires kept { IsKept ⟦<TakenWindow as Defined>⟧.loan windows.old }
+    requires kept { ⟦<WindowManager as DeskWindows>⟧.IsKept windows.old }
     ensures width { windows.new.screen.width ≡ windows.old.screen.width }
     ensures height { windows.new.screen.height ≡ windows.old.screen.height }
-    ensures step { (begun : PixelSet) → IsFrameStepOverAnySlots ⟦<TakenWindow as Defined>⟧.loan
-        (asks.TrackGoAway pressed) result
+    ensures step { (begun : PixelSet) → ⟦<WindowManager as DeskWindows>⟧.LeavesDesk
+        (IsFrameStep (asks.TrackGoAway pressed) result)
         windows.old (record { activity = activity.old; begun = begun }) windows.new
         (record { activity = activity.new; begun = begun }) }
 {
@@ -49,11 +46,11 @@ pub(crate) fn step_go_away(
     window: u64,
     point: Point,
 ) -> Result<FrameReply, Refusal>
-    requires kept { IsKept ⟦<TakenWindow as Defined>⟧.loan windows.old }
+    requires kept { ⟦<WindowManager as DeskWindows>⟧.IsKept windows.old }
     ensures width { windows.new.screen.width ≡ windows.old.screen.width }
     ensures height { windows.new.screen.height ≡ windows.old.screen.height }
-    ensures step { (begun : PixelSet) → IsFrameStepOverAnySlots ⟦<TakenWindow as Defined>⟧.loan (asks.StepGoAway point)
-        result
+    ensures step { (begun : PixelSet) → ⟦<WindowManager as DeskWindows>⟧.LeavesDesk
+        (IsFrameStep (asks.StepGoAway point) result)
         windows.old (record { activity = Tracking window; begun = begun }) windows.new
         (record { activity = Tracking window; begun = begun }) }
 {
@@ -69,12 +66,12 @@ pub(crate) fn end_go_away(
     window: u64,
     point: Point,
 ) -> Result<FrameReply, Refusal>
-    requires kept { IsKept ⟦<TakenWindow as Defined>⟧.loan windows.old }
+    requires kept { ⟦<WindowManager as DeskWindows>⟧.IsKept windows.old }
     requires tracked { activity.old ≡ Tracking window }
     ensures width { windows.new.screen.width ≡ windows.old.screen.width }
     ensures height { windows.new.screen.height ≡ windows.old.screen.height }
-    ensures step { (begun : PixelSet) → IsFrameStepOverAnySlots ⟦<TakenWindow as Defined>⟧.loan (asks.EndGoAway point)
-        result
+    ensures step { (begun : PixelSet) → ⟦<WindowManager as DeskWindows>⟧.LeavesDesk
+        (IsFrameStep (asks.EndGoAway point) result)
         windows.old (record { activity = activity.old; begun = begun }) windows.new
         (record { activity = activity.new; begun = begun }) }
 {
@@ -86,10 +83,10 @@ pub(crate) fn end_go_away(
 
 /// Whether FindWindow answers the go-away box of this window at the point. OutOfRange where the point is out of range.
 fn is_inside(windows: &WindowManager, window: u64, point: Point) -> Result<bool, Refusal>
-    requires { IsKept ⟦<TakenWindow as Defined>⟧.loan windows.now }
+    requires { ⟦<WindowManager as DeskWindows>⟧.IsKept windows.now }
     ensures { MatchResult result
         (λ inside. (in_plane point ≡ true) × (inside ≡ in_go_away window
-        (desk_of ⟦<TakenWindow as Defined>⟧.loan windows.now []) point))
+        (⟦<WindowManager as DeskWindows>⟧.desk windows.now []) point))
         (λ e. (in_plane point ≡ false) × (e ≡ Refusal.OutOfRange)) }
 {
     let found = windows.find_window(point)?;
@@ -108,8 +105,8 @@ fn is_go_away(part: WindowPart) -> bool
 
 /// Notifies the definition of a window, if there is one, of whether its go-away box is tracked with the mouse in it.
 fn notify_tracked(windows: &mut WindowManager, window: u64, inside: bool)
-    requires { IsKept ⟦<TakenWindow as Defined>⟧.loan windows.old }
-    ensures { LeavesState ⟦<TakenWindow as Defined>⟧.loan (IsTrackingNotified inside window) windows.old windows.new }
+    requires { ⟦<WindowManager as DeskWindows>⟧.IsKept windows.old }
+    ensures { ⟦<WindowManager as DeskWindows>⟧.LeavesState (IsTrackingNotified inside window) windows.old windows.new }
 {
     if let Some(at) = windows.find(window) {
         windows.notify(at, WindowChange::Tracked(inside));

@@ -21,7 +21,7 @@ use Rattle.desk_call.specs.declared.window.SendBehind as sending
 use Rattle.def_iface.specs.WindowMeaning.{WindowDefinition}
 use Rattle.window_mgr.specs.FullDesk.{FullDesk, FullState, layered_desk, look_of}
 use Rattle.window_mgr.specs.Finding.{record_with}
-use Rattle.window_mgr.specs.Arrange.{Arrangement, put_next, put_behind, behind_this, in_front, without, brought, changed, at_place, with_shown, with_placement, way_to, moved, placed}
+use Rattle.window_mgr.specs.Arrange.{Arrangement, put_next, put_behind, behind_this, in_front, without, brought, changed, at_place, with_shown, with_placement, way_between, way_to, moved, placed}
 use Rattle.desk_call.specs.declared.window.Zoom as directions
 use Rattle.desk_call.specs.Parts.{zoom_of}
 use Rattle.window_mgr.specs.Placings.{Placing, sized, zoomed_by, gone, zoom_target}
@@ -31,6 +31,7 @@ use Rattle.window_mgr.specs.Refused.{IsRefusal}
 use Rattle.window_mgr.proofs.LayerParts.{shown_alike}
 use Rattle.window_mgr.proofs.PutIn.{put_in, put_is_insert, IsFree, IsPut, is_put, IsTakenOut, out_of, distinct_out}
 use Rattle.window_mgr.proofs.Rearranged.{IsEdit}
+use Rattle.window_mgr.proofs.Ways.{on_its_way, same_way}
 
 -- ---- the words of the order, of a window that stands among others
 
@@ -111,16 +112,6 @@ there_of : (b : Bool) (o : Option WindowRecord) (r : Option Refusal) → (if is_
 there_of b None r e = absurd (cc)
 there_of b (Some w) r e = (w, refl)
 
-same_way : (x y z : ℤ) → (x -ℤ (y -ℤ z)) -ℤ z ≡ x -ℤ y
-same_way (pos x) (pos y) (pos z) = grind (arith, ints)
-same_way (pos x) (pos y) (negsuc z) = grind (arith, ints)
-same_way (pos x) (negsuc y) (pos z) = grind (arith, ints)
-same_way (pos x) (negsuc y) (negsuc z) = grind (arith, ints)
-same_way (negsuc x) (pos y) (pos z) = grind (arith, ints)
-same_way (negsuc x) (pos y) (negsuc z) = grind (arith, ints)
-same_way (negsuc x) (negsuc y) (pos z) = grind (arith, ints)
-same_way (negsuc x) (negsuc y) (negsuc z) = grind (arith, ints)
-
 module _ (desk : FullDesk) (distinct : layers.IsDesk (layered_desk desk)) (s : ℕ) (w : WindowRecord) (found : record_with s desk.windows ≡ Some w) where
   out : IsTakenOut s desk.windows w
   out = out_of s desk.windows w found
@@ -188,17 +179,17 @@ module _ (desk : FullDesk) (distinct : layers.IsDesk (layered_desk desk)) (s : �
       there_is : there ≡ put_in out.place (at_place m.place w) out.rest
       there_is = ap (λ n. changed n (at_place m.place) desk.windows) named ∙ ap (changed s (at_place m.place)) out.is ∙ changed_is (look_of desk) s out.place w out.rest out.serial free (at_place m.place)
 
-      way : (moved m desk.windows).by ≡ Some (minus m.place w.place)
+      way : (moved m desk.windows).by ≡ way_between w.place m.place
       way = ap (λ n. way_to m.place (record_with n desk.windows)) named ∙ ap (way_to m.place) found
+
+      from : (by : Option Point) (part : Part) (p : Point) → moved_from m.window by (Content m.window part) p ≡ came_from by p
+      from None part p = refl
+      from (Some by) part p = ap (λ b. if b then minus p by else p) (same_number m.window)
 
       came : (part : Part) (p : Point) → content_bit (Some (layered_window (look_of desk) w)) part (moved_from m.window (moved m desk.windows).by (Content m.window part) p) ≡ content_bit (Some (layered_window (look_of desk) (at_place m.place w))) part p
       came part p =
-          ap (λ by. content_bit (Some (layered_window (look_of desk) w)) part (moved_from m.window by (Content m.window part) p)) way
-          ∙ ap (λ b. content_bit (Some (layered_window (look_of desk) w)) part (if b then minus p (minus m.place w.place) else p)) (same_number m.window)
-          ∙ (λ k. layers_at part (record { h = same_way p.h m.place.h w.place.h k; v = same_way p.v m.place.v w.place.v k }))
-        where
-          layers_at : Part → Point → Bool
-          layers_at q local = layer_bit (layers.layer_of q (layered_window (look_of desk) w).layers) local
+          ap (content_bit (Some (layered_window (look_of desk) w)) part) (from (moved m desk.windows).by part p ∙ ap (λ by. came_from by p) way)
+          ∙ ap (λ local. layer_bit (layers.layer_of part (layered_window (look_of desk) w).layers) local) (on_its_way w.place m.place p)
 
       windows_are : (b : Bool) → m.select ≡ b → (j : ℕ) × ((moved m desk.windows).windows ≡ put_in j (at_place m.place w) out.rest)
       windows_are true e = (front_place is_floating w.floating out.rest, ap (λ c. if c then brought m.window there else there) e ∙ (λ k. brought (named k) (there_is k)) ∙ brought_is (look_of desk) s out.place (at_place m.place w) out.rest out.serial free)

@@ -27,7 +27,6 @@ use Rattle.vis_update.specs.Areas.{stale_in, IsArea, AreAreas, is_content_of}
 use Rattle.window_mgr.specs.FullDesk.{FullDesk, layered_desk, layered_state}
 use Rattle.window_mgr.specs.Planned.{SameDesk, MayDraw, IsDrawnAt}
 use Rattle.window_mgr.specs.Records.{desk_of, state_of}
-use Rattle.window_mgr.specs.AnySlots.{IsStepOverAnySlots}
 use Rattle.window_mgr.specs.Effects.{IsDrawn, draw_change}
 use Rattle.window_mgr.specs.Whole.{IsWholeManager}
 use Rattle.window_mgr.proofs.DrawLemmas.{window_settled}
@@ -40,6 +39,8 @@ use Rattle.window_mgr.proofs.SameDeskLemmas.{stays_refused}
 use Rattle.window_mgr.proofs.Covered.{picture_is}
 use Rattle.window_paint.specs.Hidden.{is_hidden}
 use Rattle.std.proofs.lemmas.Option.{slice_get_within, get_or_from_slice_get}
+use Rattle.window_mgr.specs.Updating.{LeavesState}
+use Rattle.window_mgr.specs.Step.{IsWindowStep}
 
 -- ---- the desk before and after
 
@@ -131,11 +132,11 @@ module _ {V : Type 0} {H : V → Type 0} (loan : TakenBox V H → WindowLoan) (t
 -- ---- the call, where nothing but want of memory can refuse it
 
 module _ {V : Type 0} {H : V → Type 0} (loan : TakenBox V H → WindowLoan) (t u : WindowManager V H) (d : Drawing) (at : ℕ) (may : MayDraw d t at) where
-  pub draws : IsDrawnAt at d t u → IsStepOverAnySlots loan (Draw d) (Ok Done) t u
+  pub draws : IsDrawnAt at d t u → LeavesState loan (IsWindowStep (Draw d) (Ok Done)) t u
   draws drawn slots whole = (
     is_whole loan t u slots d at whole may drawn,
     (unrefused loan t (kept loan t slots whole) d at may, (refl, is_drawn loan t u slots d at whole may drawn)),
   )
 
-  pub no_memory : SameDesk t u → IsStepOverAnySlots loan (Draw d) (Err NoMemory) t u
+  pub no_memory : SameDesk t u → LeavesState loan (IsWindowStep (Draw d) (Err NoMemory)) t u
   no_memory same = stays_refused loan t u same (Draw d) NoMemory (λ slots whole. inr (unrefused loan t (kept loan t slots whole) d at may, (refl, refl)))

@@ -1,5 +1,5 @@
 -- The seats of windows of which one is put anew.
-use Rattle.std.proofs.Common.{◌≡◌, ℕ, zero, suc, ◌<◌, ◌≤◌, not, ◌&&◌, if◌then◌else◌, List, [], ◌∷◌, length, get_or, map, Option, None, Some, refl, sym, ap, ◌∙◌, subst, arith}
+use Rattle.std.proofs.Common.{◌≡◌, ℕ, zero, suc, ◌<◌, ◌≤◌, Bool, true, false, not, ◌&&◌, if◌then◌else◌, List, [], ◌∷◌, length, get_or, map, Option, None, Some, refl, sym, ap, ◌∙◌, subst, arith}
 use Rattle.std.specs.Prelude.{All, slice_get}
 use Rattle.std.specs.List.{insert, remove}
 use Rattle.std.proofs.lemmas.Bool.{and_parts}
@@ -22,6 +22,7 @@ use Rattle.vis_update.specs.Records.{WindowRecord, record_of, is_floating}
 use Rattle.vis_update.specs.Places.{is_placed}
 use Rattle.vis_update.specs.Areas.{IsArea}
 use Rattle.vis_update.specs.Seats.{stand_of, seat_stand, area_had, IsPlacedSeat, IsNearSeat, IsArranged, IsChangedArea}
+use Rattle.window_mgr.specs.Arrange.{same_place, way_between}
 use Rattle.window_mgr.specs.declared.arrange.Edit.{Edit}
 use Rattle.window_mgr.specs.declared.manager.WindowManager.{WindowManager}
 use Rattle.window_mgr.specs.FullDesk.{FullDesk, layered_desk, layered_state, look_of}
@@ -37,6 +38,7 @@ use Rattle.vis_update.proofs.PlaceLemmas.{placed_from}
 use Rattle.window_mgr.proofs.PutIn.{put_in, put_is_insert, taken_out, All-out, All-put, map-put, length-put}
 use Rattle.window_mgr.proofs.Seating.{as_many, lengths_of, seat_at, seats_areas, seats_class, seats_stand, seat_floats, seats_had, seats_placed, sides}
 use Rattle.vis_update.proofs.SeatLemmas.{seats_near, losing_seats}
+use Rattle.window_mgr.proofs.Ways.{same_places}
 
 module _ {X Y : Type 0} (f : X → Y) where
   pub map-insert : (i : ℕ) (x : X) (xs : List X) → map f (insert xs i x) ≡ put_in i (f x) (map f xs)
@@ -265,3 +267,11 @@ stays_as e f ws x same low x_is place_is = subst (λ (y : Edit). IsOnItsWay y.at
 -- one that is put elsewhere moves them as far
 pub goes_as_far : {V : Type 0} {H : V → Type 0} (e : Edit) (i : ℕ) (by : Point) (ws : List (Window V H)) (x : Window V H) → e.at ≡ i → i < length ws → IsWindowAt ws i x → by ≡ minus e.place x.place → IsOnItsWay e.at e.place (Some by) ws
 goes_as_far e i by ws x at low x_is far w w_is = far ∙ ap (λ (z : Window _ _). minus e.place z.place) (same_at ws i x w low x_is (subst (λ n. IsWindowAt ws n w) at w_is))
+
+-- the window goes there, or stays where it is
+pub goes_there : {V : Type 0} {H : V → Type 0} (e : Edit) (i : ℕ) (by : Option Point) (ws : List (Window V H)) (x : Window V H) → e.at ≡ i → i < length ws → IsWindowAt ws i x → by ≡ way_between x.place e.place → IsOnItsWay e.at e.place by ws
+goes_there e i by ws x at low x_is way = subst (λ b. IsOnItsWay e.at e.place b ws) (sym way) (by_test (same_place x.place e.place) refl)
+  where
+    by_test : (b : Bool) → same_place x.place e.place ≡ b → IsOnItsWay e.at e.place (if b then None else Some (minus e.place x.place)) ws
+    by_test true same = λ w w_is. sym (same_places x.place e.place same) ∙ ap (λ (z : Window _ _). z.place) (same_at ws i x w low x_is (subst (λ n. IsWindowAt ws n w) at w_is))
+    by_test false same = goes_as_far e i (minus e.place x.place) ws x at low x_is refl

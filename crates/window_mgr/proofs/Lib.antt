@@ -1,6 +1,7 @@
 -- Lemmas on steps.
 pub mod EachChanged
 pub mod DimLemmas
+pub mod Ways
 pub mod PaintLemmas
 pub mod SlotLemmas
 pub mod RefusalLemmas

@@ -25,7 +25,6 @@ use Rattle.vis_update.specs.Areas.{stale_in, IsArea, AreAreas, is_content_of}
 use Rattle.window_list.specs.Lists.{edit_at, with_picture}
 use Rattle.window_list.proofs.ListLemmas.{set_is_edit}
 use Rattle.window_mgr.specs.declared.manager.WindowManager.{WindowManager}
-use Rattle.window_mgr.specs.AnySlots.{IsStepOverAnySlots}
 use Rattle.window_mgr.specs.Edits.{StandsAt}
 use Rattle.window_mgr.specs.Effects.{IsPictureSet, picture_change}
 use Rattle.window_mgr.specs.FullDesk.{FullDesk, layered_desk, layered_state}
@@ -47,6 +46,8 @@ use Rattle.window_paint.specs.Hidden.{is_hidden}
 use Rattle.std.proofs.lemmas.Bool.{and_parts}
 use Rattle.window_list.specs.declared.window.Window.{Window}
 use Rattle.tb_geom.specs.Points.{PixelSet}
+use Rattle.window_mgr.specs.Updating.{LeavesState}
+use Rattle.window_mgr.specs.Step.{IsWindowStep}
 
 -- ---- what the code did
 
@@ -186,16 +187,16 @@ module _ {V : Type 0} {H : V → Type 0} (loan : TakenBox V H → WindowLoan) (t
       let found = there_is t.windows.records.items at stands.0 in
       steps.may_stand loan t t slots whole at n.window found.0 stands.0 found.1 (stands.1 found.0 found.1) (λ w. in_plane n.origin) b is
 
-  pub out_of_range : in_plane n.origin ≡ false → IsStepOverAnySlots loan (SetPicture n) (Err OutOfRange) t t
+  pub out_of_range : in_plane n.origin ≡ false → LeavesState loan (IsWindowStep (SetPicture n) (Err OutOfRange)) t t
   out_of_range e = stays_refused loan t t (record { screen = refl; bar = refl; font = refl; gray = refl; desktop = refl; windows = refl; areas = refl; active = refl; next = refl }) (SetPicture n) OutOfRange (λ slots whole. inl (refusal_is slots whole false (sym e)))
 
   -- where nothing but want of memory can refuse it
   module _ (u : WindowManager V H) (placed : in_plane n.origin ≡ true) where
-    pub sets : IsPictureAt at n t u → IsStepOverAnySlots loan (SetPicture n) (Ok Done) t u
+    pub sets : IsPictureAt at n t u → LeavesState loan (IsWindowStep (SetPicture n) (Ok Done)) t u
     sets done slots whole = (
       is_whole loan t u slots n at whole placed stands done,
       (refusal_is slots whole true (sym placed), (refl, is_set loan t u slots n at whole placed stands done)),
     )
 
-    pub no_memory : SameDesk t u → IsStepOverAnySlots loan (SetPicture n) (Err NoMemory) t u
+    pub no_memory : SameDesk t u → LeavesState loan (IsWindowStep (SetPicture n) (Err NoMemory)) t u
     no_memory same = stays_refused loan t u same (SetPicture n) NoMemory (λ slots whole. inr (refusal_is slots whole true (sym placed), (refl, refl)))

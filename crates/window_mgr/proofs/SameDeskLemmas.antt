@@ -1,6 +1,6 @@
 -- A window manager that gained room alone.
-use Rattle.std.proofs.Common.{◌≡◌, ℕ, Bool, List, [], map, Err, pos, refl, sym, ap, subst}
-use Rattle.std.specs.Prelude.{All}
+use Rattle.std.proofs.Common.{◌≡◌, ℕ, Bool, List, [], map, Result, Ok, Err, pos, refl, sym, ap, subst}
+use Rattle.std.specs.Prelude.{All, OnErr}
 use Rattle.std.specs.List.{insert}
 use Rattle.tb_geom.specs.declared.refusal.Refusal.{Refusal}
 use Rattle.tb_geom.specs.Pixels.{Pixels}
@@ -16,18 +16,18 @@ use Rattle.vis_update.specs.declared.plan.Plan.{Plan}
 use Rattle.vis_update.specs.declared.plan.Touch.{Touch}
 use Rattle.window_list.specs.Classes.{front_place}
 use Rattle.window_list.specs.Lists.{floats}
-use Rattle.window_mgr.specs.AnySlots.{IsStepOverAnySlots}
 use Rattle.window_mgr.specs.FullDesk.{FullDesk, FullState, layered_desk, layered_state}
 use Rattle.vis_update.specs.Records.{record_of}
 use Rattle.window_mgr.specs.Records.{desk_of, state_of}
 use Rattle.window_paint.specs.White.{all_white}
 use Rattle.vis_update.specs.Areas.{stale_in}
 use Rattle.window_mgr.specs.Effects.{IsUnchanged, desk_with_new}
-use Rattle.window_mgr.specs.Step.{IsCallRefused}
+use Rattle.window_mgr.specs.Step.{IsCallRefused, IsWindowStep}
 use Rattle.window_mgr.specs.Whole.{IsWholeManager, IsSettled, IsSoundDesk, AreFramesShown, LieThere}
 use Rattle.vis_update.specs.Areas.{IsGray, IsDesktop, AreAreas}
 use Rattle.window_mgr.specs.Planned.{SameDesk, IsPlanWith}
 use Rattle.vis_update.specs.Plans.{IsPlan}
+use Rattle.window_mgr.specs.Updating.{LeavesState}
 
 -- the windows are settled as they were
 pub settled_stay : {V : Type 0} {H : V → Type 0} (loan : TakenBox V H → WindowLoan) (t u : WindowManager V H) → SameDesk t u → All IsSettled (map (record_of loan) t.windows.records.items) → All IsSettled (map (record_of loan) u.windows.records.items)
@@ -81,11 +81,16 @@ module _ {V : Type 0} {H : V → Type 0} (loan : TakenBox V H → WindowLoan) (t
 
 -- a call that is refused and leaves the same desk makes its step
 pub stays_refused : {V : Type 0} {H : V → Type 0} (loan : TakenBox V H → WindowLoan) (t u : WindowManager V H) → SameDesk t u → (call : WindowCall) (e : Refusal)
-    → ((slots : List WindowSlot) → IsWholeManager loan t slots → IsCallRefused call e (state_of loan t slots)) → IsStepOverAnySlots loan call (Err e) t u
+    → ((slots : List WindowSlot) → IsWholeManager loan t slots → IsCallRefused call e (state_of loan t slots)) → LeavesState loan (IsWindowStep call (Err e)) t u
 stays_refused loan t u same call e refused slots whole =
     (stays_whole loan t u slots slots same refl whole, (refused slots whole, stays_unchanged loan t u slots slots same refl))
 
 -- so does one that is refused and leaves all as it was
 pub is_refused : {V : Type 0} {H : V → Type 0} (loan : TakenBox V H → WindowLoan) (t : WindowManager V H) (call : WindowCall) (e : Refusal)
-    → ((slots : List WindowSlot) → IsWholeManager loan t slots → IsCallRefused call e (state_of loan t slots)) → IsStepOverAnySlots loan call (Err e) t t
+    → ((slots : List WindowSlot) → IsWholeManager loan t slots → IsCallRefused call e (state_of loan t slots)) → LeavesState loan (IsWindowStep call (Err e)) t t
 is_refused loan t call e refused slots whole = (whole, (refused slots whole, record { desk = refl; stale = λ p on. refl; image = λ p on. refl }))
+
+-- what holds anyhow holds where a call is refused
+pub on_refusal : {A : Type 0} (r : Result A Refusal) (P : Type 0) → P → OnErr r P
+on_refusal (Ok a) P p = tt
+on_refusal (Err e) P p = p

@@ -36,7 +36,6 @@ use Rattle.window_list.specs.declared.window.Window.{Window}
 use Rattle.window_list.specs.Lists.{edit_at, with_origin}
 use Rattle.window_list.proofs.ListLemmas.{set_is_edit}
 use Rattle.window_mgr.specs.declared.manager.WindowManager.{WindowManager}
-use Rattle.window_mgr.specs.AnySlots.{IsStepOverAnySlots}
 use Rattle.window_paint.specs.Moves.{moved_bit}
 use Rattle.window_mgr.specs.Edits.{StandsAt, IsWindowAt}
 use Rattle.window_mgr.specs.Effects.{IsScrolled, with_scrolled}
@@ -57,6 +56,8 @@ use Rattle.window_mgr.proofs.Seating.{sides}
 use Rattle.window_mgr.proofs.Steps as steps
 use Rattle.window_mgr.proofs.Covered.{covered_so}
 use Rattle.window_paint.specs.Hidden.{is_hidden}
+use Rattle.window_mgr.specs.Updating.{LeavesState}
+use Rattle.window_mgr.specs.Step.{IsWindowStep}
 
 module _ {V : Type 0} {H : V → Type 0} (loan : TakenBox V H → WindowLoan) (t : WindowManager V H) (slots : List WindowSlot) (whole : IsWholeManager loan t slots) (m : ScrollPicture) (at : ℕ) (low : at < length t.windows.records.items) (x : Window V H) (x_is : IsWindowAt t.windows.records.items at x)
     (a : Area) (read : a ≡ get_or t.areas.items at a) (s : Scrolled) (plan : IsScrollPlan x.serial m.by (layered_state (state_of loan t slots)) s) (screen : Bits) (painted : IsScrollPainted s.copied s.erase m.by t.screen screen) where
@@ -205,17 +206,17 @@ module _ {V : Type 0} {H : V → Type 0} (loan : TakenBox V H → WindowLoan) (t
   refusal_is : (slots : List WindowSlot) → IsWholeManager loan t slots → (b : Bool) → b ≡ in_plane (plus x.origin m.by) → first_refusal (scroll_refusals m (desk_of loan t slots)) ≡ (if b then None else Some OutOfRange)
   refusal_is slots whole b is = steps.may_stand loan t t slots whole at m.window x stands.0 x_is (stands.1 x x_is) (may_scroll m.by) b is
 
-  pub out_of_range : in_plane (plus x.origin m.by) ≡ false → IsStepOverAnySlots loan (Scroll m) (Err OutOfRange) t t
+  pub out_of_range : in_plane (plus x.origin m.by) ≡ false → LeavesState loan (IsWindowStep (Scroll m) (Err OutOfRange)) t t
   out_of_range e = is_refused loan t (Scroll m) OutOfRange (λ slots whole. inl (refusal_is slots whole false (sym e)))
 
   -- where nothing but want of memory can refuse it
   module _ (placed : in_plane (plus x.origin m.by) ≡ true) where
-    pub no_memory : IsStepOverAnySlots loan (Scroll m) (Err NoMemory) t t
+    pub no_memory : LeavesState loan (IsWindowStep (Scroll m) (Err NoMemory)) t t
     no_memory = is_refused loan t (Scroll m) NoMemory (λ slots whole. inr (refusal_is slots whole true (sym placed), (refl, refl)))
 
     pub scrolls : (s : Scrolled) (u new : WindowManager V H) → IsPlanOfScroll loan at m.by t s → IsScrollDrawn at m.by s t u
         → new.windows ≡ record u.windows { records = edit_at (with_origin (plus x.origin m.by)) at u.windows.records } → new ≡ record u { windows = new.windows }
-        → IsStepOverAnySlots loan (Scroll m) (Ok Done) t new
+        → LeavesState loan (IsWindowStep (Scroll m) (Ok Done)) t new
     scrolls s u new plan done windows others slots whole =
         let its_windows : new.windows ≡ record t.windows { records = edit_at (with_origin (plus x.origin m.by)) at t.windows.records } =
         subst (λ (v : WindowManager V H). new.windows ≡ record v.windows { records = edit_at (with_origin (plus x.origin m.by)) at v.windows.records }) done.state windows in

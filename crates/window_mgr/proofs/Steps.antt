@@ -28,7 +28,8 @@ use Rattle.desk_call.specs.declared.window.WindowReply.{WindowReply}
 use Rattle.window_mgr.specs.declared.manager.WindowManager.{WindowManager}
 use Rattle.window_mgr.specs.FullDesk.{FullDesk}
 use Rattle.window_mgr.specs.AnySlots.{IsRearrangedOverAnySlots}
-use Rattle.window_mgr.specs.Arrange.{Arrangement, at_place, with_shown, is_visible, if_visible, if_leading, brought, changed, way_to, behind_this, without}
+use Rattle.window_mgr.specs.Sparing.{Spares}
+use Rattle.window_mgr.specs.Arrange.{Arrangement, at_place, with_shown, is_visible, if_visible, if_leading, brought, changed, way_between, way_to, behind_this, without}
 use Rattle.window_mgr.specs.Edits.{records_put, stays_put, IsWindowAt, IsPlaceBehind, IsPlaceable}
 use Rattle.window_mgr.specs.Effects.{Effect, IsEffect, IsArrangement, effect_of}
 use Rattle.window_mgr.specs.Effects.Effect.{Arranges}
@@ -172,18 +173,25 @@ module _ {V : Type 0} {H : V → Type 0} (loan : TakenBox V H → WindowLoan) (t
     may_arrive e at place size w w_is =
         (λ k. refused.may_stand (place k) (size k) (record_of loan (same_at t.windows.records.items i w x low (subst (λ n. IsWindowAt t.windows.records.items n w) at w_is) x_is k))) ∙ stands
 
-  pub move_step : (m : MoveWindow) (e : Edit) (activates : Activates) (by : Point) (result : Result WindowReply Refusal) → s ≡ m.window → first_refusal (move_refusals m desk) ≡ None
-      → e ≡ record { at = i; to = if m.select then front else i; place = m.place; size = x.size; user_state = None; shown = x.shown } → activates ≡ (if m.select then (if leads x then Itself else Nothing) else Nothing) → by ≡ minus m.place x.place
-      → IsRearrangedOverAnySlots loan e activates (Some by) result t new → IsStep (Move m) result
+  pub move_spares : (m : MoveWindow) (by : Option Point) → s ≡ m.window → by ≡ way_between x.place m.place → Spares loan x.serial by t new
+      → Spares loan m.window (way_to m.place (record_with m.window desk.windows)) t new
+  move_spares m by named by_is spares = subst (λ (y : ℕ × Option Point). Spares loan y.0 y.1 t new) (λ k. ((serial ∙ named) k, (by_is ∙ ap (way_to m.place) (sym here)) k)) spares
+    where
+      here : record_with m.window desk.windows ≡ Some (record_of loan x)
+      here = ap (λ n. record_with n desk.windows) (sym named) ∙ found
+
+  pub move_step : (m : MoveWindow) (e : Edit) (activates : Activates) (by : Option Point) (result : Result WindowReply Refusal) → s ≡ m.window → first_refusal (move_refusals m desk) ≡ None
+      → e ≡ record { at = i; to = if m.select then front else i; place = m.place; size = x.size; user_state = None; shown = x.shown } → activates ≡ (if m.select then (if leads x then Itself else Nothing) else Nothing) → by ≡ way_between x.place m.place
+      → IsRearrangedOverAnySlots loan e activates by result t new → IsStep (Move m) result
   move_step m e activates by result named allowed e_is activates_is by_is done =
-      edit_step (Move m) (record { at = i; to = if m.select then front else i; place = m.place; size = x.size; user_state = None; shown = x.shown }) (if m.select then (if leads x then Itself else Nothing) else Nothing) (Some (minus m.place x.place)) result _ refl refl refl allowed
+      edit_step (Move m) (record { at = i; to = if m.select then front else i; place = m.place; size = x.size; user_state = None; shown = x.shown }) (if m.select then (if leads x then Itself else Nothing) else Nothing) (way_between x.place m.place) result _ refl refl refl allowed
       (λ k. record {
         window = sym (serial ∙ named) k;
         by = (ap (way_to m.place) here) k;
         windows = (by_select m.select) k;
         activates = (ap (λ o. if m.select then if_leading o else Nothing) here) k;
       })
-      (subst (λ (y : Edit × Activates × Point). IsRearrangedOverAnySlots loan y.0 y.1 (Some y.2) result t new) (λ k. (e_is k, activates_is k, by_is k)) done)
+      (subst (λ (y : Edit × Activates × Option Point). IsRearrangedOverAnySlots loan y.0 y.1 y.2 result t new) (λ k. (e_is k, activates_is k, by_is k)) done)
     where
       here : record_with m.window desk.windows ≡ Some (record_of loan x)
       here = ap (λ n. record_with n desk.windows) (sym named) ∙ found

@@ -48,8 +48,7 @@ use Rattle.window_mgr.specs.Finding.{record_with}
 use Rattle.window_mgr.specs.Telling.{IsRegionOf, IsMeasured, AreRegionBytes, IsNotTold, seen_from, visible_of, update_of, asked_region, kept_region, asking, IsRegionTold}
 use Rattle.tb_geom.specs.Refusals.{first_refusal}
 use Rattle.window_mgr.specs.Refused.{IsRefusal, IsUntold, is_missing}
-use Rattle.window_mgr.specs.Step.{IsCallRefused}
-use Rattle.window_mgr.specs.AnySlots.{IsStepOverAnySlots}
+use Rattle.window_mgr.specs.Step.{IsCallRefused, IsWindowStep}
 use Rattle.window_mgr.specs.Kept.{IsKept}
 use Rattle.window_mgr.specs.Planned.{SameDesk}
 use Rattle.window_mgr.specs.Whole.{IsSettled}
@@ -59,6 +58,7 @@ use Rattle.window_mgr.proofs.Seating.{as_many}
 use Rattle.window_mgr.proofs.DrawRefusals.{record_there}
 use Rattle.window_mgr.proofs.DrawLemmas.{window_settled}
 use Rattle.window_mgr.proofs.FindLemmas.{area_at}
+use Rattle.window_mgr.specs.Updating.{LeavesState}
 
 -- ---- points there and back
 
@@ -307,10 +307,10 @@ module _ {V : Type 0} {H : V → Type 0} (loan : TakenBox V H → WindowLoan) (t
   }
 
   -- a region that is told, or not, on a desk that stays
-  pub region_step : (told : AskedRegion) (u : WindowManager V H) (answer : WindowReply) → SameDesk t u → IsRefusal (asking told s) (state_of loan t []) None → IsRegionTold (asked_region told s (state_of loan t [])) answer → IsStepOverAnySlots loan (asking told s) (Ok answer) t u
+  pub region_step : (told : AskedRegion) (u : WindowManager V H) (answer : WindowReply) → SameDesk t u → IsRefusal (asking told s) (state_of loan t []) None → IsRegionTold (asked_region told s (state_of loan t [])) answer → LeavesState loan (IsWindowStep (asking told s) (Ok answer)) t u
   region_step Visible u answer same allowed its slots whole = (stays_whole loan t u slots slots same refl whole, (allowed, (its, stays_unchanged loan t u slots slots same refl)))
   region_step Update u answer same allowed its slots whole = (stays_whole loan t u slots slots same refl whole, (allowed, (its, stays_unchanged loan t u slots slots same refl)))
 
-  pub region_refused : (told : AskedRegion) (u : WindowManager V H) (e : Refusal) → SameDesk t u → IsCallRefused (asking told s) e (state_of loan t []) → IsStepOverAnySlots loan (asking told s) (Err e) t u
+  pub region_refused : (told : AskedRegion) (u : WindowManager V H) (e : Refusal) → SameDesk t u → IsCallRefused (asking told s) e (state_of loan t []) → LeavesState loan (IsWindowStep (asking told s) (Err e)) t u
   region_refused Visible u e same refused = stays_refused loan t u same (VisibleRegion s) e (λ slots whole. refused)
   region_refused Update u e same refused = stays_refused loan t u same (UpdateRegion s) e (λ slots whole. refused)

@@ -1,6 +1,7 @@
 -- The order of windows, and which of them is active.
-use Rattle.std.specs.Prelude.{ℕ, Bool, true, false, if◌then◌else◌, ◌==◌, not, List, [], ◌∷◌, map, Option, None, Some}
+use Rattle.std.specs.Prelude.{ℕ, Bool, true, false, if◌then◌else◌, ◌==◌, ◌&&◌, not, List, [], ◌∷◌, map, Option, None, Some}
 use Rattle.std.specs.Option.{is_some}
+use Rattle.std.specs.Ordering.{int_eq}
 use Rattle.tb_geom.specs.declared.point.Point.{Point}
 use Rattle.tb_geom.specs.Points.{minus}
 use Rattle.window_list.specs.declared.window.Placement.{Placement}
@@ -129,10 +130,18 @@ abbrev pub may_lead : Option WindowRecord → Bool
 may_lead None = false
 may_lead (Some w) = is_leading w
 
--- how far it is to the place from that of the window, if there is one
+-- two places are one
+abbrev pub same_place : Point → Point → Bool
+same_place a b = int_eq a.h b.h && int_eq a.v b.v
+
+-- how far it is from one place to another, where that is another one
+abbrev pub way_between : Point → Point → Option Point
+way_between from to = if same_place from to then None else Some (minus to from)
+
+-- how far it is to the place from that of the window, if there is one and it lies elsewhere
 abbrev pub way_to : Point → Option WindowRecord → Option Point
 way_to place None = None
-way_to place (Some w) = Some (minus place w.place)
+way_to place (Some w) = way_between w.place place
 
 -- ---- the calls
 

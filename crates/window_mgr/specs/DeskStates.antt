@@ -7,8 +7,10 @@ use Rattle.def_iface.specs.WindowMeaning.{WindowLoan}
 use Rattle.def_iface.specs.WindowSlots.{WindowSlot}
 use Rattle.desk_call.specs.declared.activity.Activity.{Activity}
 use Rattle.desk_call.specs.declared.activity.Activity.TheVariants.{Updating}
+use Rattle.desk_call.specs.declared.nature.Asked.{Asked}
+use Rattle.desk_call.specs.declared.nature.Asked.TheVariants.{VisibleRegion, UpdateRegion}
 use Rattle.desk_call.specs.declared.window.WindowCall.{WindowCall}
-use Rattle.desk_call.specs.declared.window.WindowCall.TheVariants.{VisibleRegion, UpdateRegion}
+use Rattle.desk_call.specs.Natures.{window_asks}
 use Rattle.window_mgr.specs.declared.manager.WindowManager.{WindowManager}
 use Rattle.window_mgr.specs.FullDesk.{FullState}
 use Rattle.window_mgr.specs.Effects as windows
@@ -43,11 +45,14 @@ is_updating s (Updating t) = t == s
 is_updating s _ = false
 
 -- while a window's update is open its visible region is what was to be redrawn when it began, and its update region is
--- empty; which of them a call asks for, if it does
+-- empty; which of them is asked for, if one is
+abbrev pub narrowed_to : Asked → Activity → PixelSet → Option PixelSet
+narrowed_to (VisibleRegion s) activity begun = if is_updating s activity then Some begun else None
+narrowed_to (UpdateRegion s) activity begun = if is_updating s activity then Some (λ p. false) else None
+narrowed_to _ activity begun = None
+
 abbrev pub narrowed : WindowCall → Activity → PixelSet → Option PixelSet
-narrowed (VisibleRegion s) activity begun = if is_updating s activity then Some begun else None
-narrowed (UpdateRegion s) activity begun = if is_updating s activity then Some (λ p. false) else None
-narrowed _ activity begun = None
+narrowed call = narrowed_to (window_asks call)
 
 -- windows at which this is open
 abbrev pub desk_with : Opened → FullState → DeskState

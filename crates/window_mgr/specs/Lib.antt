@@ -27,3 +27,4 @@ pub mod Begin
 pub mod Closing
 pub mod Relayered
 pub mod Sparing
+pub mod Boxed

@@ -1,5 +1,5 @@
 //! One window put anew among the others, whichever call it is for.
-ghost use Rattle.std.specs.Prelude.{◌≡◌, ◌<◌, Some, None, All, MatchOption, IfOk, length, map, vec_len, vec_capacity};
+ghost use Rattle.std.specs.Prelude.{◌≡◌, ◌<◌, Some, None, All, MatchOption, IfOk, length, map, vec_len, vec_capacity, OnErr};
 ghost use Rattle.vis_update.specs.Records.{record_of};
 ghost use Rattle.window_list.specs.Ranks.{moved_item};
 ghost use Rattle.window_mgr.specs.AnySlots.{IsRearrangedOverAnySlots};
@@ -8,11 +8,10 @@ ghost use Rattle.window_mgr.specs.Edits.{IsWindowAt, relit_all, IsPutAnew, Stand
 ghost use Rattle.window_mgr.specs.Edits.{AreSeatsAfter, AreSettledAfter, IsActivation, IsPlanOfEdit, IsCommitted};
 ghost use Rattle.window_mgr.specs.Edits.{stays_put};
 ghost use Rattle.window_mgr.specs.Finding.{record_with};
-ghost use Rattle.window_mgr.specs.Kept.{IsKept};
 ghost use Rattle.window_mgr.specs.Seats.{AreSeatsOf, first_seated};
 ghost use Rattle.window_mgr.specs.Sparing.{Spares};
 
-use crate::{WindowManager, WindowReply};
+use crate::{DeskWindows, WindowManager, WindowReply};
 use def_iface::{Defined, Size, TakenWindow};
 use std::alloc::AllocError;
 use tb_geom::{Point, Refusal};
@@ -130,7 +129,7 @@ impl WindowManager {
         activates: Activates,
         by: Option<Point>,
     ) -> Result<WindowReply, Refusal>
-        requires kept { IsKept ⟦<TakenWindow as Defined>⟧.loan self.old }
+        requires kept { ⟦<Self as DeskWindows>⟧.IsKept self.old }
         requires at { edit.at < length self.old.windows.records.items }
         requires to { edit.to < length self.old.windows.records.items }
         requires placed { IsPlaceable ⟦<TakenWindow as Defined>⟧.loan edit self.old.windows.records.items }
@@ -140,6 +139,7 @@ impl WindowManager {
             self.new }
         ensures sparing { (w : _) → IsWindowAt self.old.windows.records.items edit.at w
             → Spares ⟦<TakenWindow as Defined>⟧.loan w.serial by self.old self.new }
+        ensures quiet { OnErr result (self.new.screen ≡ self.old.screen) }
     {
         let Ok(Rearrangement { plan, activation }) = self.plan_edit(
             edit,
@@ -161,7 +161,7 @@ impl WindowManager {
         by: Option<Point>,
         whole: bool,
     ) -> Result<Rearrangement, AllocError>
-        requires kept { IsKept ⟦<TakenWindow as Defined>⟧.loan self.now }
+        requires kept { ⟦<Self as DeskWindows>⟧.IsKept self.now }
         requires at { edit.at < length self.now.windows.records.items }
         requires to { edit.to < length self.now.windows.records.items }
         requires placed { IsPlaceable ⟦<TakenWindow as Defined>⟧.loan edit self.now.windows.records.items }

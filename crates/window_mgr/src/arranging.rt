@@ -1,20 +1,21 @@
 //! The calls that arrange windows: each says how one window is put anew, and what becomes active.
-ghost use Rattle.std.specs.Prelude.{◌≡◌, [], None, Some, MatchResult, if◌then◌else◌};
+ghost use Rattle.std.specs.Prelude.{◌≡◌, [], true, None, Some, MatchResult, if◌then◌else◌, OnErr};
+ghost use Rattle.tb_geom.specs.Rects.{in_plane};
 ghost use Rattle.desk_call.specs.declared.window.WindowCall.TheVariants as asks;
 ghost use Rattle.window_mgr.specs.declared.arrange.Activates.TheVariants.{Nothing, ItselfIfFront, FrontInItsPlace};
-ghost use Rattle.window_mgr.specs.AnySlots.{IsStepOverAnySlots};
+ghost use Rattle.window_mgr.specs.Arrange.{way_between, way_to};
 ghost use Rattle.window_mgr.specs.Edits.{StandsAt, IsPlaceBehind};
-ghost use Rattle.window_mgr.specs.Kept.{IsKept};
-ghost use Rattle.window_mgr.specs.Records.{desk_of};
+ghost use Rattle.window_mgr.specs.Finding.{record_with};
 ghost use Rattle.tb_geom.specs.Refusals.{first_refusal};
 ghost use Rattle.window_mgr.specs.Refused.{behind_refusals};
 ghost use Rattle.window_mgr.specs.Sparing.{Spares};
+ghost use Rattle.window_mgr.specs.Step.{IsWindowStep};
 
 use crate::arrange::{Activates, Edit};
 use crate::standing::may_stand;
-use crate::{MoveWindow, SendBehind, ShowHide, WindowManager, WindowReply};
+use crate::{DeskWindows, MoveWindow, SendBehind, ShowHide, WindowManager, WindowReply};
 use def_iface::{Defined, TakenWindow};
-use tb_geom::Refusal;
+use tb_geom::{Point, Refusal};
 use window_list::local;
 
 impl WindowManager {
@@ -25,10 +26,11 @@ impl WindowManager {
         window: u64,
         select: bool,
     ) -> Result<WindowReply, Refusal>
-        requires { IsKept ⟦<TakenWindow as Defined>⟧.loan self.old }
-        ensures step { IsStepOverAnySlots ⟦<TakenWindow as Defined>⟧.loan
-            (if select then asks.Select window else asks.BringToFront window) result self.old self.new }
+        requires { ⟦<Self as DeskWindows>⟧.IsKept self.old }
+        ensures step { ⟦<Self as DeskWindows>⟧.LeavesState
+            (IsWindowStep (if select then asks.Select window else asks.BringToFront window) result) self.old self.new }
         ensures sparing { Spares ⟦<TakenWindow as Defined>⟧.loan window None self.old self.new }
+        ensures quiet { OnErr result (self.new.screen ≡ self.old.screen) }
     {
         let Some(at) = self.find(window) else {
             return Err(Refusal::NoSuchWindow);
@@ -43,10 +45,11 @@ impl WindowManager {
     /// Puts a window behind another or at the back of its class.
     #[tactic(auto, using(crate::proofs::Sparing::spares_same))]
     pub(crate) fn send_behind(&mut self, sent: SendBehind) -> Result<WindowReply, Refusal>
-        requires { IsKept ⟦<TakenWindow as Defined>⟧.loan self.old }
-        ensures step { IsStepOverAnySlots ⟦<TakenWindow as Defined>⟧.loan (asks.SendBehind sent) result self.old
+        requires { ⟦<Self as DeskWindows>⟧.IsKept self.old }
+        ensures step { ⟦<Self as DeskWindows>⟧.LeavesState (IsWindowStep (asks.SendBehind sent) result) self.old
             self.new }
         ensures sparing { Spares ⟦<TakenWindow as Defined>⟧.loan sent.window None self.old self.new }
+        ensures quiet { OnErr result (self.new.screen ≡ self.old.screen) }
     {
         let Some(at) = self.find(sent.window) else {
             return Err(Refusal::NoSuchWindow);
@@ -63,10 +66,10 @@ impl WindowManager {
 
     /// The index in the list, counted without the window at this index, where it is to go behind another.
     fn place_to_send(&self, sent: SendBehind, at: usize) -> Result<usize, Refusal>
-        requires kept { IsKept ⟦<TakenWindow as Defined>⟧.loan self.now }
+        requires kept { ⟦<Self as DeskWindows>⟧.IsKept self.now }
         requires at { StandsAt self.now.windows.records.items sent.window at }
         ensures { MatchResult result (IsPlaceBehind ⟦<TakenWindow as Defined>⟧.loan sent at self.now)
-            (λ e. first_refusal (behind_refusals sent (desk_of ⟦<TakenWindow as Defined>⟧.loan self.now [])) ≡ Some e) }
+            (λ e. first_refusal (behind_refusals sent (⟦<Self as DeskWindows>⟧.desk self.now [])) ≡ Some e) }
     {
         let found = self.windows.at(at);
         let Some(front) = sent.behind else {
@@ -87,9 +90,12 @@ impl WindowManager {
     /// Moves a window, and selects it where that is asked.
     #[tactic(auto, using(crate::proofs::Sparing::spares_same))]
     pub(crate) fn move_window(&mut self, moved: MoveWindow) -> Result<WindowReply, Refusal>
-        requires { IsKept ⟦<TakenWindow as Defined>⟧.loan self.old }
-        ensures step { IsStepOverAnySlots ⟦<TakenWindow as Defined>⟧.loan (asks.Move moved) result self.old self.new }
-        ensures sparing { Spares ⟦<TakenWindow as Defined>⟧.loan moved.window (Some moved.place) self.old self.new }
+        requires { ⟦<Self as DeskWindows>⟧.IsKept self.old }
+        ensures step { ⟦<Self as DeskWindows>⟧.LeavesState (IsWindowStep (asks.Move moved) result) self.old self.new }
+        ensures sparing { Spares ⟦<TakenWindow as Defined>⟧.loan moved.window
+            (way_to moved.place (record_with moved.window (⟦<Self as DeskWindows>⟧.desk self.old []).windows))
+            self.old self.new }
+        ensures quiet { OnErr result (self.new.screen ≡ self.old.screen) }
     {
         let Some(at) = self.find(moved.window) else {
             return Err(Refusal::NoSuchWindow);
@@ -99,13 +105,13 @@ impl WindowManager {
             return Err(Refusal::OutOfRange);
         }
         let activates = if_so(moved.select, if_so(found.leads(), Activates::Itself));
-        let by = local(moved.place, found.place);
+        let by = way(found.place, moved.place);
         let front = self.windows.class_front(found.floating, at);
         let mut edit = Edit::of(at, found);
         edit.place = moved.place;
         edit.user_state = None;
         edit.to = if moved.select { front } else { at };
-        self.rearrange(edit, activates, Some(by))
+        self.rearrange(edit, activates, by)
     }
 
     /// Makes a window visible or hidden. One that becomes visible becomes active where it is the first visible
@@ -117,11 +123,12 @@ impl WindowManager {
         change: ShowHide,
         activates: bool,
     ) -> Result<WindowReply, Refusal>
-        requires { IsKept ⟦<TakenWindow as Defined>⟧.loan self.old }
-        ensures step { IsStepOverAnySlots ⟦<TakenWindow as Defined>⟧.loan
-            (if activates then (if change.shown then asks.Show change.window else asks.Hide change.window)
-            else asks.ShowHide change) result self.old self.new }
+        requires { ⟦<Self as DeskWindows>⟧.IsKept self.old }
+        ensures step { ⟦<Self as DeskWindows>⟧.LeavesState
+            (IsWindowStep (if activates then (if change.shown then asks.Show change.window else asks.Hide change.window)
+            else asks.ShowHide change) result) self.old self.new }
         ensures sparing { Spares ⟦<TakenWindow as Defined>⟧.loan change.window None self.old self.new }
+        ensures quiet { OnErr result (self.new.screen ≡ self.old.screen) }
     {
         let Some(at) = self.find(change.window) else {
             return Err(Refusal::NoSuchWindow);
@@ -131,6 +138,19 @@ impl WindowManager {
         let mut edit = Edit::of(at, found);
         edit.shown = change.shown;
         self.rearrange(edit, activates, None)
+    }
+}
+
+/// How far it is from one place to another, where that is another one.
+fn way(from: Point, to: Point) -> Option<Point>
+    requires from { in_plane from ≡ true }
+    requires to { in_plane to ≡ true }
+    ensures { result ≡ way_between from to }
+{
+    if from.h == to.h && from.v == to.v {
+        None
+    } else {
+        Some(local(to, from))
     }
 }
 

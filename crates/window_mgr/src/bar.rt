@@ -1,18 +1,15 @@
 //! The titles in the menu bar.
 ghost use Rattle.std.specs.Prelude.{◌≡◌};
 ghost use Rattle.window_mgr.specs.BarShown.{IsBarShown};
-ghost use Rattle.window_mgr.specs.Kept.{IsKept};
-ghost use Rattle.window_mgr.specs.Updating.{LeavesState};
 
-use crate::WindowManager;
-use def_iface::{Defined, TakenWindow};
+use crate::{DeskWindows, WindowManager};
 use desk_ground::{Titles, draw_bar};
 
 impl WindowManager {
     /// Shows other titles in the menu bar. It takes no memory.
     pub fn set_titles(&mut self, titles: Titles)
-        requires { IsKept ⟦<TakenWindow as Defined>⟧.loan self.old }
-        ensures { LeavesState ⟦<TakenWindow as Defined>⟧.loan (IsBarShown titles) self.old self.new }
+        requires { ⟦<Self as DeskWindows>⟧.IsKept self.old }
+        ensures { ⟦<Self as DeskWindows>⟧.LeavesState (IsBarShown titles) self.old self.new }
     {
         self.bar.titles = titles;
         draw_bar(

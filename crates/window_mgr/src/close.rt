@@ -1,11 +1,10 @@
 //! The end of a desk.
-ghost use Rattle.std.specs.Prelude.{◌≡◌, true, All, map};
+ghost use Rattle.std.specs.Prelude.{◌≡◌, All, map};
 ghost use Rattle.vis_update.specs.Records.{record_of};
-ghost use Rattle.window_mgr.specs.Records.{desk_of};
-ghost use Rattle.window_mgr.specs.Whole.{IsWholeManager, IsSettled, IsStocked};
+ghost use Rattle.window_mgr.specs.Whole.{IsSettled, IsStocked};
 ghost use Rattle.window_mgr.specs.Closing.{IsClosed};
 
-use crate::WindowManager;
+use crate::{DeskWindows, WindowManager};
 use def_iface::{Defined, Stocked, TakenWindow, WindowStock, put_away};
 use window_list::WindowList;
 
@@ -13,8 +12,8 @@ impl WindowManager {
     /// Ends the desk: the definition of every window is disposed of, and put back Closed into its
     /// slot, while every other slot stays as it was. Takes no memory, and refuses nothing.
     pub fn close(self, stock: &mut WindowStock)
-        requires { IsWholeManager ⟦<TakenWindow as Defined>⟧.loan self (⟦<WindowStock as Stocked>⟧.slots stock.old) }
-        ensures { IsClosed (desk_of ⟦<TakenWindow as Defined>⟧.loan self
+        requires { ⟦<Self as DeskWindows>⟧.IsWhole self stock.old }
+        ensures { IsClosed (⟦<Self as DeskWindows>⟧.desk self
             (⟦<WindowStock as Stocked>⟧.slots stock.old)).windows
             (⟦<WindowStock as Stocked>⟧.slots stock.old) (⟦<WindowStock as Stocked>⟧.slots stock.new) }
     {

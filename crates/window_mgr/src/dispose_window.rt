@@ -1,19 +1,17 @@
 //! The call that ends a window.
-ghost use Rattle.std.specs.Prelude.{◌≡◌, ◌+◌, ◌<◌, None, All, IfOk, length, map, vec_len};
+ghost use Rattle.std.specs.Prelude.{◌≡◌, ◌+◌, ◌<◌, None, All, IfOk, length, map, vec_len, OnErr};
 ghost use Rattle.std.specs.List.{remove};
 ghost use Rattle.desk_call.specs.declared.window.WindowCall.TheVariants.{Dispose};
 ghost use Rattle.vis_update.specs.Records.{record_of};
 ghost use Rattle.window_mgr.specs.Edits.{relit_all, StandsAt};
-ghost use Rattle.window_mgr.specs.Kept.{IsKept};
-ghost use Rattle.window_mgr.specs.Records.{state_of};
 ghost use Rattle.window_mgr.specs.Step.{IsWindowStep};
-ghost use Rattle.window_mgr.specs.Whole.{IsWholeManager, IsSettled};
+ghost use Rattle.window_mgr.specs.Whole.{IsSettled};
 ghost use Rattle.window_mgr.specs.Without.{AreSeatsWithout, IsPlanWithout, IsActivationWithout, IsTakenOff};
 ghost use Rattle.window_mgr.specs.Sparing.{Spares};
 
 use crate::arrange::{Activates, Activation, Rearrangement, front_of};
-use crate::{WindowManager, WindowReply};
-use def_iface::{Defined, Stocked, TakenWindow, WindowStock, put_away};
+use crate::{DeskWindows, WindowManager, WindowReply};
+use def_iface::{Defined, TakenWindow, WindowStock, put_away};
 use scan_region::Region;
 use std::alloc::AllocError;
 use tb_geom::Refusal;
@@ -29,14 +27,13 @@ impl WindowManager {
         window: u64,
         stock: &mut WindowStock,
     ) -> Result<WindowReply, Refusal>
-        requires { IsWholeManager ⟦<TakenWindow as Defined>⟧.loan self.old
-            (⟦<WindowStock as Stocked>⟧.slots stock.old) }
-        ensures whole { IsWholeManager ⟦<TakenWindow as Defined>⟧.loan self.new
-            (⟦<WindowStock as Stocked>⟧.slots stock.new) }
+        requires { ⟦<Self as DeskWindows>⟧.IsWhole self.old stock.old }
+        ensures whole { ⟦<Self as DeskWindows>⟧.IsWhole self.new stock.new }
         ensures step { IsWindowStep (Dispose window) result
-            (state_of ⟦<TakenWindow as Defined>⟧.loan self.old (⟦<WindowStock as Stocked>⟧.slots stock.old))
-            (state_of ⟦<TakenWindow as Defined>⟧.loan self.new (⟦<WindowStock as Stocked>⟧.slots stock.new)) }
+            (⟦<Self as DeskWindows>⟧.state self.old stock.old)
+            (⟦<Self as DeskWindows>⟧.state self.new stock.new) }
         ensures sparing { Spares ⟦<TakenWindow as Defined>⟧.loan window None self.old self.new }
+        ensures quiet { OnErr result (self.new.screen ≡ self.old.screen) }
     {
         let Some(at) = self.find(window) else {
             return Err(Refusal::NoSuchWindow);
@@ -51,7 +48,7 @@ impl WindowManager {
 
     /// All that changes on the screen where this window, at this index, is there no more, and all growth.
     fn plan_without(&self, window: u64, at: usize) -> Result<Rearrangement, AllocError>
-        requires kept { IsKept ⟦<TakenWindow as Defined>⟧.loan self.now }
+        requires kept { ⟦<Self as DeskWindows>⟧.IsKept self.now }
         requires at { StandsAt self.now.windows.records.items window at }
         ensures plan { IfOk result (λ r. IsPlanWithout ⟦<TakenWindow as Defined>⟧.loan at window self.now r.plan) }
         ensures activation { IfOk result (λ r.

@@ -1,14 +1,11 @@
 //! The call that draws.
-ghost use Rattle.std.specs.Prelude.{◌≡◌, [], Some, MatchResult};
+ghost use Rattle.std.specs.Prelude.{◌≡◌, [], Some, MatchResult, OnErr};
 ghost use Rattle.desk_call.specs.declared.window.WindowCall.TheVariants.{Draw};
-ghost use Rattle.window_mgr.specs.AnySlots.{IsStepOverAnySlots};
-ghost use Rattle.window_mgr.specs.Kept.{IsKept};
 ghost use Rattle.window_mgr.specs.Planned.{MayDraw};
-ghost use Rattle.window_mgr.specs.Records.{state_of};
 ghost use Rattle.window_mgr.specs.Refused.{IsRefusal, is_formal};
+ghost use Rattle.window_mgr.specs.Step.{IsWindowStep};
 
-use crate::{Drawing, WindowManager, WindowReply};
-use def_iface::{Defined, TakenWindow};
+use crate::{DeskWindows, Drawing, WindowManager, WindowReply};
 use draw_port::MOST_OPERATIONS;
 use tb_geom::Refusal;
 use window_paint::paint_last_operation;
@@ -16,9 +13,9 @@ use window_paint::paint_last_operation;
 impl WindowManager {
     /// The index of the window that is drawn in, where nothing but memory can refuse that.
     fn index_to_draw(&self, drawing: &Drawing<'_>) -> Result<usize, Refusal>
-        requires { IsKept ⟦<TakenWindow as Defined>⟧.loan self.now }
+        requires { ⟦<Self as DeskWindows>⟧.IsKept self.now }
         ensures { MatchResult result (MayDraw drawing.now self.now)
-            (λ e. IsRefusal (Draw drawing.now) (state_of ⟦<TakenWindow as Defined>⟧.loan self.now []) (Some e)) }
+            (λ e. IsRefusal (Draw drawing.now) (⟦<Self as DeskWindows>⟧.state_over self.now []) (Some e)) }
     {
         match (drawing.operation.judge(), self.find(drawing.window)) {
             (Err(refusal), _) if is_formal(refusal) => Err(refusal),
@@ -38,9 +35,11 @@ impl WindowManager {
     /// the picture owns, to be redrawn or not. The refusal is the first of these: BadSyntax and
     /// BadRegion as `OpRef::judge` has them, NoSuchWindow, OutOfRange and TooLong as it has them, TooMany
     /// where the picture has 1024 operations, NoMemory.
+    #[tactic(auto, using(crate::proofs::SameDeskLemmas::on_refusal))]
     pub(crate) fn draw(&mut self, drawing: &Drawing<'_>) -> Result<WindowReply, Refusal>
-        requires { IsKept ⟦<TakenWindow as Defined>⟧.loan self.old }
-        ensures { IsStepOverAnySlots ⟦<TakenWindow as Defined>⟧.loan (Draw drawing.now) result self.old self.new }
+        requires { ⟦<Self as DeskWindows>⟧.IsKept self.old }
+        ensures step { ⟦<Self as DeskWindows>⟧.LeavesState (IsWindowStep (Draw drawing.now) result) self.old self.new }
+        ensures quiet { OnErr result (self.new.screen ≡ self.old.screen) }
     {
         let at = self.index_to_draw(drawing)?;
         let Ok(operation) = drawing.operation.to_op(self.alloc) else {

@@ -4,14 +4,12 @@ ghost use Rattle.tb_geom.specs.declared.refusal.Refusal.TheVariants.{OutOfRange}
 ghost use Rattle.tb_geom.specs.Points.{minus};
 ghost use Rattle.tb_geom.specs.Rects.{in_plane};
 ghost use Rattle.def_iface.specs.WindowNews.{no_news};
-ghost use Rattle.window_mgr.specs.Kept.{IsKept};
 ghost use Rattle.vis_update.specs.Areas.{area_has};
 ghost use Rattle.window_mgr.specs.Finding.{found_at, part_of_hit};
 ghost use Rattle.vis_update.specs.Records.{record_of};
-ghost use Rattle.window_mgr.specs.Records.{desk_of};
 ghost use Rattle.window_mgr.specs.Whole.{IsSettled};
 
-use crate::{Found, WindowManager, WindowPart};
+use crate::{DeskWindows, Found, WindowManager, WindowPart};
 use def_iface::{Defined, Hit, TakenWindow};
 use tb_geom::{Point, Refusal};
 use window_list::{Window, local};
@@ -19,9 +17,9 @@ use window_list::{Window, local};
 impl WindowManager {
     /// Whose the point of the screen is. OutOfRange where it lies outside the range of coordinates.
     pub fn find_window(&self, point: Point) -> Result<Found, Refusal>
-        requires { IsKept ⟦<TakenWindow as Defined>⟧.loan self.now }
+        requires { ⟦<Self as DeskWindows>⟧.IsKept self.now }
         ensures { result ≡ (if in_plane point
-            then Ok (found_at (desk_of ⟦<TakenWindow as Defined>⟧.loan self.now []) point)
+            then Ok (found_at (⟦<Self as DeskWindows>⟧.desk self.now []) point)
             else Err OutOfRange) }
     {
         if point.is_in_range() {
@@ -33,9 +31,9 @@ impl WindowManager {
 
     /// Whose the point is.
     fn found_at(&self, point: Point) -> Found
-        requires asked { IsKept ⟦<TakenWindow as Defined>⟧.loan self.now }
+        requires asked { ⟦<Self as DeskWindows>⟧.IsKept self.now }
         requires in_plane { in_plane point ≡ true }
-        ensures { result ≡ found_at (desk_of ⟦<TakenWindow as Defined>⟧.loan self.now []) point }
+        ensures { result ≡ found_at (⟦<Self as DeskWindows>⟧.desk self.now []) point }
     {
         if !self.screen.bounds().contains(point) {
             return Found {

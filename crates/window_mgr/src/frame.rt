@@ -4,11 +4,9 @@ ghost use Rattle.def_iface.specs.WindowNews.{told_change};
 ghost use Rattle.window_list.specs.Changes.{keeps_size, has_short_title};
 ghost use Rattle.window_mgr.specs.Edits.{IsWindowAt};
 ghost use Rattle.window_mgr.specs.FrameNotices.{IsFrameNotified, notified_record};
-ghost use Rattle.window_mgr.specs.Kept.{IsKept};
 ghost use Rattle.window_mgr.specs.Sparing.{Repaints};
-ghost use Rattle.window_mgr.specs.Updating.{LeavesState};
 
-use crate::WindowManager;
+use crate::{DeskWindows, WindowManager};
 use def_iface::{Defined, TakenWindow, WindowChange};
 use window_paint::paint_frame;
 
@@ -17,12 +15,12 @@ impl WindowManager {
     /// within the damage that the definition answers. The record keeps what it is told. A change of the size
     /// is told by `WindowCall::Size`, and a title has at most 255 bytes. It takes no memory.
     pub fn notify(&mut self, at: usize, change: WindowChange<'_>)
-        requires kept { IsKept ⟦<TakenWindow as Defined>⟧.loan self.old }
+        requires kept { ⟦<Self as DeskWindows>⟧.IsKept self.old }
         requires at { at < length self.old.windows.records.items }
         requires size { keeps_size change ≡ true }
         requires title { has_short_title change ≡ true }
         ensures told { (w : _) → IsWindowAt self.old.windows.records.items at w
-            → LeavesState ⟦<TakenWindow as Defined>⟧.loan
+            → ⟦<Self as DeskWindows>⟧.LeavesState
             (IsFrameNotified w.serial (λ _. told_change change.entry) (notified_record change.entry)) self.old
             self.new }
         ensures repainted { (w : _) → IsWindowAt self.old.windows.records.items at w

@@ -14,7 +14,8 @@
 //!
 //! Definitions wait outside, in a `WindowStock` that each call is handed. A window's record holds its definition together
 //! with the number of the slot that it came from. Where the window or the desk ends, the definition goes back there, Closed.
-//! A call that leaves the stock alone is a step over any slots with which the windows are whole (`AnySlots`).
+//! A call that leaves the stock alone is a step over any slots with which the windows are whole (`LeavesState`).
+//! `DeskWindows` has the words of the contracts, for whoever calls: what the desk and its state are, and that it is whole.
 //!
 //! A call is judged and takes all its memory before the first change: its plan (`vis_update`) says what each window
 //! will own and what changes on the screen, and `commit` draws it, whichever call it was made for. `arrange` puts one
@@ -35,6 +36,7 @@ mod arranging;
 mod bar;
 mod close;
 mod commit;
+mod desk_windows;
 mod dispose_window;
 mod draw;
 mod find;
@@ -56,5 +58,6 @@ pub use desk_call::{
     Drawing, Found, MoveWindow, NewPicture, NewWindow, ScrollPicture, SendBehind, ShowHide,
     SizeWindow, WindowCall, WindowInfo, WindowPart, WindowReply, Zoom, ZoomWindow,
 };
+pub use desk_windows::DeskWindows;
 pub use forms::form_refusal;
 pub use manager::{DeskView, NotBegun, WindowManager};

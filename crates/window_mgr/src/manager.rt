@@ -1,11 +1,10 @@
 //! What a window manager keeps, and how it begins.
 ghost use Rattle.std.specs.Prelude.{◌≡◌, true, if◌then◌else◌, IfOk, IfErr, List, [], All, pos};
 ghost use Rattle.def_iface.specs.WindowSlots.{WindowSlot, IsFull};
-ghost use Rattle.window_mgr.specs.Begin.{IsEmptyDesk};
 ghost use Rattle.desk_ground.specs.Screens as screens;
 
+use crate::DeskWindows;
 use bit_map::BitMap;
-use def_iface::{Defined, TakenWindow};
 use desk_ground::{Ground, MenuBar, Titles, empty_ground};
 use scan_region::Region;
 use std::alloc::Global;
@@ -74,7 +73,7 @@ impl WindowManager {
         requires active { windows.active ≡ None }
         requires first { windows.next ≡ Some 1 }
         ensures begun { IfOk result (λ t. (slots : List WindowSlot) → All IsFull slots
-            → IsEmptyDesk ⟦<TakenWindow as Defined>⟧.loan width height bar font t slots) }
+            → ⟦<Self as DeskWindows>⟧.IsEmpty width height bar font t slots) }
         ensures in_range { IfOk result (λ t. screens.is_screen width height bar ≡ true) }
         ensures refused { IfErr result (λ e. (e.font ≡ font)
             × (e.refusal ≡ (if screens.is_screen width height bar then Refusal.NoMemory else Refusal.OutOfRange))) }

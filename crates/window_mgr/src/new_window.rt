@@ -1,23 +1,21 @@
 //! The call that makes a window.
-ghost use Rattle.std.specs.Prelude.{◌≡◌, ◌+◌, ◌++◌, ◌∷◌, [], true, map, if◌then◌else◌, Some, None, All, IfOk, IfErr};
+ghost use Rattle.std.specs.Prelude.{◌≡◌, ◌+◌, ◌++◌, ◌∷◌, [], true, map, if◌then◌else◌, Some, None, All, IfOk, IfErr, OnErr};
 ghost use Rattle.std.specs.Prelude.{MatchResult, length, vec_len};
 ghost use Rattle.tb_geom.specs.Rects.{in_plane};
 ghost use Rattle.def_iface.specs.WindowMeaning.{is_fitting};
 ghost use Rattle.desk_call.specs.declared.window.WindowCall.TheVariants.{New, NewFloating};
 ghost use Rattle.vis_update.specs.Records.{record_of};
 ghost use Rattle.vis_update.specs.Places.{is_placed};
-ghost use Rattle.window_mgr.specs.Records.{desk_of, state_of};
 ghost use Rattle.tb_geom.specs.Refusals.{first_refusal};
 ghost use Rattle.window_mgr.specs.Refused.{judged_refusals};
-ghost use Rattle.window_mgr.specs.Kept.{IsKept};
 ghost use Rattle.window_mgr.specs.Planned.{IsPlanWith, IsUnplanned, SameDesk, new_place, IsTicket, IsPlanned, IsAdded};
 ghost use Rattle.window_mgr.specs.Seats.{AreSeatsWith};
 ghost use Rattle.window_mgr.specs.Effects.{begins_highlighted, new_record};
 ghost use Rattle.window_mgr.specs.Step.{IsWindowStep};
-ghost use Rattle.window_mgr.specs.Whole.{IsWholeManager, IsSettled, LieThere};
+ghost use Rattle.window_mgr.specs.Whole.{IsSettled, LieThere};
 
-use crate::{NewWindow, WindowManager, WindowReply};
-use def_iface::{Defined, Stage, Stocked, TakenWindow, WindowStock};
+use crate::{DeskWindows, NewWindow, WindowManager, WindowReply};
+use def_iface::{Defined, Stage, TakenWindow, WindowStock};
 use draw_port::Picture;
 use std::alloc::{AllocError, Global};
 use tb_geom::{Point, Refusal};
@@ -52,13 +50,12 @@ impl WindowManager {
         floating: bool,
         stock: &mut WindowStock,
     ) -> Result<WindowReply, Refusal>
-        requires { IsWholeManager ⟦<TakenWindow as Defined>⟧.loan self.old
-            (⟦<WindowStock as Stocked>⟧.slots stock.old) }
-        ensures whole { IsWholeManager ⟦<TakenWindow as Defined>⟧.loan self.new
-            (⟦<WindowStock as Stocked>⟧.slots stock.new) }
+        requires { ⟦<Self as DeskWindows>⟧.IsWhole self.old stock.old }
+        ensures whole { ⟦<Self as DeskWindows>⟧.IsWhole self.new stock.new }
         ensures step { IsWindowStep (if floating then NewFloating window.now else New window.now) result
-            (state_of ⟦<TakenWindow as Defined>⟧.loan self.old (⟦<WindowStock as Stocked>⟧.slots stock.old))
-            (state_of ⟦<TakenWindow as Defined>⟧.loan self.new (⟦<WindowStock as Stocked>⟧.slots stock.new)) }
+            (⟦<Self as DeskWindows>⟧.state self.old stock.old)
+            (⟦<Self as DeskWindows>⟧.state self.new stock.new) }
+        ensures quiet { OnErr result (self.new.screen ≡ self.old.screen) }
     {
         match stock.take(window.kind.as_slice()) {
             Ok(taken) => match self.plan_window(window, floating, &taken) {
@@ -84,7 +81,7 @@ impl WindowManager {
         floating: bool,
         taken: &TakenWindow,
     ) -> Result<Addition, Refusal>
-        requires { IsKept ⟦<TakenWindow as Defined>⟧.loan self.old }
+        requires { ⟦<Self as DeskWindows>⟧.IsKept self.old }
         ensures same { SameDesk self.old self.new }
         ensures ok { let d = (⟦<TakenWindow as Defined>⟧.loan taken.now).definition in IfOk result (λ addition.
             (first_refusal (judged_refusals window.now (is_placed (Some d) window.now.place window.now.size)
@@ -109,7 +106,7 @@ impl WindowManager {
     /// Why a window is refused that no definition is left for.
     fn refusal_without(&self, window: &NewWindow<'_>) -> Refusal
         ensures { first_refusal (judged_refusals window.now (is_placed None window.now.place window.now.size)
-            (length (desk_of ⟦<TakenWindow as Defined>⟧.loan self.now []).windows) self.now.windows.next
+            (length (⟦<Self as DeskWindows>⟧.desk self.now []).windows) self.now.windows.next
             ++ (true, Refusal.NoDefinition) ∷ []) ≡ Some result }
     {
         match self.judge(window, is_placed_alone(window.place, window.size)) {
@@ -149,7 +146,7 @@ impl WindowManager {
         taken: &TakenWindow,
         touch: Touch,
     ) -> Result<Plan, AllocError>
-        requires kept { IsKept ⟦<TakenWindow as Defined>⟧.loan self.now }
+        requires kept { ⟦<Self as DeskWindows>⟧.IsKept self.now }
         requires placed { is_placed (Some (⟦<TakenWindow as Defined>⟧.loan taken.now).definition)
             window.now.place window.now.size ≡ true }
         requires number { self.now.windows.next ≡ Some touch.window }

@@ -1,16 +1,12 @@
 //! Calls, one by one.
-ghost use Rattle.std.specs.Prelude.{◌≡◌};
+ghost use Rattle.std.specs.Prelude.{◌≡◌, OnErr};
 ghost use Rattle.desk_call.specs.declared.window.WindowCall.TheVariants.{Info};
-ghost use Rattle.window_mgr.specs.AnySlots.{IsStepOverAnySlots};
-ghost use Rattle.window_mgr.specs.Kept.{IsKept};
-ghost use Rattle.window_mgr.specs.Records.{state_of};
 ghost use Rattle.window_mgr.specs.Step.{IsWindowStep};
-ghost use Rattle.window_mgr.specs.Whole.{IsWholeManager};
 ghost use Rattle.window_mgr.specs.Sparing.{IsSparingCall};
 
 use crate::tell::AskedRegion;
-use crate::{ShowHide, WindowCall, WindowInfo, WindowManager, WindowReply};
-use def_iface::{Defined, Stocked, TakenWindow, WindowStock};
+use crate::{DeskWindows, ShowHide, WindowCall, WindowInfo, WindowManager, WindowReply};
+use def_iface::{Defined, TakenWindow, WindowStock};
 use tb_geom::Refusal;
 
 impl WindowManager {
@@ -21,14 +17,13 @@ impl WindowManager {
         call: &WindowCall<'_>,
         stock: &mut WindowStock,
     ) -> Result<WindowReply, Refusal>
-        requires { IsWholeManager ⟦<TakenWindow as Defined>⟧.loan self.old
-            (⟦<WindowStock as Stocked>⟧.slots stock.old) }
-        ensures whole { IsWholeManager ⟦<TakenWindow as Defined>⟧.loan self.new
-            (⟦<WindowStock as Stocked>⟧.slots stock.new) }
+        requires { ⟦<Self as DeskWindows>⟧.IsWhole self.old stock.old }
+        ensures whole { ⟦<Self as DeskWindows>⟧.IsWhole self.new stock.new }
         ensures step { IsWindowStep call.now result
-            (state_of ⟦<TakenWindow as Defined>⟧.loan self.old (⟦<WindowStock as Stocked>⟧.slots stock.old))
-            (state_of ⟦<TakenWindow as Defined>⟧.loan self.new (⟦<WindowStock as Stocked>⟧.slots stock.new)) }
+            (⟦<Self as DeskWindows>⟧.state self.old stock.old)
+            (⟦<Self as DeskWindows>⟧.state self.new stock.new) }
         ensures sparing { IsSparingCall ⟦<TakenWindow as Defined>⟧.loan call.now self.old self.new }
+        ensures quiet { OnErr result (self.new.screen ≡ self.old.screen) }
     {
         match call {
             WindowCall::New(window) => self.new_window(window, false, stock),
@@ -71,8 +66,8 @@ impl WindowManager {
 
     /// Tells how a window stands.
     fn answer_info(&self, window: u64) -> Result<WindowReply, Refusal>
-        requires { IsKept ⟦<TakenWindow as Defined>⟧.loan self.now }
-        ensures { IsStepOverAnySlots ⟦<TakenWindow as Defined>⟧.loan (Info window) result self.now self.now }
+        requires { ⟦<Self as DeskWindows>⟧.IsKept self.now }
+        ensures { ⟦<Self as DeskWindows>⟧.LeavesState (IsWindowStep (Info window) result) self.now self.now }
     {
         let Some(at) = self.find(window) else {
             return Err(Refusal::NoSuchWindow);

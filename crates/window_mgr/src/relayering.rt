@@ -7,13 +7,11 @@ ghost use Rattle.def_iface.specs.WindowSlots.{WindowSlot};
 ghost use Rattle.window_list.specs.declared.layer.Layer.{Layer};
 ghost use Rattle.window_list.specs.Holders.{ArePartsApart};
 ghost use Rattle.window_mgr.specs.Edits.{IsWindowAt};
-ghost use Rattle.window_mgr.specs.Kept.{IsKept};
-ghost use Rattle.window_mgr.specs.Records.{state_of, state_showing};
-ghost use Rattle.window_mgr.specs.Whole.{IsWholeManager};
+ghost use Rattle.window_mgr.specs.Records.{state_showing};
 ghost use Rattle.window_mgr.specs.Relayered.{IsPartAt, MayHaveLayers, IsGainedAt, IsPlanOfLayers, AreLayersSet};
 ghost use Rattle.window_mgr.specs.Relayered.{AreLayersPut, HasUpdate, IsLayerDrawnWithin, IsLayerToggled};
 
-use crate::WindowManager;
+use crate::{DeskWindows, WindowManager};
 use bit_blit::fill;
 use bit_map::{Mode, Pattern};
 use def_iface::{Defined, TakenWindow};
@@ -36,7 +34,7 @@ impl WindowManager {
         relaid: &Relaid,
         afresh: Option<usize>,
     ) -> Result<Relaying, AllocError>
-        requires kept { IsKept ⟦<TakenWindow as Defined>⟧.loan self.now }
+        requires kept { ⟦<Self as DeskWindows>⟧.IsKept self.now }
         requires at { at < length self.now.windows.records.items }
         requires apart { ArePartsApart relaid.now.layers.layers }
         requires afresh { IfSome afresh (λ i. i < length relaid.now.layers.layers) }
@@ -57,18 +55,18 @@ impl WindowManager {
     /// be redrawn. Where the screen was right, and the layer shows outside of the rectangle what it showed, it is shown anew so. It
     /// takes no memory.
     pub fn show_layer<S: Showing>(&mut self, at: usize, index: usize, within: Rect, showing: &S)
-        requires kept { IsKept ⟦<TakenWindow as Defined>⟧.loan self.old }
+        requires kept { ⟦<Self as DeskWindows>⟧.IsKept self.old }
         requires at { at < length self.old.windows.records.items }
         requires index { (w : _) → IsWindowAt self.old.windows.records.items at w → index < length w.layers.layers }
         requires whole { S.is_whole showing.now }
         ensures { (w : _) → IsWindowAt self.old.windows.records.items at w
             → (l : Layer) → l ≡ slice_index_or w.layers.layers index l
             → (was : List ℕ → Part → PixelSet) (slots : List WindowSlot)
-            → IsWholeManager ⟦<TakenWindow as Defined>⟧.loan self.old slots
-            → IsWholeManager ⟦<TakenWindow as Defined>⟧.loan self.new slots
+            → ⟦<Self as DeskWindows>⟧.IsWholeOver self.old slots
+            → ⟦<Self as DeskWindows>⟧.IsWholeOver self.new slots
             × IsLayerDrawnWithin within w.serial l
-            (state_showing was (state_of ⟦<TakenWindow as Defined>⟧.loan self.old slots))
-            (state_showing (S.shows showing.now) (state_of ⟦<TakenWindow as Defined>⟧.loan self.new slots)) }
+            (state_showing was (⟦<Self as DeskWindows>⟧.state_over self.old slots))
+            (state_showing (S.shows showing.now) (⟦<Self as DeskWindows>⟧.state_over self.new slots)) }
     {
         let area = &self.areas[at];
         show_layer(
@@ -86,18 +84,18 @@ impl WindowManager {
     /// Inverts what the change of a list's selection does of the layer at this index of a window, on all visible pixels that the
     /// layer owns, also where they are to be redrawn. It takes no memory.
     pub fn toggle_layer<T: Toggling>(&mut self, at: usize, index: usize, toggling: &T)
-        requires kept { IsKept ⟦<TakenWindow as Defined>⟧.loan self.old }
+        requires kept { ⟦<Self as DeskWindows>⟧.IsKept self.old }
         requires at { at < length self.old.windows.records.items }
         requires index { (w : _) → IsWindowAt self.old.windows.records.items at w → index < length w.layers.layers }
         requires ready { T.is_ready toggling.now }
         ensures { (w : _) → IsWindowAt self.old.windows.records.items at w
             → (l : Layer) → l ≡ slice_index_or w.layers.layers index l
             → (was is : List ℕ → Part → PixelSet) (slots : List WindowSlot)
-            → IsWholeManager ⟦<TakenWindow as Defined>⟧.loan self.old slots
-            → IsWholeManager ⟦<TakenWindow as Defined>⟧.loan self.new slots
+            → ⟦<Self as DeskWindows>⟧.IsWholeOver self.old slots
+            → ⟦<Self as DeskWindows>⟧.IsWholeOver self.new slots
             × IsLayerToggled w.serial w.place l.part (T.toggles toggling.now)
-            (state_showing was (state_of ⟦<TakenWindow as Defined>⟧.loan self.old slots))
-            (state_showing is (state_of ⟦<TakenWindow as Defined>⟧.loan self.new slots)) }
+            (state_showing was (⟦<Self as DeskWindows>⟧.state_over self.old slots))
+            (state_showing is (⟦<Self as DeskWindows>⟧.state_over self.new slots)) }
     {
         let area = &self.areas[at];
         invert_layer(
@@ -120,7 +118,7 @@ impl WindowManager {
         afresh: Option<usize>,
         showing: &S,
     )
-        requires kept { IsKept ⟦<TakenWindow as Defined>⟧.loan self.old }
+        requires kept { ⟦<Self as DeskWindows>⟧.IsKept self.old }
         requires at { at < length self.old.windows.records.items }
         requires may { MayHaveLayers at self.old layers }
         requires afresh { IfSome afresh (λ i. i < length layers.layers) }
@@ -131,11 +129,11 @@ impl WindowManager {
         ensures set { (w : _) → IsWindowAt self.old.windows.records.items at w
             → (part : Option Part) → IsPartAt layers.layers afresh part
             → (was : List ℕ → Part → PixelSet) (slots : List WindowSlot)
-            → IsWholeManager ⟦<TakenWindow as Defined>⟧.loan self.old slots
-            → IsWholeManager ⟦<TakenWindow as Defined>⟧.loan self.new slots
+            → ⟦<Self as DeskWindows>⟧.IsWholeOver self.old slots
+            → ⟦<Self as DeskWindows>⟧.IsWholeOver self.new slots
             × AreLayersSet w.serial layers.layers part
-            (state_showing was (state_of ⟦<TakenWindow as Defined>⟧.loan self.old slots))
-            (state_showing (S.shows showing.now) (state_of ⟦<TakenWindow as Defined>⟧.loan self.new slots)) }
+            (state_showing was (⟦<Self as DeskWindows>⟧.state_over self.old slots))
+            (state_showing (S.shows showing.now) (⟦<Self as DeskWindows>⟧.state_over self.new slots)) }
     {
         self.windows.set_layers(at, layers);
         let origin = Point { h: 0, v: 0 };

@@ -1,21 +1,21 @@
 //! The calls that change which picture a window shows, and where.
-ghost use Rattle.std.specs.Prelude.{◌≡◌, true, false, IfNone, IfSome};
+ghost use Rattle.std.specs.Prelude.{◌≡◌, true, false, IfNone, IfSome, OnErr};
 ghost use Rattle.tb_geom.specs.Points.{plus};
 ghost use Rattle.tb_geom.specs.Rects.{in_plane};
 ghost use Rattle.desk_call.specs.declared.window.WindowCall.TheVariants as asks;
-ghost use Rattle.window_mgr.specs.AnySlots.{IsStepOverAnySlots};
-ghost use Rattle.window_mgr.specs.Kept.{IsKept};
+ghost use Rattle.window_mgr.specs.Step.{IsWindowStep};
 
-use crate::{NewPicture, ScrollPicture, WindowManager, WindowReply};
-use def_iface::{Defined, TakenWindow};
+use crate::{DeskWindows, NewPicture, ScrollPicture, WindowManager, WindowReply};
 use tb_geom::{Point, Refusal};
 
 impl WindowManager {
     /// Gives a window another picture, all of which is to be redrawn where it shows.
+    #[tactic(auto, using(crate::proofs::SameDeskLemmas::on_refusal))]
     pub(crate) fn set_picture(&mut self, new: &NewPicture<'_>) -> Result<WindowReply, Refusal>
-        requires { IsKept ⟦<TakenWindow as Defined>⟧.loan self.old }
-        ensures { IsStepOverAnySlots ⟦<TakenWindow as Defined>⟧.loan (asks.SetPicture new.now) result self.old
+        requires { ⟦<Self as DeskWindows>⟧.IsKept self.old }
+        ensures step { ⟦<Self as DeskWindows>⟧.LeavesState (IsWindowStep (asks.SetPicture new.now) result) self.old
             self.new }
+        ensures quiet { OnErr result (self.new.screen ≡ self.old.screen) }
     {
         let Some(at) = self.find(new.window) else {
             return Err(Refusal::NoSuchWindow);
@@ -36,8 +36,9 @@ impl WindowManager {
 
     /// Moves a window's picture in its content. What comes into sight of it is to be redrawn.
     pub(crate) fn scroll(&mut self, scroll: ScrollPicture) -> Result<WindowReply, Refusal>
-        requires { IsKept ⟦<TakenWindow as Defined>⟧.loan self.old }
-        ensures { IsStepOverAnySlots ⟦<TakenWindow as Defined>⟧.loan (asks.Scroll scroll) result self.old self.new }
+        requires { ⟦<Self as DeskWindows>⟧.IsKept self.old }
+        ensures step { ⟦<Self as DeskWindows>⟧.LeavesState (IsWindowStep (asks.Scroll scroll) result) self.old self.new }
+        ensures quiet { OnErr result (self.new.screen ≡ self.old.screen) }
     {
         let Some(at) = self.find(scroll.window) else {
             return Err(Refusal::NoSuchWindow);

@@ -1,9 +1,8 @@
 //! A scroll of a window's picture, planned and drawn. It moves no window, so it asks and changes nothing of the others.
 ghost use Rattle.std.specs.Prelude.{◌<◌, IfOk, length};
-ghost use Rattle.window_mgr.specs.Kept.{IsKept};
 ghost use Rattle.window_mgr.specs.Scrolls.{IsPlanOfScroll, IsScrollDrawn};
 
-use crate::WindowManager;
+use crate::{DeskWindows, WindowManager};
 use def_iface::{Defined, TakenWindow};
 use std::alloc::AllocError;
 use tb_geom::Point;
@@ -14,7 +13,7 @@ impl WindowManager {
     /// All that changes on the screen where the picture of the window at this index moves by so much in its content, and
     /// all growth.
     pub(crate) fn plan_scroll(&self, at: usize, by: Point) -> Result<Scrolled, AllocError>
-        requires kept { IsKept ⟦<TakenWindow as Defined>⟧.loan self.now }
+        requires kept { ⟦<Self as DeskWindows>⟧.IsKept self.now }
         requires at { at < length self.now.windows.records.items }
         ensures { IfOk result (IsPlanOfScroll ⟦<TakenWindow as Defined>⟧.loan at by self.now) }
     {

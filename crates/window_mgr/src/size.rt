@@ -1,17 +1,16 @@
 //! One window put elsewhere or given another size, and the call that does the second.
-ghost use Rattle.std.specs.Prelude.{◌≡◌, ◌<◌, None, length, map, All, vec_len};
+ghost use Rattle.std.specs.Prelude.{◌≡◌, ◌<◌, None, length, map, All, vec_len, OnErr};
 ghost use Rattle.desk_call.specs.declared.window.WindowCall.TheVariants as asks;
 ghost use Rattle.vis_update.specs.Records.{record_of};
-ghost use Rattle.window_mgr.specs.AnySlots.{IsStepOverAnySlots};
 ghost use Rattle.window_mgr.specs.Edits.{IsOnItsWay, IsWindowAt};
-ghost use Rattle.window_mgr.specs.Kept.{IsKept};
 ghost use Rattle.window_mgr.specs.Laying.{IsPlaceableAt, IsPlacementCommitted, IsLaidOverAnySlots};
 ghost use Rattle.window_mgr.specs.Whole.{IsSettled};
 ghost use Rattle.window_mgr.specs.Sparing.{Spares};
+ghost use Rattle.window_mgr.specs.Step.{IsWindowStep};
 
 use crate::arrange::{Activates, Edit, Rearrangement};
 use crate::standing::may_stand;
-use crate::{SizeWindow, WindowManager, WindowReply};
+use crate::{DeskWindows, SizeWindow, WindowManager, WindowReply};
 use def_iface::{Defined, TakenWindow};
 use tb_geom::{Point, Refusal};
 use vis_update::Plan;
@@ -21,9 +20,10 @@ impl WindowManager {
     /// Gives a window another size, and tells its definition.
     #[tactic(auto, using(crate::proofs::Sparing::spares_same))]
     pub(crate) fn size_window(&mut self, sized: SizeWindow) -> Result<WindowReply, Refusal>
-        requires { IsKept ⟦<TakenWindow as Defined>⟧.loan self.old }
-        ensures step { IsStepOverAnySlots ⟦<TakenWindow as Defined>⟧.loan (asks.Size sized) result self.old self.new }
+        requires { ⟦<Self as DeskWindows>⟧.IsKept self.old }
+        ensures step { ⟦<Self as DeskWindows>⟧.LeavesState (IsWindowStep (asks.Size sized) result) self.old self.new }
         ensures sparing { Spares ⟦<TakenWindow as Defined>⟧.loan sized.window None self.old self.new }
+        ensures quiet { OnErr result (self.new.screen ≡ self.old.screen) }
     {
         let Some(at) = self.find(sized.window) else {
             return Err(Refusal::NoSuchWindow);
@@ -49,13 +49,14 @@ impl WindowManager {
         placement: Placement,
         by: Option<Point>,
     ) -> Result<WindowReply, Refusal>
-        requires kept { IsKept ⟦<TakenWindow as Defined>⟧.loan self.old }
+        requires kept { ⟦<Self as DeskWindows>⟧.IsKept self.old }
         requires at { at < length self.old.windows.records.items }
         requires placeable { IsPlaceableAt ⟦<TakenWindow as Defined>⟧.loan at placement self.old.windows.records.items }
         requires way { IsOnItsWay at placement.place by self.old.windows.records.items }
         ensures step { IsLaidOverAnySlots ⟦<TakenWindow as Defined>⟧.loan at placement by result self.old self.new }
         ensures sparing { (w : _) → IsWindowAt self.old.windows.records.items at w
             → Spares ⟦<TakenWindow as Defined>⟧.loan w.serial by self.old self.new }
+        ensures quiet { OnErr result (self.new.screen ≡ self.old.screen) }
     {
         let mut edit = Edit::of(at, self.windows.at(at));
         edit.place = placement.place;

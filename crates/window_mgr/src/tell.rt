@@ -5,12 +5,10 @@ ghost use Rattle.tb_geom.specs.Points.{plus};
 ghost use Rattle.tb_geom.specs.Rects.{in_plane};
 ghost use Rattle.tb_geom.specs.Pixels.{holds};
 ghost use Rattle.scan_region.specs.Moves.{is_pixel_in_range};
-ghost use Rattle.window_mgr.specs.AnySlots.{IsStepOverAnySlots};
-ghost use Rattle.window_mgr.specs.Kept.{IsKept};
 ghost use Rattle.window_mgr.specs.Telling.{AreRegionBytes, IsNotTold, kept_region, asking};
+ghost use Rattle.window_mgr.specs.Step.{IsWindowStep};
 
-use crate::{WindowManager, WindowReply};
-use def_iface::{Defined, TakenWindow};
+use crate::{DeskWindows, WindowManager, WindowReply};
 use scan_region::Region;
 use std::alloc::Global;
 use tb_geom::{Point, Refusal};
@@ -33,8 +31,9 @@ impl WindowManager {
         window: u64,
         told: AskedRegion,
     ) -> Result<WindowReply, Refusal>
-        requires { IsKept ⟦<TakenWindow as Defined>⟧.loan self.old }
-        ensures { IsStepOverAnySlots ⟦<TakenWindow as Defined>⟧.loan (asking told window) result self.old self.new }
+        requires { ⟦<Self as DeskWindows>⟧.IsKept self.old }
+        ensures step { ⟦<Self as DeskWindows>⟧.LeavesState (IsWindowStep (asking told window) result) self.old self.new }
+        ensures quiet { self.new.screen ≡ self.old.screen }
     {
         let Some(at) = self.find(window) else {
             return Err(Refusal::NoSuchWindow);

@@ -5,12 +5,10 @@ ghost use Rattle.tb_geom.specs.Pixels.{holds};
 ghost use Rattle.vis_update.specs.Areas.{is_content_of, stale_in};
 ghost use Rattle.vis_update.specs.declared.area.Area.{Area};
 ghost use Rattle.window_mgr.specs.Edits.{IsWindowAt};
-ghost use Rattle.window_mgr.specs.Kept.{IsKept};
 ghost use Rattle.window_paint.specs.Kinds.{is_kind_there};
-ghost use Rattle.window_mgr.specs.Updating.{LeavesState, LeavesShowing, IsRemarked, IsRefreshed, IsUpdatePut, is_of_kind};
+ghost use Rattle.window_mgr.specs.Updating.{IsRemarked, IsRefreshed, IsUpdatePut, is_of_kind};
 
-use crate::WindowManager;
-use def_iface::{Defined, TakenWindow};
+use crate::{DeskWindows, WindowManager};
 use desk_call::LayerKind;
 use scan_region::Region;
 use tb_geom::Point;
@@ -40,12 +38,12 @@ impl WindowManager {
 
     /// Makes these pixels of a window's visible content its update region, and draws nothing.
     pub fn set_update(&mut self, at: usize, update: Region)
-        requires kept { IsKept ⟦<TakenWindow as Defined>⟧.loan self.old }
+        requires kept { ⟦<Self as DeskWindows>⟧.IsKept self.old }
         requires at { at < length self.old.windows.records.items }
         requires within { (a : Area) → a ≡ slice_index_or self.old.areas.items at a
             → (p : Point) → holds update p ≡ true → holds a.visible p ≡ true }
         ensures { (w : _) → IsWindowAt self.old.windows.records.items at w
-            → LeavesState ⟦<TakenWindow as Defined>⟧.loan (IsRemarked w.serial update) self.old self.new }
+            → ⟦<Self as DeskWindows>⟧.LeavesState (IsRemarked w.serial update) self.old self.new }
     {
         self.put_update(at, update);
     }
@@ -62,14 +60,14 @@ impl WindowManager {
     /// Draws what is to be redrawn of a window's layers of one kind, which is then no longer to be; what is left of the
     /// update region is given: what of it other layers have.
     pub fn serve_kind<S: Showing>(&mut self, at: usize, kind: LayerKind, rest: Region, layers: &S)
-        requires kept { IsKept ⟦<TakenWindow as Defined>⟧.loan self.old }
+        requires kept { ⟦<Self as DeskWindows>⟧.IsKept self.old }
         requires at { at < length self.old.windows.records.items }
         requires whole { S.is_whole layers.now }
         requires rest { (a : Area) → a ≡ slice_index_or self.old.areas.items at a
             → (w : _) → IsWindowAt self.old.windows.records.items at w
             → (p : Point) → holds rest p ≡ (holds a.update p && not (is_kind_there kind w p)) }
         ensures { (w : _) → IsWindowAt self.old.windows.records.items at w
-            → LeavesShowing ⟦<TakenWindow as Defined>⟧.loan (S.shows layers.now)
+            → ⟦<Self as DeskWindows>⟧.LeavesShowing (S.shows layers.now)
             (IsRefreshed (is_of_kind kind w.serial)) self.old self.new }
     {
         paint_kind(
@@ -85,11 +83,11 @@ impl WindowManager {
 
     /// Draws all that is to be redrawn of a window's content, of which nothing is then to be.
     pub fn serve_all<S: Showing>(&mut self, at: usize, layers: &S)
-        requires kept { IsKept ⟦<TakenWindow as Defined>⟧.loan self.old }
+        requires kept { ⟦<Self as DeskWindows>⟧.IsKept self.old }
         requires at { at < length self.old.windows.records.items }
         requires whole { S.is_whole layers.now }
         ensures { (w : _) → IsWindowAt self.old.windows.records.items at w
-            → LeavesShowing ⟦<TakenWindow as Defined>⟧.loan (S.shows layers.now) (IsRefreshed (is_content_of w.serial))
+            → ⟦<Self as DeskWindows>⟧.LeavesShowing (S.shows layers.now) (IsRefreshed (is_content_of w.serial))
             self.old self.new }
     {
         let stale = &self.areas[at].update;

@@ -1,15 +1,13 @@
 //! The call that zooms a window.
-ghost use Rattle.std.specs.Prelude.{◌≡◌, [], true, pos, ◌+ℤ◌, ◌-ℤ◌};
+ghost use Rattle.std.specs.Prelude.{◌≡◌, [], true, pos, ◌+ℤ◌, ◌-ℤ◌, OnErr};
 ghost use Rattle.desk_call.specs.declared.window.WindowCall.TheVariants as asks;
 ghost use Rattle.desk_ground.specs.Screens.{is_screen};
 ghost use Rattle.vis_update.specs.Records.{record_of};
-ghost use Rattle.window_mgr.specs.AnySlots.{IsStepOverAnySlots};
-ghost use Rattle.window_mgr.specs.Kept.{IsKept};
 ghost use Rattle.window_mgr.specs.Placings.{zoom_target};
-ghost use Rattle.window_mgr.specs.Records.{desk_of};
+ghost use Rattle.window_mgr.specs.Step.{IsWindowStep};
 
 use crate::standing::may_stand;
-use crate::{WindowManager, WindowReply, Zoom, ZoomWindow};
+use crate::{DeskWindows, WindowManager, WindowReply, Zoom, ZoomWindow};
 use def_iface::{Defined, Size, TakenWindow};
 use tb_geom::{Point, Rect, Refusal};
 use window_list::{Placement, UserState, Window, local};
@@ -17,8 +15,9 @@ use window_list::{Placement, UserState, Window, local};
 impl WindowManager {
     /// Zooms a window, and tells its definition. One that is zoomed so already stays.
     pub(crate) fn zoom_window(&mut self, zoom: ZoomWindow) -> Result<WindowReply, Refusal>
-        requires { IsKept ⟦<TakenWindow as Defined>⟧.loan self.old }
-        ensures { IsStepOverAnySlots ⟦<TakenWindow as Defined>⟧.loan (asks.Zoom zoom) result self.old self.new }
+        requires { ⟦<Self as DeskWindows>⟧.IsKept self.old }
+        ensures step { ⟦<Self as DeskWindows>⟧.LeavesState (IsWindowStep (asks.Zoom zoom) result) self.old self.new }
+        ensures quiet { OnErr result (self.new.screen ≡ self.old.screen) }
     {
         let Some(at) = self.find(zoom.window) else {
             return Err(Refusal::NoSuchWindow);
@@ -39,9 +38,9 @@ impl WindowManager {
 
     /// How a window lies once it is zoomed, or None where it is zoomed so already.
     fn zoom_target(&self, direction: Zoom, window: &Window) -> Option<Placement>
-        requires { IsKept ⟦<TakenWindow as Defined>⟧.loan self.now }
+        requires { ⟦<Self as DeskWindows>⟧.IsKept self.now }
         ensures { result ≡ zoom_target direction window.now.user_state
-            (desk_of ⟦<TakenWindow as Defined>⟧.loan self.now [])
+            (⟦<Self as DeskWindows>⟧.desk self.now [])
             (record_of ⟦<TakenWindow as Defined>⟧.loan window.now) }
     {
         match (direction, window.user_state) {

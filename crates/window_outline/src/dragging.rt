@@ -6,8 +6,6 @@ ghost use Rattle.desk_call.specs.declared.activity.Activity.TheVariants as opene
 ghost use Rattle.desk_call.specs.declared.outline.OutlineCall.TheVariants as asks;
 ghost use Rattle.desk_call.specs.Outlines.{IsOutlineKept};
 ghost use Rattle.window_mgr.specs.Finding.{record_with};
-ghost use Rattle.window_mgr.specs.Kept.{IsKept};
-ghost use Rattle.window_mgr.specs.Records.{desk_of};
 ghost use Rattle.window_outline.specs.Outlining.{begins, drag_lines, drop_of, in_gray, is_drag};
 ghost use Rattle.window_outline.specs.OutlineRefusals.{AreLines};
 ghost use Rattle.window_outline.specs.OutlineSteps.{IsOutlining};
@@ -15,14 +13,14 @@ ghost use Rattle.window_outline.specs.OutlineSteps.{IsOutlining};
 use crate::Outlining;
 use crate::lines::{NO_LINES, moved_lines};
 use crate::reading::{moved_place, window_of};
-use def_iface::{Defined, TakenWindow, frame_lines};
+use def_iface::frame_lines;
 use desk_call::{Activity, DragWindow, DraggedWindow, MoveWindow, OutlineReply, WindowPart};
 use tb_geom::{Point, Rect, Refusal};
-use window_mgr::WindowManager;
+use window_mgr::{DeskWindows, WindowManager};
 
 /// Whether the point lies in the gray region: on the screen, below the rows of the menu bar.
 pub(crate) fn is_in_gray(windows: &WindowManager, point: Point) -> bool
-    ensures { result ≡ in_gray (desk_of ⟦<TakenWindow as Defined>⟧.loan windows.now []) point }
+    ensures { result ≡ in_gray (⟦<WindowManager as DeskWindows>⟧.desk windows.now []) point }
 {
     windows.screen().bounds().contains(point) && !(point.v < windows.parts().bar)
 }
@@ -30,10 +28,10 @@ pub(crate) fn is_in_gray(windows: &WindowManager, point: Point) -> bool
 /// The move by which a drag ends where the mouse button is released at this point, which lies in the range of coordinates: the
 /// window goes the way that the mouse came, and is selected.
 pub(crate) fn drop_of(windows: &WindowManager, dragged: DraggedWindow, point: Point) -> MoveWindow
-    requires kept { IsKept ⟦<TakenWindow as Defined>⟧.loan windows.now }
+    requires kept { ⟦<WindowManager as DeskWindows>⟧.IsKept windows.now }
     requires outline { IsOutlineKept (opened.Dragging dragged) }
     requires point { in_plane point ≡ true }
-    ensures { result ≡ drop_of dragged point (desk_of ⟦<TakenWindow as Defined>⟧.loan windows.now []) }
+    ensures { result ≡ drop_of dragged point (⟦<WindowManager as DeskWindows>⟧.desk windows.now []) }
 {
     let place = match window_of(windows, dragged.window) {
         Some(window) => window.place,
@@ -52,10 +50,10 @@ pub(crate) fn begin_drag(
     activity: Activity,
     pressed: DragWindow,
 ) -> Result<Outlining, Refusal>
-    requires kept { IsKept ⟦<TakenWindow as Defined>⟧.loan windows.now }
+    requires kept { ⟦<WindowManager as DeskWindows>⟧.IsKept windows.now }
     requires outline { IsOutlineKept activity }
     ensures step { IsOutlining (asks.Drag pressed) activity result
-        (desk_of ⟦<TakenWindow as Defined>⟧.loan windows.now []) }
+        (⟦<WindowManager as DeskWindows>⟧.desk windows.now []) }
     ensures outline { IfOk result (λ o. IsOutlineKept o.activity) }
 {
     let Some(_) = window_of(windows, pressed.window) else {
@@ -84,10 +82,10 @@ pub(crate) fn step_drag(
     dragged: DraggedWindow,
     point: Point,
 ) -> Result<Outlining, Refusal>
-    requires kept { IsKept ⟦<TakenWindow as Defined>⟧.loan windows.now }
+    requires kept { ⟦<WindowManager as DeskWindows>⟧.IsKept windows.now }
     requires outline { IsOutlineKept (opened.Dragging dragged) }
     ensures step { IsOutlining (asks.StepDrag point) (opened.Dragging dragged) result
-        (desk_of ⟦<TakenWindow as Defined>⟧.loan windows.now []) }
+        (⟦<WindowManager as DeskWindows>⟧.desk windows.now []) }
     ensures outline { IfOk result (λ o. IsOutlineKept o.activity) }
 {
     if !point.is_in_range() {
@@ -111,7 +109,7 @@ pub(crate) fn end_drag(
     point: Point,
 ) -> Result<Outlining, Refusal>
     ensures step { IsOutlining (asks.EndDrag point) activity result
-        (desk_of ⟦<TakenWindow as Defined>⟧.loan windows.now []) }
+        (⟦<WindowManager as DeskWindows>⟧.desk windows.now []) }
     ensures outline { IfOk result (λ o. IsOutlineKept o.activity) }
 {
     if !point.is_in_range() {
@@ -126,10 +124,10 @@ pub(crate) fn end_drag(
 /// Whether FindWindow answers the drag region of the window where the mouse button was pressed. OutOfRange where that point
 /// is out of range.
 fn is_pressed(windows: &WindowManager, pressed: DragWindow) -> Result<bool, Refusal>
-    requires { IsKept ⟦<TakenWindow as Defined>⟧.loan windows.now }
+    requires { ⟦<WindowManager as DeskWindows>⟧.IsKept windows.now }
     ensures { MatchResult result
         (λ is. (in_plane pressed.point ≡ true) × (is ≡ begins (asks.Drag pressed)
-        (desk_of ⟦<TakenWindow as Defined>⟧.loan windows.now [])))
+        (⟦<WindowManager as DeskWindows>⟧.desk windows.now [])))
         (λ e. (in_plane pressed.point ≡ false) × (e ≡ Refusal.OutOfRange)) }
 {
     let found = windows.find_window(pressed.point)?;
@@ -154,10 +152,10 @@ fn drag_lines(
     from: Point,
     to: Point,
 ) -> Result<[Rect; 8], Refusal>
-    requires kept { IsKept ⟦<TakenWindow as Defined>⟧.loan windows.now }
+    requires kept { ⟦<WindowManager as DeskWindows>⟧.IsKept windows.now }
     requires from { in_plane from ≡ true }
     requires to { in_plane to ≡ true }
-    ensures lines { let desk = desk_of ⟦<TakenWindow as Defined>⟧.loan windows.now [] in
+    ensures lines { let desk = ⟦<WindowManager as DeskWindows>⟧.desk windows.now [] in
         AreLines (drag_lines desk (record_with serial desk.windows) from to) result }
     ensures apart { IfOk result AreApart }
 {

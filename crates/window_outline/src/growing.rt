@@ -8,8 +8,6 @@ ghost use Rattle.desk_call.specs.declared.activity.Activity.TheVariants as opene
 ghost use Rattle.desk_call.specs.declared.outline.OutlineCall.TheVariants as asks;
 ghost use Rattle.desk_call.specs.Outlines.{IsOutlineKept, are_limits};
 ghost use Rattle.window_mgr.specs.Finding.{record_with};
-ghost use Rattle.window_mgr.specs.Kept.{IsKept};
-ghost use Rattle.window_mgr.specs.Records.{desk_of};
 ghost use Rattle.window_outline.specs.Outlining.{begins, clamped, grow_lines, grown, grown_size, is_grow, other_size, same_size};
 ghost use Rattle.window_outline.specs.OutlineRefusals.{AreLines};
 ghost use Rattle.window_outline.specs.OutlineSteps.{IsOutlining};
@@ -17,10 +15,10 @@ ghost use Rattle.window_outline.specs.OutlineSteps.{IsOutlining};
 use crate::Outlining;
 use crate::lines::{NO_LINES, moved_lines};
 use crate::reading::{moved_number, window_of};
-use def_iface::{Defined, Size, TakenWindow};
+use def_iface::Size;
 use desk_call::{Activity, GrowWindow, GrownWindow, OutlineReply, SizeLimits, WindowPart};
 use tb_geom::{Point, Rect, Refusal};
-use window_mgr::WindowManager;
+use window_mgr::{DeskWindows, WindowManager};
 
 /// Begins to grow a window, where the mouse button was pressed in its grow box.
 pub(crate) fn begin_grow(
@@ -28,10 +26,10 @@ pub(crate) fn begin_grow(
     activity: Activity,
     pressed: GrowWindow,
 ) -> Result<Outlining, Refusal>
-    requires kept { IsKept ⟦<TakenWindow as Defined>⟧.loan windows.now }
+    requires kept { ⟦<WindowManager as DeskWindows>⟧.IsKept windows.now }
     requires outline { IsOutlineKept activity }
     ensures step { IsOutlining (asks.Grow pressed) activity result
-        (desk_of ⟦<TakenWindow as Defined>⟧.loan windows.now []) }
+        (⟦<WindowManager as DeskWindows>⟧.desk windows.now []) }
     ensures outline { IfOk result (λ o. IsOutlineKept o.activity) }
 {
     let Some(_) = window_of(windows, pressed.window) else {
@@ -67,10 +65,10 @@ pub(crate) fn step_grow(
     grown: GrownWindow,
     point: Point,
 ) -> Result<Outlining, Refusal>
-    requires kept { IsKept ⟦<TakenWindow as Defined>⟧.loan windows.now }
+    requires kept { ⟦<WindowManager as DeskWindows>⟧.IsKept windows.now }
     requires outline { IsOutlineKept (opened.Growing grown) }
     ensures step { IsOutlining (asks.StepGrow point) (opened.Growing grown) result
-        (desk_of ⟦<TakenWindow as Defined>⟧.loan windows.now []) }
+        (⟦<WindowManager as DeskWindows>⟧.desk windows.now []) }
     ensures outline { IfOk result (λ o. IsOutlineKept o.activity) }
 {
     if !point.is_in_range() {
@@ -94,10 +92,10 @@ pub(crate) fn end_grow(
     grown: GrownWindow,
     point: Point,
 ) -> Result<Outlining, Refusal>
-    requires kept { IsKept ⟦<TakenWindow as Defined>⟧.loan windows.now }
+    requires kept { ⟦<WindowManager as DeskWindows>⟧.IsKept windows.now }
     requires outline { IsOutlineKept (opened.Growing grown) }
     ensures step { IsOutlining (asks.EndGrow point) (opened.Growing grown) result
-        (desk_of ⟦<TakenWindow as Defined>⟧.loan windows.now []) }
+        (⟦<WindowManager as DeskWindows>⟧.desk windows.now []) }
     ensures outline { IfOk result (λ o. IsOutlineKept o.activity) }
 {
     if !point.is_in_range() {
@@ -113,10 +111,10 @@ pub(crate) fn end_grow(
 /// Whether FindWindow answers the grow box of the window where the mouse button was pressed. OutOfRange where that point is
 /// out of range, or the limits are none.
 fn is_pressed(windows: &WindowManager, pressed: GrowWindow) -> Result<bool, Refusal>
-    requires { IsKept ⟦<TakenWindow as Defined>⟧.loan windows.now }
+    requires { ⟦<WindowManager as DeskWindows>⟧.IsKept windows.now }
     ensures { MatchResult result
         (λ is. ((in_plane pressed.point && are_limits pressed.limits) ≡ true)
-        × (is ≡ begins (asks.Grow pressed) (desk_of ⟦<TakenWindow as Defined>⟧.loan windows.now [])))
+        × (is ≡ begins (asks.Grow pressed) (⟦<WindowManager as DeskWindows>⟧.desk windows.now [])))
         (λ e. ((in_plane pressed.point && are_limits pressed.limits) ≡ false) × (e ≡ Refusal.OutOfRange)) }
 {
     let found = windows.find_window(pressed.point)?;
@@ -154,11 +152,11 @@ fn grow_lines(
     from: Point,
     to: Point,
 ) -> Result<[Rect; 8], Refusal>
-    requires kept { IsKept ⟦<TakenWindow as Defined>⟧.loan windows.now }
+    requires kept { ⟦<WindowManager as DeskWindows>⟧.IsKept windows.now }
     requires limits { are_limits limits ≡ true }
     requires from { in_plane from ≡ true }
     requires to { in_plane to ≡ true }
-    ensures lines { let desk = desk_of ⟦<TakenWindow as Defined>⟧.loan windows.now [] in
+    ensures lines { let desk = ⟦<WindowManager as DeskWindows>⟧.desk windows.now [] in
         AreLines (grow_lines limits (record_with serial desk.windows) from to) result }
     ensures apart { IfOk result AreApart }
 {
@@ -171,10 +169,10 @@ fn grow_lines(
 
 /// The size that this window is grown to with the mouse at this point, or 0 by 0 where there is no window.
 fn grown_size(windows: &WindowManager, growth: GrownWindow, to: Point) -> Size
-    requires kept { IsKept ⟦<TakenWindow as Defined>⟧.loan windows.now }
+    requires kept { ⟦<WindowManager as DeskWindows>⟧.IsKept windows.now }
     requires outline { IsOutlineKept (opened.Growing growth) }
     requires to { in_plane to ≡ true }
-    ensures { let desk = desk_of ⟦<TakenWindow as Defined>⟧.loan windows.now [] in
+    ensures { let desk = ⟦<WindowManager as DeskWindows>⟧.desk windows.now [] in
         result ≡ grown_size growth.limits (record_with growth.window desk.windows) growth.from to }
 {
     match window_of(windows, growth.window) {
@@ -185,8 +183,8 @@ fn grown_size(windows: &WindowManager, growth: GrownWindow, to: Point) -> Size
 
 /// The size, or 0 by 0 where it is that of the window of this serial, or there is none.
 fn other_size(windows: &WindowManager, serial: u64, size: Size) -> Size
-    requires { IsKept ⟦<TakenWindow as Defined>⟧.loan windows.now }
-    ensures { let desk = desk_of ⟦<TakenWindow as Defined>⟧.loan windows.now [] in
+    requires { ⟦<WindowManager as DeskWindows>⟧.IsKept windows.now }
+    ensures { let desk = ⟦<WindowManager as DeskWindows>⟧.desk windows.now [] in
         result ≡ other_size (record_with serial desk.windows) size }
 {
     match window_of(windows, serial) {

@@ -3,7 +3,8 @@
 //! DragWindow and GrowWindow (*Inside Macintosh* I, "The Window Manager") follow the mouse until its button is released. Here
 //! each is open between its begin and its end (`desk_call::Activity`), which holds the outline that is shown: eight lines at
 //! most on the screen, of which no two share a pixel. `outlined_by` reads the windows and says for a call what it answers and
-//! what is open then; it changes nothing and takes no memory. Who asks has the outline drawn.
+//! what is open then; it changes nothing and takes no memory. `show_outline` then shows what is open on the map in front of the
+//! windows' screen (`overlay`), over the base image.
 //!
 //! The outline of a drag is the outermost pixels of the box of the window's structure, moved by the way that the mouse has
 //! come, and is shown wherever that is in the gray region, the screen below the menu bar. There the drag ends with a move
@@ -18,6 +19,8 @@ mod letting_go;
 mod lines;
 mod outlining;
 mod reading;
+mod showing;
 
 pub use letting_go::let_go;
 pub use outlining::{Outlining, outlined_by};
+pub use showing::show_outline;

@@ -2,16 +2,13 @@
 ghost use Rattle.std.specs.Prelude.{◌≡◌, IfOk, None, []};
 ghost use Rattle.desk_call.specs.Gates.{gate, outline_standing};
 ghost use Rattle.desk_call.specs.Outlines.{IsOutlineKept};
-ghost use Rattle.window_mgr.specs.Kept.{IsKept};
-ghost use Rattle.window_mgr.specs.Records.{desk_of};
 ghost use Rattle.window_outline.specs.OutlineSteps.{IsOutlining};
 
 use crate::dragging::{begin_drag, end_drag, step_drag};
 use crate::growing::{begin_grow, end_grow, step_grow};
-use def_iface::{Defined, TakenWindow};
 use desk_call::{Activity, OutlineCall, OutlineReply};
 use tb_geom::Refusal;
-use window_mgr::WindowManager;
+use window_mgr::{DeskWindows, WindowManager};
 
 /// What came of a call about an outline.
 #[derive(Clone, Copy)]
@@ -29,10 +26,10 @@ pub fn outlined_by(
     activity: Activity,
     call: &OutlineCall,
 ) -> Result<Outlining, Refusal>
-    requires kept { IsKept ⟦<TakenWindow as Defined>⟧.loan windows.now }
+    requires kept { ⟦<WindowManager as DeskWindows>⟧.IsKept windows.now }
     requires admitted { gate activity (outline_standing call.now) ≡ None }
     requires outline { IsOutlineKept activity }
-    ensures step { IsOutlining call.now activity result (desk_of ⟦<TakenWindow as Defined>⟧.loan windows.now []) }
+    ensures step { IsOutlining call.now activity result (⟦<WindowManager as DeskWindows>⟧.desk windows.now []) }
     ensures outline { IfOk result (λ o. IsOutlineKept o.activity) }
 {
     match (call, activity) {

@@ -4,17 +4,16 @@ ghost use Rattle.tb_geom.specs.Points.{plus, minus};
 ghost use Rattle.tb_geom.specs.Rects.{in_plane, is_coordinate};
 ghost use Rattle.vis_update.specs.Records.{record_of};
 ghost use Rattle.window_mgr.specs.Finding.{record_with};
-ghost use Rattle.window_mgr.specs.Kept.{IsKept};
 ghost use Rattle.window_mgr.specs.Whole.{IsSettled};
 
 use def_iface::{Defined, TakenWindow};
 use tb_geom::Point;
 use window_list::Window;
-use window_mgr::WindowManager;
+use window_mgr::{DeskWindows, WindowManager};
 
 /// The window of this serial.
 pub(crate) fn window_of(windows: &WindowManager, serial: u64) -> Option<&Window>
-    requires { IsKept ⟦<TakenWindow as Defined>⟧.loan windows.now }
+    requires { ⟦<WindowManager as DeskWindows>⟧.IsKept windows.now }
     ensures found { MatchOption result
         (record_with serial (map (record_of ⟦<TakenWindow as Defined>⟧.loan) windows.now.windows.records.items) ≡ None)
         (λ w. record_with serial (map (record_of ⟦<TakenWindow as Defined>⟧.loan) windows.now.windows.records.items)

@@ -19,8 +19,8 @@ use Rattle.desk_call.specs.declared.update.UpdateCall.{UpdateCall}
 use Rattle.desk_call.specs.declared.update.UpdateCall.TheVariants as asks
 use Rattle.desk_call.specs.declared.window.WindowReply.{WindowReply}
 use Rattle.desk_call.specs.declared.window.WindowReply.TheVariants.{Done}
-use Rattle.desk_call.specs.declared.window.WindowCall.{WindowCall}
-use Rattle.desk_call.specs.declared.window.WindowCall.TheVariants.{VisibleRegion, UpdateRegion}
+use Rattle.desk_call.specs.declared.nature.Asked.{Asked}
+use Rattle.desk_call.specs.declared.nature.Asked.TheVariants.{VisibleRegion, UpdateRegion}
 use Rattle.window_list.specs.declared.window.Window.{Window}
 use Rattle.desk_layers.specs.declared.part.Part.{Part}
 use Rattle.desk_layers.specs.Owner.{Owner, owner}
@@ -41,7 +41,7 @@ use Rattle.window_mgr.proofs.Showing.{update_showing}
 use Rattle.window_mgr.proofs.UpdateSteps.{stays_refreshed}
 use Rattle.window_mgr.proofs.EditSeats.{there_is}
 use Rattle.window_mgr.proofs.TellLemmas as telling
-use Rattle.window_mgr.specs.DeskStates.{Opened, narrowed, desk_with}
+use Rattle.window_mgr.specs.DeskStates.{Opened, narrowed_to, desk_with, LeavesDeskShowing}
 use Rattle.window_update.specs.declared.choices.Choices.{Choices}
 use Rattle.window_update.specs.declared.choices.Kinds.{Kinds}
 use Rattle.window_update.specs.declared.updates.Updates.{Updates}
@@ -50,26 +50,26 @@ use Rattle.window_update.specs.WholeUpdates.{IsWholeUpdates}
 use Rattle.window_update.proofs.OpenLemmas.{choices_left}
 use Rattle.window_update.proofs.Sides.{begun_whole}
 use Rattle.window_update.proofs.ChoiceLemmas.{kind_chosen}
-use Rattle.window_update.specs.UpdateSteps.{AreDrawn, IsUpdateStep, IsUpdateStepOverAnySlots}
+use Rattle.window_update.specs.UpdateSteps.{AreDrawn, IsUpdateStep}
 
 -- a region that is not written is not told
 pub not_told : (region : Pixels) (e : Refusal) → IsUnwritten region e → (set : PixelSet) → ((p : Point) → holds region p ≡ set p) → IsNotTold set e
 not_told region e (inl (is, long)) set same = inl (is, (region, same, long))
 not_told region e (inr (is, written)) set same = inr (is, (region, same, written))
 
--- what a call is told of the window whose update is open
-pub narrowed_visible : (call : WindowCall) (activity : Activity) (begun : PixelSet) (o w : ℕ) → activity ≡ Updating o → w ≡ o → call ≡ VisibleRegion w → narrowed call activity begun ≡ Some begun
-narrowed_visible call activity begun o w is same asks =
-    (λ i. narrowed (asks i) (is i) begun) ∙ ap (λ b. if b then Some begun else None) (ap (λ n. o == n) same ∙ same_number o)
+-- what is told of the window whose update is open
+pub narrowed_visible : (asks : Asked) (activity : Activity) (begun : PixelSet) (o w : ℕ) → activity ≡ Updating o → w ≡ o → asks ≡ VisibleRegion w → narrowed_to asks activity begun ≡ Some begun
+narrowed_visible asks activity begun o w is same asked =
+    (λ i. narrowed_to (asked i) (is i) begun) ∙ ap (λ b. if b then Some begun else None) (ap (λ n. o == n) same ∙ same_number o)
 
-pub narrowed_update : (call : WindowCall) (activity : Activity) (begun : PixelSet) (o w : ℕ) → activity ≡ Updating o → w ≡ o → call ≡ UpdateRegion w → narrowed call activity begun ≡ Some (λ p. false)
-narrowed_update call activity begun o w is same asks =
-    (λ i. narrowed (asks i) (is i) begun) ∙ ap (λ b. if b then Some (λ p. false) else None) (ap (λ n. o == n) same ∙ same_number o)
+pub narrowed_update : (asks : Asked) (activity : Activity) (begun : PixelSet) (o w : ℕ) → activity ≡ Updating o → w ≡ o → asks ≡ UpdateRegion w → narrowed_to asks activity begun ≡ Some (λ p. false)
+narrowed_update asks activity begun o w is same asked =
+    (λ i. narrowed_to (asked i) (is i) begun) ∙ ap (λ b. if b then Some (λ p. false) else None) (ap (λ n. o == n) same ∙ same_number o)
 
 -- the step of a call is that of the call that it is
 pub of_call : {V : Type 0} {H : V → Type 0} (loan : TakenBox V H → WindowLoan) (shows : List ℕ → Part → PixelSet) (t new : WindowManager V H) (u after : Opened) (call other : UpdateCall) (result : Result WindowReply Refusal) → call ≡ other
-    → IsUpdateStepOverAnySlots loan shows other result t u new after → IsUpdateStepOverAnySlots loan shows call result t u new after
-of_call loan shows t new u after call other result is step = subst (λ k. IsUpdateStepOverAnySlots loan shows k result t u new after) (sym is) step
+    → LeavesDeskShowing loan shows (IsUpdateStep other result) t u new after → LeavesDeskShowing loan shows (IsUpdateStep call result) t u new after
+of_call loan shows t new u after call other result is step = subst (λ k. LeavesDeskShowing loan shows (IsUpdateStep k result) t u new after) (sym is) step
 
 -- ---- an update begun and drawn
 
@@ -91,13 +91,13 @@ module _ {V : Type 0} {H : V → Type 0} (loan : TakenBox V H → WindowLoan) (s
   free slots = ap (λ (o : Option WindowRecord). first_refusal ((is_none o, NoSuchWindow) ∷ [])) found
 
   -- but want of memory
-  pub no_memory : (u : Opened) → IsUpdateStepOverAnySlots loan shows (asks.Begin s) (Err NoMemory) t u t u
+  pub no_memory : (u : Opened) → LeavesDeskShowing loan shows (IsUpdateStep (asks.Begin s) (Err NoMemory)) t u t u
   no_memory u slots whole = (whole, (inr (free slots, (refl, refl)), record { windows = record { desk = refl; stale = λ p on. refl; image = λ p on. refl }; activity = refl; begun = refl }))
 
   -- its update is begun by its update region, as the window sees it
   pub is_begun : (u new : Opened) (region : Pixels) (w : Window V H) (a : Area) → IsWindowAt t.windows.records.items at w → a ≡ slice_index_or t.areas.items at a
       → ((p : Point) → holds region p ≡ holds a.update (plus p w.place)) → new ≡ record { activity = Updating s; begun = λ p. holds region p }
-      → IsUpdateStepOverAnySlots loan shows (asks.Begin s) (Ok Done) t u t new
+      → LeavesDeskShowing loan shows (IsUpdateStep (asks.Begin s) (Ok Done)) t u t new
   is_begun u new region w a w_is a_is seen is_open slots whole = (
     whole,
     (
@@ -136,7 +136,7 @@ module _ {V : Type 0} {H : V → Type 0} (loan : TakenBox V H → WindowLoan) (s
       (choices_left loan shows t kept new kind s u.choices c (whole.choices s refl) lacks counted others leaves)
 
   -- the window is served where all its content was drawn, once no update is open
-  pub served : (new : WindowManager V H) → LeavesShowing loan shows (IsRefreshed (is_content_of s)) t new → (u after : Opened) (result : Result WindowReply Refusal) → after.activity ≡ Idle → result ≡ Ok Done → IsUpdateStepOverAnySlots loan shows (asks.Serve s) result t u new after
+  pub served : (new : WindowManager V H) → LeavesShowing loan shows (IsRefreshed (is_content_of s)) t new → (u after : Opened) (result : Result WindowReply Refusal) → after.activity ≡ Idle → result ≡ Ok Done → LeavesDeskShowing loan shows (IsUpdateStep (asks.Serve s) result) t u new after
   served new drawn u after result idle done slots whole =
       let left = drawn slots whole in
       (left.0, subst (λ r. IsUpdateStep (asks.Serve s) r (desk_with u (was slots)) (desk_with after (state_showing shows (state_of loan new slots)))) (sym done) (free slots, (refl, (idle, left.1))))
@@ -147,7 +147,7 @@ open_whole loan t a b u same whole = subst (λ k. IsWholeUpdates loan k t u) sam
 
 -- layers were drawn
 pub are_drawn : {V : Type 0} {H : V → Type 0} (loan : TakenBox V H → WindowLoan) (shows : List ℕ → Part → PixelSet) (t : WindowManager V H) (kept : IsKept loan t) (d : LayerDraw) (at : ℕ) → StandsAt t.windows.records.items d.window at → (u : Opened) (new : WindowManager V H)
-    → LeavesShowing loan shows (AreDrawn d.layers d.window) t new → IsUpdateStepOverAnySlots loan shows (asks.Draw d) (Ok Done) t u new u
+    → LeavesShowing loan shows (AreDrawn d.layers d.window) t new → LeavesDeskShowing loan shows (IsUpdateStep (asks.Draw d) (Ok Done)) t u new u
 are_drawn loan shows t kept d at stands u new leaves slots whole =
     let left = leaves slots whole in
     (left.0, (free loan shows t kept d.window at stands slots, (refl, (record { activity = refl; begun = refl }, left.1))))

@@ -38,27 +38,27 @@ use Rattle.window_mgr.proofs.UpdateSteps.{added_is_changed, taken_is_changed, re
 use Rattle.window_update.specs.declared.marking.Verdict.{Verdict}
 use Rattle.window_update.specs.declared.marking.Verdict.TheVariants.{Stale, Right}
 use Rattle.window_update.specs.declared.updates.Updates.{Updates}
-use Rattle.window_mgr.specs.DeskStates.{Opened, DeskState, LeavesDesk, desk_with}
+use Rattle.window_mgr.specs.DeskStates.{Opened, DeskState, LeavesDesk, desk_with, LeavesDeskShowing}
 use Rattle.window_paint.specs.White.{all_white}
 use Rattle.window_update.specs.Marks.{marked_by, IsMarkedBy}
 use Rattle.window_update.specs.Rightness.{IsJudgement}
 use Rattle.window_update.specs.Sets.{IsAreaOf, marked_in, on_place}
 use Rattle.window_update.specs.WholeUpdates.{opened}
 use Rattle.window_update.specs.UpdateRefusals.{IsAreaRefusal, IsUpdateRefusal, may_update_grow}
-use Rattle.window_update.specs.UpdateSteps.{adding, taking, IsAreaMarked, IsUpdateEffect, IsUpdateRefused, IsUpdateStep, IsUpdateStepOverAnySlots}
+use Rattle.window_update.specs.UpdateSteps.{adding, taking, IsAreaMarked, IsUpdateEffect, IsUpdateRefused, IsUpdateStep}
 use Rattle.window_update.proofs.MarkLemmas.{its_area}
 
 -- a call that is refused and leaves all as it was
 pub is_refused : {V : Type 0} {H : V → Type 0} (loan : TakenBox V H → WindowLoan) (shows : List ℕ → Part → PixelSet) (t : WindowManager V H) (u : Opened) (call : UpdateCall) (e : Refusal)
-    → ((slots : List WindowSlot) → IsUpdateRefused call e (state_showing shows (state_of loan t slots))) → IsUpdateStepOverAnySlots loan shows call (Err e) t u t u
+    → ((slots : List WindowSlot) → IsUpdateRefused call e (state_showing shows (state_of loan t slots))) → LeavesDeskShowing loan shows (IsUpdateStep call (Err e)) t u t u
 is_refused loan shows t u call e refused slots whole =
     (whole, (refused slots, record { windows = record { desk = refl; stale = λ p on. refl; image = λ p on. refl }; activity = refl; begun = refl }))
 
 -- so does one for which there is no memory
 pub short_of_memory : {V : Type 0} {H : V → Type 0} (loan : TakenBox V H → WindowLoan) (shows : List ℕ → Part → PixelSet) (t new : WindowManager V H) (u : Opened) (call : UpdateCall) (e : Refusal) → new ≡ t
-    → ((slots : List WindowSlot) → IsUpdateRefusal call (state_showing shows (state_of loan t slots)) None × ((may_update_grow call ≡ true) × (e ≡ NoMemory))) → IsUpdateStepOverAnySlots loan shows call (Err e) t u new u
+    → ((slots : List WindowSlot) → IsUpdateRefusal call (state_showing shows (state_of loan t slots)) None × ((may_update_grow call ≡ true) × (e ≡ NoMemory))) → LeavesDeskShowing loan shows (IsUpdateStep call (Err e)) t u new u
 short_of_memory loan shows t new u call e same free =
-    subst (λ n. IsUpdateStepOverAnySlots loan shows call (Err e) t u n u) (sym same) (is_refused loan shows t u call e (λ slots. inr (free slots)))
+    subst (λ n. LeavesDeskShowing loan shows (IsUpdateStep call (Err e)) t u n u) (sym same) (is_refused loan shows t u call e (λ slots. inr (free slots)))
 
 -- ---- marks
 
@@ -156,7 +156,7 @@ module _ {V : Type 0} {H : V → Type 0} (loan : TakenBox V H → WindowLoan) (s
   module _ (new : WindowManager V H) (u : Opened) where
     -- the area was marked, or there was no memory for it
     pub is_marked : (verdict : Verdict) → ((slots : List WindowSlot) → IsUpdateRefusal (marking verdict m) (was slots) None) → at < length t.areas.items → (result : Result WindowReply Refusal) → IsMarkedBy loan verdict at m.area result t new
-        → IsUpdateStepOverAnySlots loan shows (marking verdict m) result t u new u
+        → LeavesDeskShowing loan shows (IsUpdateStep (marking verdict m) result) t u new u
     is_marked verdict free low (Ok answer) (done, (update, (set, is_set, after), leaves)) slots whole =
         let left = leaves x here.1 slots whole in
         let mark = its_mark new update set verdict after low slots whole left.1 in
@@ -173,11 +173,11 @@ module _ {V : Type 0} {H : V → Type 0} (loan : TakenBox V H → WindowLoan) (s
 
 -- another map for comparing changes no state
 pub other_map : {V : Type 0} {H : V → Type 0} (loan : TakenBox V H → WindowLoan) (shows : List ℕ → Part → PixelSet) (t new : WindowManager V H) (activity : Activity) (u other : Updates) (call : UpdateCall) (result : Result WindowReply Refusal) → other.begun ≡ u.begun
-    → IsUpdateStepOverAnySlots loan shows call result t (opened activity u) new (opened activity u) → IsUpdateStepOverAnySlots loan shows call result t (opened activity u) new (opened activity other)
+    → LeavesDeskShowing loan shows (IsUpdateStep call result) t (opened activity u) new (opened activity u) → LeavesDeskShowing loan shows (IsUpdateStep call result) t (opened activity u) new (opened activity other)
 other_map loan shows t new activity u other call result same step =
-    subst (λ (b : Pixels). IsUpdateStepOverAnySlots loan shows call result t (opened activity u) new (record { activity = activity; begun = λ p. holds b p })) (sym same) step
+    subst (λ (b : Pixels). LeavesDeskShowing loan shows (IsUpdateStep call result) t (opened activity u) new (record { activity = activity; begun = λ p. holds b p })) (sym same) step
 
 -- where controls and lists show white, as a window manager by itself says, a step is one of its own state
 pub shows_white : {V : Type 0} {H : V → Type 0} (loan : TakenBox V H → WindowLoan) (t new : WindowManager V H) (u after : Opened) (call : UpdateCall) (result : Result WindowReply Refusal)
-    → IsUpdateStepOverAnySlots loan (λ font. all_white) call result t u new after → LeavesDesk loan (IsUpdateStep call result) t u new after
+    → LeavesDeskShowing loan (λ font. all_white) (IsUpdateStep call result) t u new after → LeavesDesk loan (IsUpdateStep call result) t u new after
 shows_white loan t new u after call result step = step

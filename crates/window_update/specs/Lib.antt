@@ -10,3 +10,4 @@ pub mod UpdateSteps
 pub mod Marks
 pub mod Waiting
 pub mod Served
+pub mod Boxed

@@ -1,11 +1,8 @@
 -- One step of a call about updates: what it leaves, and what it answers.
-use Rattle.std.specs.Prelude.{◌≡◌, ℕ, List, Result, Ok, Err}
+use Rattle.std.specs.Prelude.{◌≡◌, ℕ, Result, Ok, Err}
 use Rattle.tb_geom.specs.declared.point.Point.{Point}
 use Rattle.tb_geom.specs.declared.refusal.Refusal.{Refusal}
 use Rattle.tb_geom.specs.Points.{PixelSet}
-use Rattle.desk_layers.specs.declared.part.Part.{Part}
-use Rattle.def_iface.specs.Slots.{TakenBox}
-use Rattle.def_iface.specs.WindowMeaning.{WindowLoan}
 use Rattle.desk_layers.specs.Change.{Change, no_change, IsChanged}
 use Rattle.desk_call.specs.declared.activity.Activity.TheVariants.{Idle, Updating}
 use Rattle.desk_call.specs.declared.update.LayerKind.{LayerKind}
@@ -15,14 +12,13 @@ use Rattle.desk_call.specs.declared.update.WindowArea.{WindowArea}
 use Rattle.desk_call.specs.declared.window.WindowReply.{WindowReply}
 use Rattle.desk_call.specs.declared.window.WindowReply.TheVariants.{Done}
 use Rattle.vis_update.specs.Areas.{is_content_of}
-use Rattle.window_mgr.specs.declared.manager.WindowManager.{WindowManager}
 use Rattle.window_mgr.specs.FullDesk.{FullState, layered_state}
 use Rattle.window_mgr.specs.Effects.{IsUnchanged}
 use Rattle.desk_call.specs.Steps.{IsRefusedFor, IsStepOf}
 use Rattle.window_mgr.specs.Telling.{IsRegionTold, IsNotTold, update_of}
 use Rattle.window_mgr.specs.Updating.{IsRefreshed, is_of_kind}
 use Rattle.window_update.specs.Sets.{IsAreaOf, marked_in}
-use Rattle.window_mgr.specs.DeskStates.{Opened, DeskState, IsDeskUnchanged, SameActivity, LeavesDeskShowing}
+use Rattle.window_mgr.specs.DeskStates.{DeskState, IsDeskUnchanged, SameActivity}
 use Rattle.window_update.specs.UpdateRefusals.{IsUpdateRefusal, may_update_grow}
 
 -- the change of a call that puts pixels of a window into the update set
@@ -76,10 +72,3 @@ IsUpdateStep call = IsStepOf (λ before. IsUpdateRefusal call before.windows) (m
 abbrev pub IsToldOf : PixelSet → Result WindowReply Refusal → Type 0
 IsToldOf set (Ok answer) = IsRegionTold set answer
 IsToldOf set (Err e) = IsNotTold set e
-
--- `loan` says what a definition that was taken means, and `shows` what controls and lists show in a font
-module _ {V : Type 0} {H : V → Type 0} (loan : TakenBox V H → WindowLoan) (shows : List ℕ → Part → PixelSet) where
-  -- over any slots over which the window manager is whole, it is whole after the call, which is one step
-  abbrev pub IsUpdateStepOverAnySlots : UpdateCall → Result WindowReply Refusal
-      → WindowManager V H → Opened → WindowManager V H → Opened → Type 0
-  IsUpdateStepOverAnySlots call result = LeavesDeskShowing loan shows (IsUpdateStep call result)

@@ -1,7 +1,6 @@
 //! The pixels of an area that a call carries.
 ghost use Rattle.std.specs.Prelude.{◌≡◌, None, Some, IfOk, MatchResult};
 ghost use Rattle.tb_geom.specs.Pixels.{holds};
-ghost use Rattle.tb_geom.specs.Points.{PixelSet};
 ghost use Rattle.window_update.specs.Sets.{IsAreaOf, IsAreaJudged, judged_set};
 ghost use Rattle.window_update.specs.UpdateRefusals.{IsAreaForm, IsUpdateForm};
 

@@ -18,6 +18,7 @@
 
 mod areas;
 mod choices;
+mod desk_updates;
 pub mod laws;
 mod marking;
 mod right;
@@ -27,5 +28,6 @@ mod waiting;
 
 pub use areas::update_form_refusal;
 pub use desk_call::{AreaRef, LayerDraw, LayerKind, UpdateCall, WindowArea};
+pub use desk_updates::DeskUpdates;
 pub use updates::Updates;
 pub use waiting::first_to_update;

@@ -9,13 +9,12 @@ ghost use Rattle.scan_region.specs.Moves.{is_pixel_in_range};
 ghost use Rattle.desk_call.specs.declared.update.UpdateCall.TheVariants as asks;
 ghost use Rattle.window_mgr.specs.DeskStates.{Opened};
 ghost use Rattle.window_mgr.specs.Edits.{IsWindowAt, StandsAt};
-ghost use Rattle.window_mgr.specs.Kept.{IsKept};
-ghost use Rattle.window_mgr.specs.Records.{state_of, state_showing};
+ghost use Rattle.window_mgr.specs.Records.{state_showing};
 ghost use Rattle.window_update.specs.Marks.{IsMarkedBy, IsUpdateAfter, marked_by};
 ghost use Rattle.window_update.specs.Rightness.{IsJudgement};
 ghost use Rattle.window_update.specs.Sets.{IsAreaOf, judged_set};
 ghost use Rattle.window_update.specs.UpdateRefusals.{IsAreaRefusal};
-ghost use Rattle.window_update.specs.UpdateSteps.{IsUpdateStepOverAnySlots};
+ghost use Rattle.window_update.specs.UpdateSteps.{IsUpdateStep};
 
 use crate::areas::{JudgedArea, judge, region_of};
 use crate::right::agree;
@@ -27,7 +26,7 @@ use std::alloc::{AllocError, Global};
 use tb_geom::{Point, Refusal};
 use vis_update::Area;
 use window_list::{local, move_by};
-use window_mgr::WindowManager;
+use window_mgr::{DeskWindows, WindowManager};
 use window_paint::{Showing, paint_content};
 
 impl Updates {
@@ -37,9 +36,10 @@ impl Updates {
         windows: &mut WindowManager,
         marking: &WindowArea<'_>,
     ) -> Result<WindowReply, Refusal>
-        requires kept { IsKept ⟦<TakenWindow as Defined>⟧.loan windows.old }
+        requires kept { ⟦<WindowManager as DeskWindows>⟧.IsKept windows.old }
         ensures step { (shows : List ℕ → Part → PixelSet) (o : Opened)
-            → IsUpdateStepOverAnySlots ⟦<TakenWindow as Defined>⟧.loan shows (asks.Invalidate marking.now) result
+            → ⟦<WindowManager as DeskWindows>⟧.LeavesDeskShowing shows
+            (IsUpdateStep (asks.Invalidate marking.now) result)
             windows.old o windows.new o }
         ensures width { windows.new.screen.width ≡ windows.old.screen.width }
         ensures height { windows.new.screen.height ≡ windows.old.screen.height }
@@ -64,12 +64,12 @@ impl Updates {
         marking: &WindowArea<'_>,
         layers: &S,
     ) -> Result<WindowReply, Refusal>
-        requires kept { IsKept ⟦<TakenWindow as Defined>⟧.loan windows.old }
+        requires kept { ⟦<WindowManager as DeskWindows>⟧.IsKept windows.old }
         requires width { self.old.buffer.width ≡ windows.old.screen.width }
         requires height { self.old.buffer.height ≡ windows.old.screen.height }
         requires layers { S.is_whole layers.now }
-        ensures step { (o : Opened) → IsUpdateStepOverAnySlots ⟦<TakenWindow as Defined>⟧.loan (S.shows layers.now)
-            (asks.Validate marking.now) result windows.old o windows.new o }
+        ensures step { (o : Opened) → ⟦<WindowManager as DeskWindows>⟧.LeavesDeskShowing (S.shows layers.now)
+            (IsUpdateStep (asks.Validate marking.now) result) windows.old o windows.new o }
         ensures same { self.new.begun ≡ self.old.begun }
         ensures width { self.new.buffer.width ≡ windows.new.screen.width }
         ensures height { self.new.buffer.height ≡ windows.new.screen.height }
@@ -98,7 +98,7 @@ impl Updates {
         area: &JudgedArea<'_>,
         layers: &S,
     ) -> bool
-        requires kept { IsKept ⟦<TakenWindow as Defined>⟧.loan windows.now }
+        requires kept { ⟦<WindowManager as DeskWindows>⟧.IsKept windows.now }
         requires width { self.old.buffer.width ≡ windows.now.screen.width }
         requires height { self.old.buffer.height ≡ windows.now.screen.height }
         requires at { at < length windows.now.windows.records.items }
@@ -108,7 +108,7 @@ impl Updates {
         ensures same { self.new ≡ record self.old { buffer = self.new.buffer } }
         ensures right { (w : _) → IsWindowAt windows.now.windows.records.items at w
             → IsJudgement w.serial (judged_set area.now)
-            (state_showing (S.shows layers.now) (state_of ⟦<TakenWindow as Defined>⟧.loan windows.now [])) result }
+            (state_showing (S.shows layers.now) (⟦<WindowManager as DeskWindows>⟧.state_over windows.now [])) result }
     {
         let parts = windows.parts();
         let window = parts.windows.at(at);
@@ -127,12 +127,12 @@ struct Target<'a> {
 
 /// The window that an area is of, and the area. The refusal is the first of these: BadRegion, NoSuchWindow, OutOfRange.
 fn target_of<'a>(windows: &WindowManager, marking: &WindowArea<'a>) -> Result<Target<'a>, Refusal>
-    requires kept { IsKept ⟦<TakenWindow as Defined>⟧.loan windows.now }
+    requires kept { ⟦<WindowManager as DeskWindows>⟧.IsKept windows.now }
     ensures { MatchResult result
         (λ r. StandsAt windows.now.windows.records.items marking.now.window r.at
         × IsAreaOf marking.now.area (judged_set r.area)
-        × IsAreaRefusal marking.now (state_of ⟦<TakenWindow as Defined>⟧.loan windows.now []) None)
-        (λ e. IsAreaRefusal marking.now (state_of ⟦<TakenWindow as Defined>⟧.loan windows.now []) (Some e)) }
+        × IsAreaRefusal marking.now (⟦<WindowManager as DeskWindows>⟧.state_over windows.now []) None)
+        (λ e. IsAreaRefusal marking.now (⟦<WindowManager as DeskWindows>⟧.state_over windows.now []) (Some e)) }
 {
     match (judge(&marking.area), windows.find(marking.window)) {
         (Err(Refusal::BadRegion), _) => Err(Refusal::BadRegion),
@@ -151,7 +151,7 @@ fn mark(
     area: &AreaRef<'_>,
     verdict: Verdict,
 ) -> Result<WindowReply, Refusal>
-    requires kept { IsKept ⟦<TakenWindow as Defined>⟧.loan windows.old }
+    requires kept { ⟦<WindowManager as DeskWindows>⟧.IsKept windows.old }
     requires at { at < length windows.old.windows.records.items }
     ensures { IsMarkedBy ⟦<TakenWindow as Defined>⟧.loan verdict at area.now result windows.old windows.new }
 {
@@ -172,7 +172,7 @@ fn update_after(
     area: &AreaRef<'_>,
     verdict: Verdict,
 ) -> Result<Region, AllocError>
-    requires kept { IsKept ⟦<TakenWindow as Defined>⟧.loan windows.now }
+    requires kept { ⟦<WindowManager as DeskWindows>⟧.IsKept windows.now }
     requires at { at < length windows.now.windows.records.items }
     ensures { IfOk result (IsUpdateAfter windows.now at area.now verdict) }
 {

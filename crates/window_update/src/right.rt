@@ -1,5 +1,5 @@
 //! Whether pixels of a window are right.
-ghost use Rattle.std.specs.Prelude.{◌≡◌, ◌&&◌, true, pos};
+ghost use Rattle.std.specs.Prelude.{◌≡◌, ◌&&◌, true};
 ghost use Rattle.tb_geom.specs.declared.point.Point.{Point};
 ghost use Rattle.tb_geom.specs.Points.{minus};
 ghost use Rattle.tb_geom.specs.Pixels.{holds};

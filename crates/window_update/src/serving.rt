@@ -9,20 +9,18 @@ ghost use Rattle.tb_geom.specs.Pixels.{holds};
 ghost use Rattle.tb_geom.specs.Rects.{in_plane};
 ghost use Rattle.scan_region.specs.Moves.{is_pixel_in_range};
 ghost use Rattle.desk_call.specs.declared.update.UpdateCall.TheVariants as asks;
-ghost use Rattle.window_mgr.specs.Kept.{IsKept};
 ghost use Rattle.window_mgr.specs.DeskStates.{Opened};
-ghost use Rattle.window_update.specs.WholeUpdates.{IsWholeUpdates, opened};
-ghost use Rattle.window_update.specs.UpdateSteps.{IsUpdateStepOverAnySlots};
+ghost use Rattle.window_update.specs.WholeUpdates.{opened};
+ghost use Rattle.window_update.specs.UpdateSteps.{IsUpdateStep};
 
 use crate::choices::Choices;
-use crate::{LayerDraw, Updates};
-use def_iface::{Defined, TakenWindow};
+use crate::{DeskUpdates, LayerDraw, Updates};
 use desk_call::{Activity, WindowReply};
 use scan_region::Region;
 use std::alloc::{AllocError, Global};
 use tb_geom::{Point, Refusal};
 use window_list::{local, move_by};
-use window_mgr::WindowManager;
+use window_mgr::{DeskWindows, WindowManager};
 use window_paint::Showing;
 
 impl Updates {
@@ -33,12 +31,12 @@ impl Updates {
         activity: &mut Activity,
         window: u64,
     ) -> Result<WindowReply, Refusal>
-        requires kept { IsKept ⟦<TakenWindow as Defined>⟧.loan windows.now }
-        requires whole { IsWholeUpdates ⟦<TakenWindow as Defined>⟧.loan activity.old windows.now self.old }
+        requires kept { ⟦<WindowManager as DeskWindows>⟧.IsKept windows.now }
+        requires whole { ⟦<Self as DeskUpdates>⟧.IsWhole activity.old windows.now self.old }
         ensures step { (shows : List ℕ → Part → PixelSet)
-            → IsUpdateStepOverAnySlots ⟦<TakenWindow as Defined>⟧.loan shows (asks.Begin window) result
+            → ⟦<WindowManager as DeskWindows>⟧.LeavesDeskShowing shows (IsUpdateStep (asks.Begin window) result)
             windows.now (opened activity.old self.old) windows.now (opened activity.new self.new) }
-        ensures whole { IsWholeUpdates ⟦<TakenWindow as Defined>⟧.loan activity.new windows.now self.new }
+        ensures whole { ⟦<Self as DeskUpdates>⟧.IsWhole activity.new windows.now self.new }
     {
         let Some(at) = windows.find(window) else {
             return Err(Refusal::NoSuchWindow);
@@ -65,13 +63,12 @@ impl Updates {
         draw: LayerDraw,
         layers: &S,
     ) -> Result<WindowReply, Refusal>
-        requires kept { IsKept ⟦<TakenWindow as Defined>⟧.loan windows.old }
-        requires whole { IsWholeUpdates ⟦<TakenWindow as Defined>⟧.loan (Updating draw.window) windows.old self.old }
+        requires kept { ⟦<WindowManager as DeskWindows>⟧.IsKept windows.old }
+        requires whole { ⟦<Self as DeskUpdates>⟧.IsWhole (Updating draw.window) windows.old self.old }
         requires layers { S.is_whole layers.now }
-        ensures step { (o : Opened) → IsUpdateStepOverAnySlots ⟦<TakenWindow as Defined>⟧.loan (S.shows layers.now)
-            (asks.Draw draw)
-            result windows.old o windows.new o }
-        ensures whole { IsWholeUpdates ⟦<TakenWindow as Defined>⟧.loan (Updating draw.window) windows.new self.new }
+        ensures step { (o : Opened) → ⟦<WindowManager as DeskWindows>⟧.LeavesDeskShowing (S.shows layers.now)
+            (IsUpdateStep (asks.Draw draw) result) windows.old o windows.new o }
+        ensures whole { ⟦<Self as DeskUpdates>⟧.IsWhole (Updating draw.window) windows.new self.new }
         ensures same { self.new.begun ≡ self.old.begun }
     {
         let Some(at) = windows.find(draw.window) else {
@@ -106,11 +103,12 @@ pub(crate) fn serve<S: Showing>(
     window: u64,
     layers: &S,
 ) -> Result<WindowReply, Refusal>
-    requires kept { IsKept ⟦<TakenWindow as Defined>⟧.loan windows.old }
+    requires kept { ⟦<WindowManager as DeskWindows>⟧.IsKept windows.old }
     requires idle { activity.old ≡ Idle }
     requires layers { S.is_whole layers.now }
     ensures step { (begun : PixelSet)
-        → IsUpdateStepOverAnySlots ⟦<TakenWindow as Defined>⟧.loan (S.shows layers.now) (asks.Serve window) result
+        → ⟦<WindowManager as DeskWindows>⟧.LeavesDeskShowing (S.shows layers.now)
+        (IsUpdateStep (asks.Serve window) result)
         windows.old (record { activity = activity.old; begun = begun }) windows.new
         (record { activity = activity.new; begun = begun }) }
     ensures idle { activity.new ≡ Idle }

@@ -5,27 +5,25 @@ ghost use Rattle.tb_geom.specs.Points.{PixelSet};
 ghost use Rattle.tb_geom.specs.Pixels.{holds};
 ghost use Rattle.tb_geom.specs.Rects.{rect_holds};
 ghost use Rattle.desk_ground.specs.Screens as screens;
-ghost use Rattle.window_mgr.specs.Kept.{IsKept};
 ghost use Rattle.desk_call.specs.declared.activity.Activity.{Activity};
 ghost use Rattle.desk_call.specs.Gates.{gate, update_standing};
-ghost use Rattle.window_mgr.specs.Records.{state_of, state_showing};
+ghost use Rattle.window_mgr.specs.Records.{state_showing};
 ghost use Rattle.window_mgr.specs.Refused.{is_missing};
-ghost use Rattle.window_mgr.specs.DeskStates.{narrowed};
-ghost use Rattle.window_update.specs.WholeUpdates.{IsWholeUpdates, opened};
+ghost use Rattle.window_mgr.specs.DeskStates.{narrowed_to};
+ghost use Rattle.window_update.specs.WholeUpdates.{opened};
 ghost use Rattle.window_update.specs.Rightness.{IsJudgement};
-ghost use Rattle.window_update.specs.UpdateSteps.{IsUpdateStepOverAnySlots, IsToldOf};
+ghost use Rattle.window_update.specs.UpdateSteps.{IsUpdateStep, IsToldOf};
 
-use crate::UpdateCall;
 use crate::areas::JudgedArea;
 use crate::choices::Choices;
 use crate::serving::serve;
+use crate::{DeskUpdates, UpdateCall};
 use bit_map::BitMap;
-use def_iface::{Defined, TakenWindow};
-use desk_call::{Activity, WindowCall, WindowReply};
+use desk_call::{Activity, Asked, WindowReply};
 use scan_region::Region;
 use std::alloc::{AllocError, Global};
 use tb_geom::{Rect, Refusal};
-use window_mgr::WindowManager;
+use window_mgr::{DeskWindows, WindowManager};
 use window_paint::Showing;
 
 /// What calls about updates keep from one to the next.
@@ -67,12 +65,13 @@ impl Updates {
         call: &UpdateCall<'_>,
         layers: &S,
     ) -> Result<WindowReply, Refusal>
-        requires kept { IsKept ⟦<TakenWindow as Defined>⟧.loan windows.old }
-        requires whole { IsWholeUpdates ⟦<TakenWindow as Defined>⟧.loan activity.old windows.old self.old }
+        requires kept { ⟦<WindowManager as DeskWindows>⟧.IsKept windows.old }
+        requires whole { ⟦<Self as DeskUpdates>⟧.IsWhole activity.old windows.old self.old }
         requires layers { S.is_whole layers.now }
         requires admitted { gate activity.old (update_standing call.now) ≡ None }
-        ensures whole { IsWholeUpdates ⟦<TakenWindow as Defined>⟧.loan activity.new windows.new self.new }
-        ensures step { IsUpdateStepOverAnySlots ⟦<TakenWindow as Defined>⟧.loan (S.shows layers.now) call.now result
+        ensures whole { ⟦<Self as DeskUpdates>⟧.IsWhole activity.new windows.new self.new }
+        ensures step { ⟦<WindowManager as DeskWindows>⟧.LeavesDeskShowing (S.shows layers.now)
+            (IsUpdateStep call.now result)
             windows.old (opened activity.old self.old) windows.new (opened activity.new self.new) }
     {
         match call {
@@ -85,24 +84,18 @@ impl Updates {
         }
     }
 
-    /// The answer to a call that asks, while this is open, for a region of the window whose update it is: its visible region
+    /// The answer, while this is open, where what is asked for is a region of the window whose update it is: its visible region
     /// is what was to be redrawn when the update began, and its update region is empty.
-    pub fn tell(
-        &self,
-        activity: Activity,
-        call: &WindowCall<'_>,
-    ) -> Option<Result<WindowReply, Refusal>>
-        ensures { let asked = narrowed call.now activity (opened activity self.now).begun in
+    pub fn answers(&self, activity: Activity, asks: Asked) -> Option<Result<WindowReply, Refusal>>
+        ensures { let asked = narrowed_to asks activity (opened activity self.now).begun in
             MatchOption result (asked ≡ None) (λ answer. (set : PixelSet) × (asked ≡ Some set) × IsToldOf set answer) }
     {
         let Activity::Updating(open) = activity else {
             return None;
         };
-        match call {
-            WindowCall::VisibleRegion(window) if *window == open => {
-                Some(told(self.alloc, &self.begun))
-            }
-            WindowCall::UpdateRegion(window) if *window == open => {
+        match asks {
+            Asked::VisibleRegion(window) if window == open => Some(told(self.alloc, &self.begun)),
+            Asked::UpdateRegion(window) if window == open => {
                 Some(told(self.alloc, &Region::empty(self.alloc)))
             }
             _ => None,
@@ -118,15 +111,14 @@ impl Updates {
         rect: Rect,
         layers: &S,
     ) -> Result<bool, Refusal>
-        requires kept { IsKept ⟦<TakenWindow as Defined>⟧.loan windows.now }
+        requires kept { ⟦<WindowManager as DeskWindows>⟧.IsKept windows.now }
         requires width { self.old.buffer.width ≡ windows.now.screen.width }
         requires height { self.old.buffer.height ≡ windows.now.screen.height }
         requires layers { S.is_whole layers.now }
-        ensures whole { (activity : Activity) → IsWholeUpdates ⟦<TakenWindow as Defined>⟧.loan activity windows.now
-            self.old
-            → IsWholeUpdates ⟦<TakenWindow as Defined>⟧.loan activity windows.now self.new }
+        ensures whole { (activity : Activity) → ⟦<Self as DeskUpdates>⟧.IsWhole activity windows.now self.old
+            → ⟦<Self as DeskUpdates>⟧.IsWhole activity windows.now self.new }
         ensures same { self.new.begun ≡ self.old.begun }
-        ensures right { let state = state_showing (S.shows layers.now) (state_of ⟦<TakenWindow as Defined>⟧.loan
+        ensures right { let state = state_showing (S.shows layers.now) (⟦<WindowManager as DeskWindows>⟧.state_over
             windows.now []) in
             MatchResult result
             (λ right. (is_missing window state.desk.windows ≡ false) × IsJudgement window (rect_holds rect) state right)

@@ -4,17 +4,16 @@ ghost use Rattle.tb_geom.specs.Points.{PixelSet};
 ghost use Rattle.def_iface.specs.WindowSlots.{WindowSlot};
 ghost use Rattle.window_mgr.specs.DeskStates.{desk_state, is_updating};
 ghost use Rattle.window_mgr.specs.Edits.{IsWindowAt};
-ghost use Rattle.window_mgr.specs.Kept.{IsKept};
 ghost use Rattle.window_update.specs.Waiting.{IsWaiting, IsFirstToUpdate};
 
 use def_iface::{Defined, TakenWindow};
 use desk_call::Activity;
-use window_mgr::WindowManager;
+use window_mgr::{DeskWindows, WindowManager};
 
 /// The serial of the first window, from the front, whose update region is not empty (*Inside Macintosh* I, "The Window
 /// Manager", CheckUpdate). That of a window whose update is open is empty. Takes no memory.
 pub fn first_to_update(windows: &WindowManager, activity: Activity) -> Option<u64>
-    requires { IsKept ⟦<TakenWindow as Defined>⟧.loan windows.now }
+    requires { ⟦<WindowManager as DeskWindows>⟧.IsKept windows.now }
     ensures { (begun : PixelSet) (slots : List WindowSlot) → IsFirstToUpdate
         (desk_state ⟦<TakenWindow as Defined>⟧.loan windows.now (record { activity = activity; begun = begun }) slots)
         result }
@@ -30,7 +29,7 @@ pub fn first_to_update(windows: &WindowManager, activity: Activity) -> Option<u6
 
 /// Whether the window at this index is to be updated.
 fn is_waiting(windows: &WindowManager, activity: Activity, at: usize) -> bool
-    requires kept { IsKept ⟦<TakenWindow as Defined>⟧.loan windows.now }
+    requires kept { ⟦<WindowManager as DeskWindows>⟧.IsKept windows.now }
     requires at { at < length windows.now.windows.records.items }
     ensures { (w : _) → IsWindowAt windows.now.windows.records.items at w → (begun : PixelSet) (slots : List WindowSlot)
         → IsWaiting w.serial

@@ -74,7 +74,7 @@ def it_is_installed_by_pip(place):
     words = ("-m", "pip", "wheel", "-q", "--no-index", "--no-build-isolation", "--no-deps", "-w", "wheels", tree)
     place.succeeds(python, *words)
     wheels = glob.glob(place.path("wheels/*.whl"))
-    same("what is built", [os.path.basename(it) for it in wheels], ["desk_kit-0.1.0-py3-none-any.whl"])
+    same("what is built", [os.path.basename(it) for it in wheels], ["desk_kit-1.0.0-py3-none-any.whl"])
     names = sorted(name.removesuffix(".py") for name in os.listdir(os.path.join(TOP, "desk_kit")) if name.endswith(".py"))
     # Not those that need Tk, which an installed package may lack.
     modules = [name for name in names if name not in ("__init__", "screen_window")]

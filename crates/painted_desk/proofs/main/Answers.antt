@@ -8,7 +8,7 @@ run-requires c =
 
 -- and each call leaves it whole with that stock
 pub paint-painted-requires : goal.paint-painted-requires
-paint-painted-requires c = record { stocks = _; whole = c.run.ensures.whole }
+paint-painted-requires c = record { stocks = _; managers = c.run.ensures.whole.managers }
 
 pub pixels_right-covered-requires : goal.pixels_right-covered-requires
 pixels_right-covered-requires c = record { stocks = _; whole = c.pixels_right-uncovered.ensures.whole _ c.run.ensures.whole }

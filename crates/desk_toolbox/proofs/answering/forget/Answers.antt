@@ -3,21 +3,21 @@ use Rattle.desk_toolbox.specs.EventSteps.{events_left}
 use Rattle.desk_toolbox.proofs.Ended.{controls_end, controls_stay, events_stay, lists_end, lists_stay, of_the_end}
 use Rattle.desk_toolbox.proofs.answering.forget.Goals as goal
 
-pub returns-in-Ended-clause-events : goal.returns-in-Ended-clause-events
-returns-in-Ended-clause-events g c call is =
-    of_the_end (λ k. c.forget.new.self ≡ events_left k c.args.events.now) call c.args.outcome c.in-Ended.window is c.in-Ended.is c.forget.ensures
+pub returns-in-Some-clause-events : goal.returns-in-Some-clause-events
+returns-in-Some-clause-events g c call is =
+    of_the_end (λ k. c.forget.new.self ≡ events_left k c.args.events.now) call c.args.ends c.in-Some.window is c.in-Some.is c.forget.ensures
 
-pub returns-in-Ended-clause-controls : goal.returns-in-Ended-clause-controls
-returns-in-Ended-clause-controls g c call is = controls_end call c.args.outcome c.in-Ended.window _ _ is c.in-Ended.is c.end_of.ensures
+pub returns-in-Some-clause-controls : goal.returns-in-Some-clause-controls
+returns-in-Some-clause-controls g c call is = controls_end call c.args.ends c.in-Some.window _ _ is c.in-Some.is c.end_of.ensures
 
-pub returns-in-Ended-clause-lists : goal.returns-in-Ended-clause-lists
-returns-in-Ended-clause-lists g c call is = lists_end call c.args.outcome c.in-Ended.window _ _ is c.in-Ended.is c.end_of-in-Ended.ensures
+pub returns-in-Some-clause-lists : goal.returns-in-Some-clause-lists
+returns-in-Some-clause-lists g c call is = lists_end call c.args.ends c.in-Some.window _ _ is c.in-Some.is c.end_of-in-Some.ensures
 
 pub returns-in_default-clause-events : goal.returns-in_default-clause-events
-returns-in_default-clause-events g c call is = events_stay call c.args.outcome _ is c.in_default.not-Ended
+returns-in_default-clause-events g c call is = events_stay call c.args.ends _ is c.in_default.not-Some
 
 pub returns-in_default-clause-controls : goal.returns-in_default-clause-controls
-returns-in_default-clause-controls g c call is = controls_stay call c.args.outcome _ is c.in_default.not-Ended
+returns-in_default-clause-controls g c call is = controls_stay call c.args.ends _ is c.in_default.not-Some
 
 pub returns-in_default-clause-lists : goal.returns-in_default-clause-lists
-returns-in_default-clause-lists g c call is = lists_stay call c.args.outcome _ is c.in_default.not-Ended
+returns-in_default-clause-lists g c call is = lists_stay call c.args.ends _ is c.in_default.not-Some

@@ -9,16 +9,19 @@ use Rattle.scratch_paint.proofs.FrontLemmas.{screen_painted}
 use Rattle.scratch_paint.proofs.painting.paint.Goals as goal
 
 pub paint_base-requires-clause-kept : goal.paint_base-requires-clause-kept
-paint_base-requires-clause-kept g c = rw c.windows-windows.ensures (kept _ _ _ c.requires.whole.managers.windows)
+paint_base-requires-clause-kept g c = rw c.windows-windows.ensures (kept _ _ _ c.requires.managers.windows)
 
 pub paint_base-requires-clause-layers : goal.paint_base-requires-clause-layers
-paint_base-requires-clause-layers g c = rw (c.contents.ensures.0, c.contents.ensures.1) (c.requires.whole.managers.controls.settled, c.requires.whole.managers.lists.settled)
+paint_base-requires-clause-layers g c = rw (c.contents.ensures.0, c.contents.ensures.1) (c.requires.managers.controls.settled, c.requires.managers.lists.settled)
 
 pub paint_front-requires-clause-live : goal.paint_front-requires-clause-live
-paint_front-requires-clause-live g c = rw c.menus.ensures c.requires.whole.managers.menus.live
+paint_front-requires-clause-live g c = rw c.menus.ensures c.requires.managers.menus.live
 
 pub paint_front-requires-clause-placed : goal.paint_front-requires-clause-placed
-paint_front-requires-clause-placed g c = rw c.activity.ensures c.requires.whole.managers.menus.placed
+paint_front-requires-clause-placed g c = rw c.activity.ensures c.requires.managers.menus.placed
+
+pub paint_front-requires-clause-outline : goal.paint_front-requires-clause-outline
+paint_front-requires-clause-outline g c = rw c.activity.ensures c.requires.managers.front.kept
 
 pub returns : goal.returns
 returns g c =

@@ -9,20 +9,21 @@ pub loop-read-init : goal.loop-read-init
 loop-read-init g c = record {
   ready = c.requires.ready;
   quiet = c.requires.unfailed;
-  so_far = rw c.new-line.ensures (start c.args.raw _ _ _ c.requires.going);
+  same = (refl, refl);
+  so_far = rw c.new-line.ensures (start c.args.writer.now.raw _ _ _ c.requires.going);
   counted = c.requires.unread;
 }
 
 pub returns-then-count-eq0-clause-ends : goal.returns-then-count-eq0-clause-ends
 returns-then-count-eq0-clause-ends g c =
     let none : take c.in_ok-count.count c.read_some.new.buffer ≡ [] = rw c.if-count-eq0.true refl in
-    finished c.args.raw _ _ _ _ _ _ _ _ c.loop-read.invariant.so_far (subst (Gave _ _) none c.in_ok-count.ensures.bytes) _ _ c.answer.result c.said_last.result c.said_last.ensures c.answer.ensures.ends
+    finished c.args.writer.now.raw _ _ _ _ _ _ _ _ c.loop-read.invariant.so_far (subst (Gave _ _) none c.in_ok-count.ensures.bytes) _ _ c.answer.result c.said_last.result c.said_last.ensures (rw c.loop-read.invariant.same.1 at c.answer.ensures.ends)
 
 pub returns-in_err-take_all-clause-ends : goal.returns-in_err-take_all-clause-ends
 returns-in_err-take_all-clause-ends g c =
     let p = err_from_is_err_and c.from_residual-in_err-take_all.result c.from_residual-in_err-take_all.ensures.1 in
     let some : 0 < length (take c.in_ok-count.count c.read_some.new.buffer) = omega (arith, length-take c.in_ok-count.count c.read_some.new.buffer) in
-    rw (p.1, p.2) (c.in_err-take_all.ensures.goes_on _ _ _ _ (read_more c.args.raw _ _ _ _ _ _ _ _ _ c.loop-read.invariant.so_far c.in_ok-count.ensures.bytes some))
+    rw (p.1, p.2) ((rw c.loop-read.invariant.same.1 at c.in_err-take_all.ensures.goes_on) _ _ _ _ (read_more c.args.writer.now.raw _ _ _ _ _ _ _ _ _ c.loop-read.invariant.so_far c.in_ok-count.ensures.bytes some))
 
 pub loop-read-preserved : goal.loop-read-preserved
 loop-read-preserved g c =
@@ -30,6 +31,7 @@ loop-read-preserved g c =
     record {
       ready = c.in_ok-take_all.ensures.ready;
       quiet = c.in_ok-take_all.ensures.quiet;
-      so_far = c.in_ok-take_all.ensures.goes_on _ _ _ _ (read_more c.args.raw _ _ _ _ _ _ _ _ _ c.loop-read.invariant.so_far c.in_ok-count.ensures.bytes some);
+      same = (c.in_ok-take_all.ensures.same.0 ∙ c.loop-read.invariant.same.0, c.in_ok-take_all.ensures.same.1 ∙ c.loop-read.invariant.same.1);
+      so_far = (rw c.loop-read.invariant.same.1 at c.in_ok-take_all.ensures.goes_on) _ _ _ _ (read_more c.args.writer.now.raw _ _ _ _ _ _ _ _ _ c.loop-read.invariant.so_far c.in_ok-count.ensures.bytes some);
       counted = c.in_ok-count.ensures.bytes.counted ∙ ap (λ n. n + 1) c.loop-read.invariant.counted;
     }

@@ -6,6 +6,7 @@ use Rattle.def_iface.specs.contracts.taken_list.TakenListDefined.TheImpl as take
 use Rattle.def_iface.specs.contracts.taken_menu.TakenMenuDefined.TheImpl as taken_menu
 use Rattle.script_runner.specs.SessionViews.{script_of, IsReady}
 use Rattle.script_runner.specs.Progress.{SoFar}
+use Rattle.script_runner.specs.Writers.{IsSameWriter}
 use Rattle.script_runner.proofs.runner.answer_all.Given as goal
 
 abbrev pub invariant-loop-read : goal.invariant-loop-read
@@ -17,7 +18,8 @@ invariant-loop-read g l =
     let stocks = (stock.all_slots-value g.dyn-1 g.dyn-2 g.dyn-4 g.dyn-3).it in
     record {
       ready : IsReady loan menu_loan control_loan list_loan l.script.session (stocks l.stock);
-      quiet : (g.W.Sink.output l.sink).has_failed ≡ false;
-      so_far : SoFar l.raw (script_of loan menu_loan control_loan list_loan l.fn.script (stocks l.fn.stock)) (g.R.Source.input l.fn.source) (g.W.Sink.output l.fn.sink) (g.R.Source.input l.source) (g.W.Sink.output l.sink) (script_of loan menu_loan control_loan list_loan l.script (stocks l.stock)) l.line [];
+      quiet : (g.W.Sink.output l.writer.sink.now).has_failed ≡ false;
+      same : IsSameWriter l.fn.writer l.writer;
+      so_far : SoFar l.fn.writer.raw (script_of loan menu_loan control_loan list_loan l.fn.script (stocks l.fn.stock)) (g.R.Source.input l.fn.source) (g.W.Sink.output l.fn.writer.sink.now) (g.R.Source.input l.source) (g.W.Sink.output l.writer.sink.now) (script_of loan menu_loan control_loan list_loan l.script (stocks l.stock)) l.line [];
       counted : (g.R.Source.input l.source).reads ≡ l.read;
     }

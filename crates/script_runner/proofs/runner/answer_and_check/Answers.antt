@@ -8,4 +8,4 @@ check-requires-clause-kept g c desk some = kept_desk _ _ _ _ _ c.answer_all.new.
 pub returns-in-Ok-clause-ends : goal.returns-in-Ok-clause-ends
 returns-in-Ok-clause-ends g c =
     let well : c.answer_all.result ≡ Ok c.in-Ok.field-0 = search rules in
-    followed_by_check c.args.raw c.args.check _ _ _ _ _ _ _ _ _ _ c.if-check.true well c.answer_all.ensures.ends (c.check.ensures _)
+    followed_by_check c.args.writer.now.raw c.args.check _ _ _ _ _ _ _ _ _ _ c.if-check.true well c.answer_all.ensures.ends (c.check.ensures.line _)

@@ -7,6 +7,7 @@ use Rattle.def_iface.specs.contracts.taken_menu.TakenMenuDefined.TheImpl as take
 use Rattle.script_runner.specs.Script.{ScriptState}
 use Rattle.script_runner.specs.SessionViews.{script_of, IsReady}
 use Rattle.script_runner.specs.Progress.{SoFar}
+use Rattle.script_runner.specs.Writers.{IsSameWriter}
 use Rattle.watched_io.specs.Reads.{Input}
 use Rattle.watched_io.specs.Writes.{Output}
 use Rattle.script_runner.proofs.runner.take_all.Given as goal
@@ -20,8 +21,9 @@ invariant-loop-byte g l =
     let stocks = (stock.all_slots-value g.dyn-1 g.dyn-2 g.dyn-4 g.dyn-3).it in
     record {
       ready : IsReady loan menu_loan control_loan list_loan l.script.session (stocks l.stock);
-      quiet : (g.W.Sink.output l.sink).has_failed ≡ false;
+      quiet : (g.W.Sink.output l.writer.sink.now).has_failed ≡ false;
+      same : IsSameWriter l.initial.writer l.writer;
       so_far : (first : ScriptState) (input rest : Input) (old : Output)
-          → SoFar l.raw first input old rest (g.W.Sink.output l.initial.sink) (script_of loan menu_loan control_loan list_loan l.initial.script (stocks l.initial.stock)) l.initial.line l.bytes
-          → SoFar l.raw first input old rest (g.W.Sink.output l.sink) (script_of loan menu_loan control_loan list_loan l.script (stocks l.stock)) l.line (drop l.byte-index l.bytes);
+          → SoFar l.initial.writer.raw first input old rest (g.W.Sink.output l.initial.writer.sink.now) (script_of loan menu_loan control_loan list_loan l.initial.script (stocks l.initial.stock)) l.initial.line l.bytes
+          → SoFar l.initial.writer.raw first input old rest (g.W.Sink.output l.writer.sink.now) (script_of loan menu_loan control_loan list_loan l.script (stocks l.stock)) l.line (drop l.byte-index l.bytes);
     }

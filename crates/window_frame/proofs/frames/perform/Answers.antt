@@ -1,8 +1,8 @@
 use Rattle.std.proofs.Common.{sym, subst}
 use Rattle.desk_call.specs.declared.activity.Activity.{Activity}
 use Rattle.desk_call.specs.declared.frame.FrameCall.TheVariants as asks
-use Rattle.window_mgr.specs.DeskStates.{Opened}
-use Rattle.window_frame.specs.FrameSteps.{IsFrameStepOverAnySlots}
+use Rattle.window_mgr.specs.DeskStates.{Opened, LeavesDesk}
+use Rattle.window_frame.specs.FrameSteps.{IsFrameStep}
 use Rattle.window_frame.proofs.FrameSteps.{of_call}
 use Rattle.window_frame.proofs.frames.perform.Goals as goal
 
@@ -24,7 +24,7 @@ pub returns-in-StepGoAway-Tracking-clause-step : goal.returns-in-StepGoAway-Trac
 returns-in-StepGoAway-Tracking-clause-step g c = λ begun.
     let o : Opened = record { activity = c.args.activity.now; begun = begun } in
     of_call _ c.args.windows.now c.step_go_away.new.windows o o c.args.call.now _ c.step_go_away.result c.in-StepGoAway-Tracking.is-0
-    (subst (λ (a : Activity). IsFrameStepOverAnySlots _ (asks.StepGoAway c.in-StepGoAway-Tracking.point) c.step_go_away.result c.args.windows.now (record { activity = a; begun = begun }) c.step_go_away.new.windows (record { activity = a; begun = begun }))
+    (subst (λ (a : Activity). LeavesDesk _ (IsFrameStep (asks.StepGoAway c.in-StepGoAway-Tracking.point) c.step_go_away.result) c.args.windows.now (record { activity = a; begun = begun }) c.step_go_away.new.windows (record { activity = a; begun = begun }))
     (sym c.in-StepGoAway-Tracking.is-1) (c.step_go_away.ensures.step begun))
 
 pub returns-in-EndGoAway-Tracking-clause-step : goal.returns-in-EndGoAway-Tracking-clause-step

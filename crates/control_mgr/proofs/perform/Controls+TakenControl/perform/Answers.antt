@@ -35,18 +35,18 @@ returns-in-Size-clause-step g c begun =
 
 pub returns-in-SetValue-clause-step : goal.returns-in-SetValue-clause-step
 returns-in-SetValue-clause-step g c begun =
-    by_call _ _ c.args.call.now (asks.SetValue c.in-SetValue.set) _ _ _ c.args.windows.now c.set_value.new.windows c.args.self.now c.set_value.new.self (opened c.args.activity.now begun) (opened c.args.activity.now begun) c.in-SetValue.is
-    (c.set_value.ensures (opened c.args.activity.now begun) _)
+    by_call _ _ c.args.call.now (asks.SetValue c.in-SetValue.set) _ _ _ c.args.windows.now c.set_number.new.windows c.args.self.now c.set_number.new.self (opened c.args.activity.now begun) (opened c.args.activity.now begun) c.in-SetValue.is
+    (c.set_number.ensures (opened c.args.activity.now begun) _)
 
 pub returns-in-SetMinimum-clause-step : goal.returns-in-SetMinimum-clause-step
 returns-in-SetMinimum-clause-step g c begun =
-    by_call _ _ c.args.call.now (asks.SetMinimum c.in-SetMinimum.set) _ _ _ c.args.windows.now c.set_minimum.new.windows c.args.self.now c.set_minimum.new.self (opened c.args.activity.now begun) (opened c.args.activity.now begun) c.in-SetMinimum.is
-    (c.set_minimum.ensures (opened c.args.activity.now begun) _)
+    by_call _ _ c.args.call.now (asks.SetMinimum c.in-SetMinimum.set) _ _ _ c.args.windows.now c.set_number-in-SetMinimum.new.windows c.args.self.now c.set_number-in-SetMinimum.new.self (opened c.args.activity.now begun) (opened c.args.activity.now begun) c.in-SetMinimum.is
+    (c.set_number-in-SetMinimum.ensures (opened c.args.activity.now begun) _)
 
 pub returns-in-SetMaximum-clause-step : goal.returns-in-SetMaximum-clause-step
 returns-in-SetMaximum-clause-step g c begun =
-    by_call _ _ c.args.call.now (asks.SetMaximum c.in-SetMaximum.set) _ _ _ c.args.windows.now c.set_maximum.new.windows c.args.self.now c.set_maximum.new.self (opened c.args.activity.now begun) (opened c.args.activity.now begun) c.in-SetMaximum.is
-    (c.set_maximum.ensures (opened c.args.activity.now begun) _)
+    by_call _ _ c.args.call.now (asks.SetMaximum c.in-SetMaximum.set) _ _ _ c.args.windows.now c.set_number-in-SetMaximum.new.windows c.args.self.now c.set_number-in-SetMaximum.new.self (opened c.args.activity.now begun) (opened c.args.activity.now begun) c.in-SetMaximum.is
+    (c.set_number-in-SetMaximum.ensures (opened c.args.activity.now begun) _)
 
 pub returns-in-Hilite-clause-step : goal.returns-in-Hilite-clause-step
 returns-in-Hilite-clause-step g c begun =

@@ -1,4 +1,5 @@
-use Rattle.std.proofs.Common.{None, Some, sym, ◌∙◌}
+use Rattle.std.proofs.Common.{None, Some, sym, ap, ◌∙◌}
+use Rattle.std.specs.Prelude.{is_none}
 use Rattle.control_mgr.proofs.Presses.{pressed_on, pressed_on_none, tested_here, tracked_step}
 use Rattle.control_mgr.proofs.Tracks.{settled_there, there}
 use Rattle.control_mgr.proofs.tracking.Controls+TakenControl.track.Goals as goal
@@ -24,3 +25,7 @@ returns-in-None-clause-step g c begun =
     tracked_step _ _ pressed None c.args.windows.now c.args.windows.now c.args.self.now c.args.self.now spot _ _ is (sym c.is_in_range.ensures ∙ c.if-not-is_in_range.false)
     (tested_here _ _ pressed.control c.args.windows.now c.args.self.now spot is _ pressed.point None (there _ c.args.self.now spot.control c.index.result.now is.low c.index.ensures) (sym c.in-None.is ∙ c.part_tested.ensures))
     (pressed_on_none _ _ pressed c.args.windows.now c.args.self.now _)
+
+pub returns-in-Some-clause-trackable : goal.returns-in-Some-clause-trackable
+returns-in-Some-clause-trackable g c =
+    (sym c.is_in_range.ensures ∙ c.if-not-is_in_range.false, ap is_none (c.highlight_part.ensures.there c.args.pressed.control ∙ c.in_ok-spot.ensures.control))

@@ -9,19 +9,21 @@ use Rattle.desk_toolbox.proofs.toolbox.Toolbox.drop_window.Goals as goal
 pub returns-clause-whole : goal.returns-clause-whole
 returns-clause-whole g c =
     let old = c.args.self.now in
-    let new = c.tell_window.new.self in
+    let new = c.window_call.new.self in
     let whole = c.in-Err.ensures.whole in
     let refused = c.in-Err.ensures.step in
     let loan = (taken.loan-value g.dyn-1).it in
     let is = drags_now old.activity c.requires.dragged in
     let same = unshown loan old.windows new.windows _ _ _ _ refused.0.1.1 in
+    let beside =
+    dropped_menus loan (taken_menu.loan-value g.dyn-3).it old.windows new.windows old.menus new.menus old.front new.front _ _ _ _ old.activity same
+    c.in-Err.ensures.aside.0 c.in-Err.ensures.front (ap (λ (m : MenusState). m.stock) refused.1.menus) (record { menus = c.requires.whole.managers.menus; front = c.requires.whole.managers.front }) in
     record {
       windows = whole.windows;
       updates = outlined_updates loan new.windows new.updates new.activity old.activity is whole.updates;
       controls = whole.controls;
       trackable = outlining_tracks_none old.activity _ is;
-      menus =
-          dropped_menus loan (taken_menu.loan-value g.dyn-3).it old.windows new.windows old.menus new.menus _ _ _ _ old.activity same
-          c.in-Err.ensures.aside.0 (ap (λ (m : MenusState). m.stock) refused.1.menus) c.requires.whole.managers.menus;
+      menus = beside.menus;
+      front = beside.front;
       lists = whole.lists;
     }

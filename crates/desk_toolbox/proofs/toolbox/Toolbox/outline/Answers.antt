@@ -9,13 +9,9 @@ use Rattle.control_mgr.specs.WholeControls.{records_of}
 use Rattle.list_mgr.specs.ListDesks.{lists_show}
 use Rattle.list_mgr.specs.WholeLists as lists
 use Rattle.window_outline.proofs.OutlinesShowing.{outlining_showing}
-use Rattle.desk_toolbox.proofs.OutlineStands.{outlining_next, outlining_pulls_none, outlining_tracks_none}
-use Rattle.desk_toolbox.proofs.OutlinesMade.{outlined_updates, same_menus, unchanged}
+use Rattle.desk_toolbox.proofs.OutlineStands.{outlining_next, outlining_tracks_none}
+use Rattle.desk_toolbox.proofs.OutlinesMade.{outlined_menus, outlined_updates, outlining_shows_none, unchanged}
 use Rattle.desk_toolbox.proofs.toolbox.Toolbox.outline.Goals as goal
-
-pub show_outline-requires-clause-menu : goal.show_outline-requires-clause-menu
-show_outline-requires-clause-menu g c =
-    outlining_pulls_none c.in-Ok.next.activity (outlining_next c.args.call.now c.args.self.now.activity c.in-Ok.next.activity _ c.requires.admitted c.in-Ok.ensures.step.1.1)
 
 pub returns-in-Ok-clause-whole : goal.returns-in-Ok-clause-whole
 returns-in-Ok-clause-whole g c stocks whole =
@@ -26,7 +22,16 @@ returns-in-Ok-clause-whole g c stocks whole =
       updates = outlined_updates _ old.windows old.updates old.activity c.in-Ok.next.activity is whole.managers.updates;
       controls = whole.managers.controls;
       trackable = outlining_tracks_none c.in-Ok.next.activity _ is;
-      menus = c.show_outline.ensures.whole stocks.menus whole.managers.menus;
+      menus = outlined_menus (taken_menu.loan-value g.dyn-3).it old.menus stocks.menus old.activity c.in-Ok.next.activity is whole.managers.menus;
+      front = record {
+        menu = record {
+          width = c.show_outline.ensures.width;
+          height = c.show_outline.ensures.height;
+          shown = outlining_shows_none (taken_menu.loan-value g.dyn-3).it old.windows old.menus c.show_outline.new.front c.in-Ok.next.activity is;
+        };
+        kept = c.in-Ok.ensures.outline;
+        outline = c.show_outline.ensures.shown;
+      };
       lists = whole.managers.lists;
     }
 
@@ -36,7 +41,7 @@ returns-in-Ok-clause-step g c stocks whole =
     let shows = controls_show (lists_show (lists.records_of (taken_list.loan-value g.dyn-4).it old.lists)) (records_of (taken_control.loan-value g.dyn-2).it old.controls) in
     let step = outlining_showing shows stocks.windows (desk_of (taken.loan-value g.dyn-1).it old.windows []) c.args.call.now old.activity (Ok c.in-Ok.next) c.in-Ok.ensures.step in (
       (step.0, record { answer_is = step.1.0; leaves = record { windows = unchanged _; activity_is = step.1.1; begun = refl } }),
-      record { events = refl; controls = refl; lists = refl; menus = same_menus (taken_menu.loan-value g.dyn-3).it old.menus c.show_outline.new.self stocks.menus c.show_outline.ensures.list },
+      record { events = refl; controls = refl; lists = refl; menus = refl },
     )
 
 pub returns-in-Err-clause-step : goal.returns-in-Err-clause-step

@@ -1,4 +1,4 @@
-use Rattle.std.proofs.Common.{◌≡◌, false, None, Ok, Err, refl, subst}
+use Rattle.std.proofs.Common.{◌≡◌, false, None, refl, rules, subst}
 use Rattle.tb_geom.specs.Pixels.{holds}
 use Rattle.desk_call.specs.Gates.{gate, standing_of}
 use Rattle.def_iface.specs.contracts.taken_window.TakenWindowDefined.TheImpl as taken
@@ -13,194 +13,117 @@ use Rattle.list_mgr.specs.ListDesks.{lists_show}
 use Rattle.list_mgr.specs.WholeLists as lists
 use Rattle.menu_mgr.proofs.MenusShowing.{menu_step_showing}
 use Rattle.desk_toolbox.proofs.ContentsBeside.{frames_leave, frames_leave_lists, menus_leave, menus_leave_lists}
-use Rattle.desk_toolbox.proofs.MenuStands.{menu_trackable}
+use Rattle.desk_toolbox.proofs.MenuStands.{menu_outlines_none, menu_trackable}
 use Rattle.desk_toolbox.proofs.TrackedControls.{frame_trackable}
 use Rattle.desk_toolbox.proofs.MenusBeside.{frame_whole}
+use Rattle.desk_toolbox.proofs.Quiet.{quiet_named}
 use Rattle.desk_toolbox.proofs.UpdatesBeside.{updates_after_frame, updates_after_menu}
 use Rattle.desk_toolbox.proofs.toolbox.Toolbox.perform.Goals as goal
 
-pub returns-in-Ok-tell_update-clause-whole : goal.returns-in-Ok-tell_update-clause-whole
-returns-in-Ok-tell_update-clause-whole g c = c.in-Ok-tell_update.ensures.whole _ c.requires.whole
+pub returns-in-Update-clause-whole : goal.returns-in-Update-clause-whole
+returns-in-Update-clause-whole g c = c.update_call.ensures.whole _ c.requires.whole
 
-pub returns-in-Ok-tell_update-clause-step : goal.returns-in-Ok-tell_update-clause-step
-returns-in-Ok-tell_update-clause-step g c = rw c.in-Update.is (Ok c.in-Ok-tell_update.reply, refl, c.in-Ok-tell_update.ensures.step _ c.requires.whole)
+pub returns-in-Update-clause-step : goal.returns-in-Update-clause-step
+returns-in-Update-clause-step g c = rw c.in-Update.is (c.update_call.result, search rules, c.update_call.ensures.step _ c.requires.whole)
 
-pub returns-in-Err-tell_update-clause-whole : goal.returns-in-Err-tell_update-clause-whole
-returns-in-Err-tell_update-clause-whole g c = c.in-Err-tell_update.ensures.whole _ c.requires.whole
-
-pub returns-in-Err-tell_update-clause-step : goal.returns-in-Err-tell_update-clause-step
-returns-in-Err-tell_update-clause-step g c = rw c.in-Update.is (Err c.in-Err-tell_update.refusal, refl, c.in-Err-tell_update.ensures.step _ c.requires.whole)
-
-pub returns-in-Ok-perform-clause-whole : goal.returns-in-Ok-perform-clause-whole
-returns-in-Ok-perform-clause-whole g c =
-    let done = c.in-Ok-perform.ensures.step (λ p. false) _ c.requires.whole.managers.windows in
+pub returns-in-Frame-clause-whole : goal.returns-in-Frame-clause-whole
+returns-in-Frame-clause-whole g c =
+    let done = c.perform.ensures.step (λ p. false) _ c.requires.whole.managers.windows in
     let may = subst (λ call. gate c.args.self.now.activity (standing_of call) ≡ None) c.in-Frame.is c.requires.admitted in
     let before : Opened = record { activity = c.args.self.now.activity; begun = λ p. false } in
     let after : Opened = record { activity = c.perform.new.activity; begun = λ p. false } in
+    let menus =
+    frame_whole _ _ c.args.self.now.windows c.perform.new.windows _ _ _ _ _ before after c.in-Frame.call c.perform.result may done.1
+    (record { menus = c.requires.whole.managers.menus; front = c.requires.whole.managers.front }) in
     record {
       windows = done.0;
-      updates = updates_after_frame _ c.args.self.now.windows c.perform.new.windows c.args.self.now.updates _ _ before after c.in-Frame.call (Ok c.in-Ok-perform.reply) may done.1 c.requires.whole.managers.updates;
-      controls = frames_leave c.in-Frame.call (Ok c.in-Ok-perform.reply) _ _ _ done.1 c.requires.whole.managers.controls;
-      lists = frames_leave_lists c.in-Frame.call (Ok c.in-Ok-perform.reply) _ _ _ done.1 c.requires.whole.managers.lists;
-      trackable = frame_trackable _ _ _ c.requires.whole.managers.trackable c.in-Frame.call (Ok c.in-Ok-perform.reply) done.1;
-      menus = frame_whole _ _ c.args.self.now.windows c.perform.new.windows _ _ _ _ before after c.in-Frame.call (Ok c.in-Ok-perform.reply) may done.1 c.requires.whole.managers.menus;
+      updates = updates_after_frame _ c.args.self.now.windows c.perform.new.windows c.args.self.now.updates _ _ before after c.in-Frame.call c.perform.result may done.1 c.requires.whole.managers.updates;
+      controls = frames_leave c.in-Frame.call c.perform.result _ _ _ done.1 c.requires.whole.managers.controls;
+      lists = frames_leave_lists c.in-Frame.call c.perform.result _ _ _ done.1 c.requires.whole.managers.lists;
+      trackable = frame_trackable _ _ _ c.requires.whole.managers.trackable c.in-Frame.call c.perform.result done.1;
+      menus = menus.menus;
+      front = menus.front;
     }
 
-pub returns-in-Ok-perform-clause-step : goal.returns-in-Ok-perform-clause-step
-returns-in-Ok-perform-clause-step g c =
+pub returns-in-Frame-clause-step : goal.returns-in-Frame-clause-step
+returns-in-Frame-clause-step g c =
     let kept = holds c.args.self.now.updates.begun in
-    let done = c.in-Ok-perform.ensures.step kept _ c.requires.whole.managers.windows in
+    let done = c.perform.ensures.step kept _ c.requires.whole.managers.windows in
     let before : Opened = record { activity = c.args.self.now.activity; begun = kept } in
     let after : Opened = record { activity = c.perform.new.activity; begun = kept } in
     rw c.in-Frame.is (
-      Ok c.in-Ok-perform.reply,
-      refl,
+      c.perform.result,
+      search rules,
       (
-        frame_step_showing (controls_show (lists_show (lists.records_of (taken_list.loan-value g.dyn-4).it c.args.self.now.lists)) (records_of (taken_control.loan-value g.dyn-2).it c.args.self.now.controls)) c.in-Frame.call (Ok c.in-Ok-perform.reply) (desk_with before (state_of (taken.loan-value g.dyn-1).it c.args.self.now.windows _)) (desk_with after (state_of (taken.loan-value g.dyn-1).it c.perform.new.windows _))
+        frame_step_showing (controls_show (lists_show (lists.records_of (taken_list.loan-value g.dyn-4).it c.args.self.now.lists)) (records_of (taken_control.loan-value g.dyn-2).it c.args.self.now.controls)) c.in-Frame.call c.perform.result (desk_with before (state_of (taken.loan-value g.dyn-1).it c.args.self.now.windows _)) (desk_with after (state_of (taken.loan-value g.dyn-1).it c.perform.new.windows _))
             c.requires.whole.managers.windows.sound.distinct done.1,
         record { events = refl; controls = refl; lists = refl; menus = refl },
       ),
     )
 
-pub returns-in-Err-perform-clause-whole : goal.returns-in-Err-perform-clause-whole
-returns-in-Err-perform-clause-whole g c =
-    let done = c.in-Err-perform.ensures.step (λ p. false) _ c.requires.whole.managers.windows in
-    let may = subst (λ call. gate c.args.self.now.activity (standing_of call) ≡ None) c.in-Frame.is c.requires.admitted in
-    let before : Opened = record { activity = c.args.self.now.activity; begun = λ p. false } in
-    let after : Opened = record { activity = c.perform.new.activity; begun = λ p. false } in
-    record {
-      windows = done.0;
-      updates = updates_after_frame _ c.args.self.now.windows c.perform.new.windows c.args.self.now.updates _ _ before after c.in-Frame.call (Err c.in-Err-perform.refusal) may done.1 c.requires.whole.managers.updates;
-      controls = frames_leave c.in-Frame.call (Err c.in-Err-perform.refusal) _ _ _ done.1 c.requires.whole.managers.controls;
-      lists = frames_leave_lists c.in-Frame.call (Err c.in-Err-perform.refusal) _ _ _ done.1 c.requires.whole.managers.lists;
-      trackable = frame_trackable _ _ _ c.requires.whole.managers.trackable c.in-Frame.call (Err c.in-Err-perform.refusal) done.1;
-      menus = frame_whole _ _ c.args.self.now.windows c.perform.new.windows _ _ _ _ before after c.in-Frame.call (Err c.in-Err-perform.refusal) may done.1 c.requires.whole.managers.menus;
-    }
-
-pub returns-in-Err-perform-clause-step : goal.returns-in-Err-perform-clause-step
-returns-in-Err-perform-clause-step g c =
-    let kept = holds c.args.self.now.updates.begun in
-    let done = c.in-Err-perform.ensures.step kept _ c.requires.whole.managers.windows in
-    let before : Opened = record { activity = c.args.self.now.activity; begun = kept } in
-    let after : Opened = record { activity = c.perform.new.activity; begun = kept } in
-    rw c.in-Frame.is (
-      Err c.in-Err-perform.refusal,
-      refl,
-      (
-        frame_step_showing (controls_show (lists_show (lists.records_of (taken_list.loan-value g.dyn-4).it c.args.self.now.lists)) (records_of (taken_control.loan-value g.dyn-2).it c.args.self.now.controls)) c.in-Frame.call (Err c.in-Err-perform.refusal) (desk_with before (state_of (taken.loan-value g.dyn-1).it c.args.self.now.windows _)) (desk_with after (state_of (taken.loan-value g.dyn-1).it c.perform.new.windows _))
-            c.requires.whole.managers.windows.sound.distinct done.1,
-        record { events = refl; controls = refl; lists = refl; menus = refl },
-      ),
-    )
-
-pub returns-in-Ok-perform-2-clause-whole : goal.returns-in-Ok-perform-2-clause-whole
-returns-in-Ok-perform-2-clause-whole g c =
-    let done = c.in-Ok-perform-2.ensures (λ p. holds c.args.self.now.updates.begun p) _ c.requires.whole.managers.windows in
+pub returns-in-Menu-clause-whole : goal.returns-in-Menu-clause-whole
+returns-in-Menu-clause-whole g c =
+    let done = c.perform-in-Menu.ensures.step (λ p. holds c.args.self.now.updates.begun p) _ c.requires.whole.managers.windows in
     let may = subst (λ call. gate c.args.self.now.activity (standing_of call) ≡ None) c.in-Menu.is c.requires.admitted in
     let before : Opened = record { activity = c.args.self.now.activity; begun = λ p. holds c.args.self.now.updates.begun p } in
     let after : Opened = record { activity = c.perform-in-Menu.new.activity; begun = λ p. holds c.args.self.now.updates.begun p } in
+    let none = menu_outlines_none c.in-Menu.call c.perform-in-Menu.result _ _ c.perform-in-Menu.new.windows c.perform-in-Menu.new.front may done.2 in
     record {
       windows = done.0;
-      updates = updates_after_menu _ c.args.self.now.windows c.perform-in-Menu.new.windows c.args.self.now.updates _ _ before after _ _ c.in-Menu.call (Ok c.in-Ok-perform-2.reply) may done.2 c.requires.whole.managers.updates;
-      controls = menus_leave c.in-Menu.call (Ok c.in-Ok-perform-2.reply) _ _ _ done.2 c.requires.whole.managers.controls;
-      lists = menus_leave_lists c.in-Menu.call (Ok c.in-Ok-perform-2.reply) _ _ _ done.2 c.requires.whole.managers.lists;
-      trackable = menu_trackable c.in-Menu.call (Ok c.in-Ok-perform-2.reply) _ _ _ may done.2;
+      updates = updates_after_menu _ c.args.self.now.windows c.perform-in-Menu.new.windows c.args.self.now.updates _ _ before after _ _ c.in-Menu.call c.perform-in-Menu.result may done.2 c.requires.whole.managers.updates;
+      controls = menus_leave c.in-Menu.call c.perform-in-Menu.result _ _ _ done.2 c.requires.whole.managers.controls;
+      lists = menus_leave_lists c.in-Menu.call c.perform-in-Menu.result _ _ _ done.2 c.requires.whole.managers.lists;
+      trackable = menu_trackable c.in-Menu.call c.perform-in-Menu.result _ _ _ may done.2;
       menus = done.1;
+      front = record { menu = c.perform-in-Menu.ensures.front; kept = none.0; outline = none.1 };
     }
 
-pub returns-in-Ok-perform-2-clause-step : goal.returns-in-Ok-perform-2-clause-step
-returns-in-Ok-perform-2-clause-step g c =
-    let done = c.in-Ok-perform-2.ensures (λ p. holds c.args.self.now.updates.begun p) _ c.requires.whole.managers.windows in
+pub returns-in-Menu-clause-step : goal.returns-in-Menu-clause-step
+returns-in-Menu-clause-step g c =
+    let done = c.perform-in-Menu.ensures.step (λ p. holds c.args.self.now.updates.begun p) _ c.requires.whole.managers.windows in
     rw c.in-Menu.is (
-      Ok c.in-Ok-perform-2.reply,
-      refl,
+      c.perform-in-Menu.result,
+      search rules,
       record {
-        step = menu_step_showing (controls_show (lists_show (lists.records_of (taken_list.loan-value g.dyn-4).it c.args.self.now.lists)) (records_of (taken_control.loan-value g.dyn-2).it c.args.self.now.controls)) _ _ c.requires.whole.managers.windows.sound.distinct c.in-Menu.call (Ok c.in-Ok-perform-2.reply) done.2;
+        step = menu_step_showing (controls_show (lists_show (lists.records_of (taken_list.loan-value g.dyn-4).it c.args.self.now.lists)) (records_of (taken_control.loan-value g.dyn-2).it c.args.self.now.controls)) _ _ c.requires.whole.managers.windows.sound.distinct c.in-Menu.call c.perform-in-Menu.result done.2;
         events = refl;
         controls = refl;
         lists = refl;
       },
     )
 
-pub returns-in-Err-perform-2-clause-whole : goal.returns-in-Err-perform-2-clause-whole
-returns-in-Err-perform-2-clause-whole g c =
-    let done = c.in-Err-perform-2.ensures (λ p. holds c.args.self.now.updates.begun p) _ c.requires.whole.managers.windows in
-    let may = subst (λ call. gate c.args.self.now.activity (standing_of call) ≡ None) c.in-Menu.is c.requires.admitted in
-    let before : Opened = record { activity = c.args.self.now.activity; begun = λ p. holds c.args.self.now.updates.begun p } in
-    let after : Opened = record { activity = c.perform-in-Menu.new.activity; begun = λ p. holds c.args.self.now.updates.begun p } in
-    record {
-      windows = done.0;
-      updates = updates_after_menu _ c.args.self.now.windows c.perform-in-Menu.new.windows c.args.self.now.updates _ _ before after _ _ c.in-Menu.call (Err c.in-Err-perform-2.refusal) may done.2 c.requires.whole.managers.updates;
-      controls = menus_leave c.in-Menu.call (Err c.in-Err-perform-2.refusal) _ _ _ done.2 c.requires.whole.managers.controls;
-      lists = menus_leave_lists c.in-Menu.call (Err c.in-Err-perform-2.refusal) _ _ _ done.2 c.requires.whole.managers.lists;
-      trackable = menu_trackable c.in-Menu.call (Err c.in-Err-perform-2.refusal) _ _ _ may done.2;
-      menus = done.1;
-    }
+pub returns-in-Event-clause-whole : goal.returns-in-Event-clause-whole
+returns-in-Event-clause-whole g c = c.answer_event.ensures.whole _ c.requires.whole
 
-pub returns-in-Err-perform-2-clause-step : goal.returns-in-Err-perform-2-clause-step
-returns-in-Err-perform-2-clause-step g c =
-    let done = c.in-Err-perform-2.ensures (λ p. holds c.args.self.now.updates.begun p) _ c.requires.whole.managers.windows in
-    rw c.in-Menu.is (
-      Err c.in-Err-perform-2.refusal,
-      refl,
-      record {
-        step = menu_step_showing (controls_show (lists_show (lists.records_of (taken_list.loan-value g.dyn-4).it c.args.self.now.lists)) (records_of (taken_control.loan-value g.dyn-2).it c.args.self.now.controls)) _ _ c.requires.whole.managers.windows.sound.distinct c.in-Menu.call (Err c.in-Err-perform-2.refusal) done.2;
-        events = refl;
-        controls = refl;
-        lists = refl;
-      },
-    )
+pub returns-in-Event-clause-step : goal.returns-in-Event-clause-step
+returns-in-Event-clause-step g c = rw c.in-Event.is (c.answer_event.result, search rules, c.answer_event.ensures.step _)
 
-pub returns-in-Ok-answer_event-clause-whole : goal.returns-in-Ok-answer_event-clause-whole
-returns-in-Ok-answer_event-clause-whole g c = c.in-Ok-answer_event.ensures.whole _ c.requires.whole
+pub returns-in-Control-clause-whole : goal.returns-in-Control-clause-whole
+returns-in-Control-clause-whole g c = c.control_call.ensures.whole
 
-pub returns-in-Ok-answer_event-clause-step : goal.returns-in-Ok-answer_event-clause-step
-returns-in-Ok-answer_event-clause-step g c = rw c.in-Event.is (Ok c.in-Ok-answer_event.reply, refl, c.in-Ok-answer_event.ensures.step _)
+pub returns-in-Control-clause-step : goal.returns-in-Control-clause-step
+returns-in-Control-clause-step g c = rw c.in-Control.is (c.control_call.result, search rules, c.control_call.ensures.step)
 
-pub returns-in-Err-answer_event-clause-whole : goal.returns-in-Err-answer_event-clause-whole
-returns-in-Err-answer_event-clause-whole g c = c.in-Err-answer_event.ensures.whole _ c.requires.whole
+pub returns-in-List-clause-whole : goal.returns-in-List-clause-whole
+returns-in-List-clause-whole g c = c.list_call.ensures.whole
 
-pub returns-in-Err-answer_event-clause-step : goal.returns-in-Err-answer_event-clause-step
-returns-in-Err-answer_event-clause-step g c = rw c.in-Event.is (Err c.in-Err-answer_event.refusal, refl, c.in-Err-answer_event.ensures.step _)
+pub returns-in-List-clause-step : goal.returns-in-List-clause-step
+returns-in-List-clause-step g c = rw c.in-List.is (c.list_call.result, search rules, c.list_call.ensures.step)
 
-pub returns-in-Ok-tell_control-clause-whole : goal.returns-in-Ok-tell_control-clause-whole
-returns-in-Ok-tell_control-clause-whole g c = c.in-Ok-tell_control.ensures.whole
+pub returns-in-Window-clause-step : goal.returns-in-Window-clause-step
+returns-in-Window-clause-step g c = rw c.in-Window.is (c.window_call.result, search rules, c.window_call.ensures.step)
 
-pub returns-in-Ok-tell_control-clause-step : goal.returns-in-Ok-tell_control-clause-step
-returns-in-Ok-tell_control-clause-step g c = rw c.in-Control.is (Ok c.in-Ok-tell_control.reply, refl, c.in-Ok-tell_control.ensures.step)
+pub returns-in-Window-clause-economy : goal.returns-in-Window-clause-economy
+returns-in-Window-clause-economy g c = rw c.in-Window.is c.window_call.ensures.economy
 
-pub returns-in-Err-tell_control-clause-whole : goal.returns-in-Err-tell_control-clause-whole
-returns-in-Err-tell_control-clause-whole g c = c.in-Err-tell_control.ensures.whole
+pub returns-in-Window-clause-quiet : goal.returns-in-Window-clause-quiet
+returns-in-Window-clause-quiet g c = rw c.in-Window.is (quiet_named c.in-Window.call c.window_call.result _ _ _ (search rules) c.window_call.ensures.quiet)
 
-pub returns-in-Err-tell_control-clause-step : goal.returns-in-Err-tell_control-clause-step
-returns-in-Err-tell_control-clause-step g c = rw c.in-Control.is (Err c.in-Err-tell_control.refusal, refl, c.in-Err-tell_control.ensures.step)
+pub returns-in-Outline-clause-whole : goal.returns-in-Outline-clause-whole
+returns-in-Outline-clause-whole g c = c.outline_call.ensures.whole
 
-pub returns-in-Ok-tell_list-clause-whole : goal.returns-in-Ok-tell_list-clause-whole
-returns-in-Ok-tell_list-clause-whole g c = c.in-Ok-tell_list.ensures.whole
+pub returns-in-Outline-clause-step : goal.returns-in-Outline-clause-step
+returns-in-Outline-clause-step g c = rw c.in-Outline.is (c.outline_call.result, search rules, c.outline_call.ensures.step)
 
-pub returns-in-Ok-tell_list-clause-step : goal.returns-in-Ok-tell_list-clause-step
-returns-in-Ok-tell_list-clause-step g c = rw c.in-List.is (Ok c.in-Ok-tell_list.reply, refl, c.in-Ok-tell_list.ensures.step)
-
-pub returns-in-Err-tell_list-clause-whole : goal.returns-in-Err-tell_list-clause-whole
-returns-in-Err-tell_list-clause-whole g c = c.in-Err-tell_list.ensures.whole
-
-pub returns-in-Err-tell_list-clause-step : goal.returns-in-Err-tell_list-clause-step
-returns-in-Err-tell_list-clause-step g c = rw c.in-List.is (Err c.in-Err-tell_list.refusal, refl, c.in-Err-tell_list.ensures.step)
-
-pub returns-in-Ok-clause-economy : goal.returns-in-Ok-clause-economy
-returns-in-Ok-clause-economy g c = rw c.in-Window.is c.in-Ok.ensures.economy
-
-pub returns-in-Err-clause-economy : goal.returns-in-Err-clause-economy
-returns-in-Err-clause-economy g c = rw c.in-Window.is c.in-Err.ensures.economy
-
-pub returns-in-Ok-tell_outline-clause-whole : goal.returns-in-Ok-tell_outline-clause-whole
-returns-in-Ok-tell_outline-clause-whole g c = c.in-Ok-tell_outline.ensures.whole
-
-pub returns-in-Ok-tell_outline-clause-step : goal.returns-in-Ok-tell_outline-clause-step
-returns-in-Ok-tell_outline-clause-step g c = rw c.in-Outline.is (Ok c.in-Ok-tell_outline.reply, refl, c.in-Ok-tell_outline.ensures.step)
-
-pub returns-in-Err-tell_outline-clause-whole : goal.returns-in-Err-tell_outline-clause-whole
-returns-in-Err-tell_outline-clause-whole g c = c.in-Err-tell_outline.ensures.whole
-
-pub returns-in-Err-tell_outline-clause-step : goal.returns-in-Err-tell_outline-clause-step
-returns-in-Err-tell_outline-clause-step g c = rw c.in-Outline.is (Err c.in-Err-tell_outline.refusal, refl, c.in-Err-tell_outline.ensures.step)
+pub returns-in-Outline-clause-economy : goal.returns-in-Outline-clause-economy
+returns-in-Outline-clause-economy g c = rw c.in-Outline.is c.outline_call.ensures.economy

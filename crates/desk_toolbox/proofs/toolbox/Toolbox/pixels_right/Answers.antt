@@ -8,6 +8,7 @@ returns-clause-whole g c stocks whole = record {
     controls = whole.managers.controls;
     trackable = whole.managers.trackable;
     menus = whole.managers.menus;
+    front = whole.managers.front;
     lists = whole.managers.lists;
   };
   right = whole.right;

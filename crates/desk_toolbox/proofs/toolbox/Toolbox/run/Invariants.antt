@@ -1,4 +1,5 @@
 use Rattle.std.proofs.Common.{take, length, ◌≡◌, ◌≤◌}
+use Rattle.desk_toolbox.specs.EconomicalRuns.{IsEconomicalRun}
 use Rattle.desk_toolbox.specs.Run.{IsRunOfCalls}
 use Rattle.desk_toolbox.specs.WholeToolbox.{IsWholeToolbox, toolbox_state}
 use Rattle.def_iface.specs.contracts.stock.StockStockedAll.TheImpl as stock
@@ -18,6 +19,7 @@ invariant-loop-call g l =
     record {
       whole : IsWholeToolbox loan menu_loan control_loan list_loan l.self (stocks l.stock);
       run : IsRunOfCalls (toolbox_state loan menu_loan control_loan list_loan l.fn.self (stocks l.fn.stock)) (take l.call-index l.calls) l.answers.items (toolbox_state loan menu_loan control_loan list_loan l.self (stocks l.stock));
+      economy : IsEconomicalRun loan menu_loan control_loan list_loan (record { toolbox = l.fn.self; stocks = stocks l.fn.stock }) (take l.call-index l.calls) l.answers.items (record { toolbox = l.self; stocks = stocks l.stock });
       room : length l.calls ≤ l.answers.cap;
       made : l.answers.len ≡ l.call-index;
     }

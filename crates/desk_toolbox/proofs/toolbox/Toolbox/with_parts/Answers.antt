@@ -32,6 +32,7 @@ returns-in-Ok-clause-whole g c stocks full =
     let fits_b : SFits w32 c.args.bar = search rules in
     let begun = simp to_z-of_z at c.in-Ok.ensures.begun in
     let empty = begun stocks.windows full.windows in
+    let menus = menus_begin _ _ c.args.width c.args.height c.args.bar _ _ _ _ stocks.windows stocks.menus c.requires.menus c.requires.front empty (stocked_by_full stocks.menus full.menus) in
     let shows = controls_show (lists_show (whole_lists.records_of (taken_list.loan-value g.dyn-4).it c.new-in-Ok-2.result)) (records_of (taken_control.loan-value g.dyn-3).it c.new-in-Ok.result) in
     record {
       managers = record {
@@ -40,7 +41,8 @@ returns-in-Ok-clause-whole g c stocks full =
         controls = none_whole _ _ (ap (λ (d : FullDesk). d.windows) empty.desk) (ap (all_seen _) c.new-in-Ok.ensures.controls) c.new-in-Ok.ensures.next full.controls;
         trackable = tt;
         lists = no_lists_whole _ _ (ap (λ (d : FullDesk). d.windows) empty.desk) (ap (lists.all_seen _) c.new-in-Ok-2.ensures.lists) c.new-in-Ok-2.ensures.next full.lists;
-        menus = menus_begin _ _ c.args.width c.args.height c.args.bar _ _ _ stocks.windows stocks.menus c.requires.menus empty (stocked_by_full stocks.menus full.menus);
+        menus = menus.menus;
+        front = menus.front;
       };
       right = right_bare shows _ (ap (λ (d : FullDesk). d.windows) empty.desk) empty.right;
     }

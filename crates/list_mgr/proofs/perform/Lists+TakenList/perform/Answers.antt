@@ -11,16 +11,16 @@ pub returns-in-Dispose : goal.returns-in-Dispose
 returns-in-Dispose g c = rw c.in-Dispose.is (made_right _ _ _ (IsListStep (asks.Dispose c.in-Dispose.list) c.dispose.result) _ _ _ _ c.args.windows.now c.dispose.new.windows c.args.controls.now c.dispose.new.controls c.args.self.now c.dispose.new.self c.dispose.ensures)
 
 pub returns-in-AddRows : goal.returns-in-AddRows
-returns-in-AddRows g c = rw c.in-AddRows.is (c.add_rows.ensures _ _)
+returns-in-AddRows g c = rw c.in-AddRows.is (rw c.add.ensures at c.change_lines.ensures _ _)
 
 pub returns-in-AddColumns : goal.returns-in-AddColumns
-returns-in-AddColumns g c = rw c.in-AddColumns.is (c.add_columns.ensures _ _)
+returns-in-AddColumns g c = rw c.in-AddColumns.is (rw c.add-in-AddColumns.ensures at c.change_lines-in-AddColumns.ensures _ _)
 
 pub returns-in-DeleteRows : goal.returns-in-DeleteRows
-returns-in-DeleteRows g c = rw c.in-DeleteRows.is (c.delete_rows.ensures _ _)
+returns-in-DeleteRows g c = rw c.in-DeleteRows.is (rw c.delete.ensures at c.change_lines-in-DeleteRows.ensures _ _)
 
 pub returns-in-DeleteColumns : goal.returns-in-DeleteColumns
-returns-in-DeleteColumns g c = rw c.in-DeleteColumns.is (c.delete_columns.ensures _ _)
+returns-in-DeleteColumns g c = rw c.in-DeleteColumns.is (rw c.delete-in-DeleteColumns.ensures at c.change_lines-in-DeleteColumns.ensures _ _)
 
 pub returns-in-Scroll : goal.returns-in-Scroll
 returns-in-Scroll g c = rw c.in-Scroll.is (c.scroll.ensures _ _)

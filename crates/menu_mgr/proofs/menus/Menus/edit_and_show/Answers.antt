@@ -7,7 +7,7 @@ pub show_titles-requires-clause-few : goal.show_titles-requires-clause-few
 show_titles-requires-clause-few g c = few_after (taken.loan-value g.dyn-1).it c.args.call.now _ _ c.in-Ok.ensures.1.menus c.requires.few
 
 pub returns-in-Ok : goal.returns-in-Ok
-returns-in-Ok g c begun kept menus slots whole = edited_step _ _ c.args.call.now c.requires.edits slots _ _ begun _ _ kept menus refl refl c.in-Ok.reply c.in-Ok.ensures (c.show_titles.ensures slots whole)
+returns-in-Ok g c begun kept menus slots whole = edited_step _ _ c.args.call.now c.requires.edits slots c.args.windows.now c.show_titles.new.windows begun _ _ kept menus refl c.in-Ok.reply c.in-Ok.ensures (c.show_titles.ensures slots whole)
 
 pub returns-in-Err : goal.returns-in-Err
-returns-in-Err g c begun kept menus slots whole = refused_edit _ _ c.args.call.now c.requires.edits slots c.args.windows.now c.args.windows.now begun _ _ kept menus refl refl c.in-Err.refusal c.in-Err.ensures whole
+returns-in-Err g c begun kept menus slots whole = refused_edit _ _ c.args.call.now c.requires.edits slots c.args.windows.now c.args.windows.now begun _ _ kept menus refl c.in-Err.refusal c.in-Err.ensures whole

@@ -14,4 +14,4 @@ returns g c =
     let fits : SFits w32 c.args.menu = search rules in
     let found = simp to_z-of_z at c.in_ok-at.ensures in
     ended _ c.args.menu c.in_ok-at.at c.remove-definition.result c.args.self.now _ _ _ found.0 c.remove-definition.ensures.value c.put_away.ensures
-    c.remove-definition.ensures.menus c.remove-definition.ensures.highlighted (record { alloc = refl; room = c.remove-definition.ensures.room; overlay = refl })
+    c.remove-definition.ensures.menus c.remove-definition.ensures.highlighted (record { alloc = refl; room = c.remove-definition.ensures.room })

@@ -14,7 +14,7 @@ pub returns-in-Ok : goal.returns-in-Ok
 returns-in-Ok g c begun slots whole =
     let fits : SFits w32 c.args.menu = search rules in
     let ended = simp to_z-of_z at c.in-Ok.ensures in
-    ended_step _ _ slots _ _ begun _ _ _ _ c.requires.menus (c.show_titles.ensures slots whole) c.args.menu (menu_index c.args.menu c.args.self.now.list.menus.items) c.in-Ok.reply refl ended
+    ended_step _ _ slots c.args.windows.now c.show_titles.new.windows begun _ _ _ _ c.requires.menus (c.show_titles.ensures slots whole) c.args.menu (menu_index c.args.menu c.args.self.now.list.menus.items) c.in-Ok.reply refl ended
 
 pub returns-in-Err : goal.returns-in-Err
 returns-in-Err g c begun slots whole =

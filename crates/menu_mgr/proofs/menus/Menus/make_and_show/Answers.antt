@@ -8,7 +8,7 @@ pub show_titles-requires-clause-few : goal.show_titles-requires-clause-few
 show_titles-requires-clause-few g c = few_made _ c.args.new.now c.in-Ok.reply _ _ _ _ c.in-Ok.ensures
 
 pub returns-in-Ok : goal.returns-in-Ok
-returns-in-Ok g c begun slots whole = made_step _ _ slots _ _ begun _ _ _ _ c.requires.menus (c.show_titles.ensures slots whole) c.args.new.now c.in-Ok.reply c.in-Ok.ensures
+returns-in-Ok g c begun slots whole = made_step _ _ slots c.args.windows.now c.show_titles.new.windows begun _ _ _ _ c.requires.menus (c.show_titles.ensures slots whole) c.args.new.now c.in-Ok.reply c.in-Ok.ensures
 
 pub returns-in-Err : goal.returns-in-Err
 returns-in-Err g c begun slots whole = refused_step _ _ (New c.args.new.now) c.in-Err.refusal slots _ (opened Idle begun) _ _ _ _ whole c.requires.menus c.in-Err.ensures.0 c.in-Err.ensures.1 c.in-Err.ensures.2

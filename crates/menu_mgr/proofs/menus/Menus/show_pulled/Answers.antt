@@ -12,8 +12,8 @@ pub pull-requires-clause-live : goal.pull-requires-clause-live
 pull-requires-clause-live g c =
     live_there (definition.loan-value g.dyn-1).it c.args.self.now.list.menus.items c.args.at c.index-listed.result.now c.requires.at c.index-listed.ensures c.requires.live
 
-pub returns-clause-front : goal.returns-clause-front
-returns-clause-front g c =
+pub returns : goal.returns
+returns g c =
     let loan = (definition.loan-value g.dyn-1).it in
     let x = c.index-listed.result.now in
     let base = c.args.windows.now.screen in

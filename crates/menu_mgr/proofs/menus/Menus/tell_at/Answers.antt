@@ -14,4 +14,4 @@ returns-clause-told g c =
 pub returns-clause-front : goal.returns-clause-front
 returns-clause-front g c base shown =
     front_here (definition.loan-value g.dyn-1).it c.args.self.now.list.menus.items c.args.at c.index_mut-listed.result.now c.told-damage.new.self c.requires.at c.index_mut-listed.ensures.value c.told-damage.ensures.slot
-    c.args.font.now c.args.pulled base c.args.self.now.overlay.front c.redraw.new.self.front (λ s. c.redraw.ensures base _ c.told-damage.ensures.damage s) shown
+    c.args.font.now c.args.pulled base c.args.front.now.front c.redraw.new.self.front (λ s. c.redraw.ensures base _ c.told-damage.ensures.damage s) shown

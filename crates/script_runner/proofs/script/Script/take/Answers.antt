@@ -18,5 +18,5 @@ returns-clause-ends g c =
     let stocks = (stock.all_slots-value g.dyn-1 g.dyn-2 g.dyn-4 g.dyn-3).it in
     let fits : SFits w32 c.args.self.now.version = search rules in
     let why = simp to_z-of_z at c.why_unread-refusal.ensures in
-    asked_so c.args.raw (script_of loan menu_loan control_loan list_loan c.args.self.now (stocks c.args.stock.now)) c.args.command.now _ _ _ c.obey.result
+    asked_so c.args.writer.now.raw (script_of loan menu_loan control_loan list_loan c.args.self.now (stocks c.args.stock.now)) c.args.command.now _ _ _ c.obey.result
     c.in_default-command.not-Version (sym why ∙ none_of c.why_unread-refusal.result c.in_default.not-Some) c.obey.ensures.ends

@@ -13,8 +13,8 @@ use Rattle.script_runner.proofs.session.Session.check.Goals as goal
 pub differences-count-requires : goal.differences-count-requires
 differences-count-requires g c = c.requires.kept c.in-Some.desk c.in-Some.is
 
-pub returns : goal.returns
-returns g c = λ stocks.
+pub returns-clause-line : goal.returns-clause-line
+returns-clause-line g c = λ stocks.
     let loan = (taken.loan-value g.dyn-1).it in
     let menu_loan = (taken_menu.loan-value g.dyn-3).it in
     let control_loan = (taken_control.loan-value g.dyn-2).it in
@@ -25,4 +25,4 @@ returns g c = λ stocks.
       | in-Some w ↦ subst (λ n. IsCheckLine session (check_text (result_ok n))) (sym w.count-is) (line_of_desk loan menu_loan control_loan list_loan c.args.self.now.font stocks c.args.self.now.desk w.in-Some.desk w.differences-count.result w.in-Some.is w.differences-count.ensures)
       | in-None w ↦ subst (λ n. IsCheckLine session (check_text (result_ok n))) (sym w.count-is) (line_of_none loan menu_loan control_loan list_loan c.args.self.now.font stocks c.args.self.now.desk w.in-None.is)
     ] in
-    (check_text c.ok.result, subst (λ n. IsCheckLine session (check_text n)) (sym c.ok.ensures.value) line, c.write_check.ensures)
+    (check_text c.ok.result, subst (λ n. IsCheckLine session (check_text n)) (sym c.ok.ensures.value) line, c.check.ensures.sent)

@@ -18,7 +18,7 @@ returns-in-Ok-clause-ends g c =
     let fits_b : SFits w32 c.first_size-size.result.bar = search rules in
     let fits : may_be c.first_size-size.result ≡ true = simp to_z-of_z at c.in-Ok.ensures.in_range in
     let empty = simp to_z-of_z at (c.in-Ok.ensures.begun _ full.windows) in
-    rw (c.requires.unmade, ← c.in-Some.ensures.value) (opened c.args.raw _ _ c.args.command.now _ _ _ _ _ c.requires.known (sym (ap may_be c.first_size-size.ensures) ∙ fits)
+    rw (c.requires.unmade, ← c.in-Some.ensures.value) (opened c.args.writer.now.raw _ _ c.args.command.now _ _ _ _ _ c.requires.known (sym (ap may_be c.first_size-size.ensures) ∙ fits)
     (new_desk _ _ _ _ c.in-Ok.desk _ _ c.first_size-size.result _ c.first_size-size.ensures empty (c.in-Ok.ensures.just_begun _ full)) c.first_answer-outcome.ensures.answered)
 
 pub returns-in-NoMemory-clause-ends : goal.returns-in-NoMemory-clause-ends
@@ -28,7 +28,7 @@ returns-in-NoMemory-clause-ends g c =
     let fits_b : SFits w32 c.first_size-size.result.bar = search rules in
     let why : c.in-Err.field-0.refusal ≡ cond (may_be c.first_size-size.result) NoMemory OutOfRange = simp to_z-of_z at c.in-Err.ensures.refused.1 in
     rw (c.requires.unmade, ← c.in-Some.ensures.value, c.in-Err.ensures.refused.0)
-    (memory_refused (Unit {0}) c.args.raw _ _ c.args.command.now _ c.requires.known (sym c.in-NoMemory.is ∙ why ∙ ap (λ s. cond (may_be s) NoMemory OutOfRange) c.first_size-size.ensures))
+    (memory_refused (Unit {0}) c.args.writer.now.raw _ _ c.args.command.now _ c.requires.known (sym c.in-NoMemory.is ∙ why ∙ ap (λ s. cond (may_be s) NoMemory OutOfRange) c.first_size-size.ensures))
 
 pub returns-in_default-refusal-clause-ready : goal.returns-in_default-refusal-clause-ready
 returns-in_default-refusal-clause-ready g c = rw c.requires.unmade (rw (c.requires.unmade, ← c.in-Some.ensures.value) at c.requires.ready)
@@ -40,4 +40,4 @@ returns-in_default-refusal-clause-ends g c =
     let fits_b : SFits w32 c.first_size-size.result.bar = search rules in
     let why : c.in-Err.field-0.refusal ≡ cond (may_be c.first_size-size.result) NoMemory OutOfRange = simp to_z-of_z at c.in-Err.ensures.refused.1 in
     rw (c.requires.unmade, ← c.in-Some.ensures.value, c.in-Err.ensures.refused.0)
-    (size_refused c.args.raw _ _ c.args.command.now c.in-Err.field-0.refusal _ _ _ c.requires.known (why ∙ ap (λ s. cond (may_be s) NoMemory OutOfRange) c.first_size-size.ensures) c.in_default-refusal.not-NoMemory c.show_reply.ensures)
+    (size_refused c.args.writer.now.raw _ _ c.args.command.now c.in-Err.field-0.refusal _ _ _ c.requires.known (why ∙ ap (λ s. cond (may_be s) NoMemory OutOfRange) c.first_size-size.ensures) c.in_default-refusal.not-NoMemory c.reply.ensures.sent)

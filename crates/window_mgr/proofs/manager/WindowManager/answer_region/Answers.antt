@@ -26,18 +26,18 @@ pub area_bytes-requires-clause-here : goal.area_bytes-requires-clause-here
 area_bytes-requires-clause-here g c =
     telling.region_screen _ c.args.self.now c.requires c.args.window c.in-Some.at c.at.result.now c.in-Some.ensures.0 c.at.ensures (c.in-Some.ensures.1 c.at.result.now c.at.ensures) c.index_mut.result.now c.index_mut.ensures.value c.args.told
 
-pub returns-in_default : goal.returns-in_default
-returns-in_default g c =
+pub returns-in_default-clause-step : goal.returns-in_default-clause-step
+returns-in_default-clause-step g c =
     telling.region_refused _ c.args.self.now c.requires c.args.window c.args.told c.args.self.now NoSuchWindow (record { screen = refl; bar = refl; font = refl; gray = refl; desktop = refl; windows = refl; areas = refl; active = refl; next = refl }) (telling.missing_refused _ c.args.self.now c.requires c.args.window c.args.told c.in_default.ensures)
 
-pub returns-in-Ok : goal.returns-in-Ok
-returns-in-Ok g c =
+pub returns-in-Ok-clause-step : goal.returns-in-Ok-clause-step
+returns-in-Ok-clause-step g c =
     let same = telling.same_desk _ c.args.self.now c.requires c.args.window c.in-Some.at c.index_mut.result.now c.area_bytes.new.area c.index_mut.ensures.value c.in-Ok.ensures.same in
     let told = telling.region_told _ c.args.self.now c.requires c.args.window c.in-Some.at c.at.result.now c.in-Some.ensures.0 c.at.ensures (c.in-Some.ensures.1 c.at.result.now c.at.ensures) c.index_mut.result.now c.index_mut.ensures.value c.args.told (λ b. b.items) (Ok c.in-Ok.bytes) c.in-Ok.ensures.bytes in
     telling.region_step _ c.args.self.now c.requires c.args.window c.args.told _ (Region c.in-Ok.bytes) same told.0 told.1
 
-pub returns-in-Err : goal.returns-in-Err
-returns-in-Err g c =
+pub returns-in-Err-clause-step : goal.returns-in-Err-clause-step
+returns-in-Err-clause-step g c =
     let same = telling.same_desk _ c.args.self.now c.requires c.args.window c.in-Some.at c.index_mut.result.now c.area_bytes.new.area c.index_mut.ensures.value c.in-Err.ensures.same in
     let told = telling.region_told _ c.args.self.now c.requires c.args.window c.in-Some.at c.at.result.now c.in-Some.ensures.0 c.at.ensures (c.in-Some.ensures.1 c.at.result.now c.at.ensures) c.index_mut.result.now c.index_mut.ensures.value c.args.told {X = Vec ℕ Global} (λ b. b.items) (Err c.in-Err.refusal) c.in-Err.ensures.bytes in
     telling.region_refused _ c.args.self.now c.requires c.args.window c.args.told _ c.in-Err.refusal same told

@@ -36,4 +36,4 @@ returns g c =
       shut = c.put_away.ensures;
     } in
     let done = closing.dispose_done _ c.args.window c.in-Some.at _ _ c.take_off-taken.result c.args.self.now c.take_off-taken.new.self _ _ call in
-    record { whole = done.0; step = done.1; sparing = closing.dispose_spares _ c.args.window c.in-Some.at _ _ c.take_off-taken.result c.args.self.now c.take_off-taken.new.self _ _ call }
+    record { whole = done.0; step = done.1; sparing = closing.dispose_spares _ c.args.window c.in-Some.at _ _ c.take_off-taken.result c.args.self.now c.take_off-taken.new.self _ _ call; quiet = tt }

@@ -33,8 +33,8 @@ paint_last_operation-requires-clause-origin g c =
     let changed = drawing.changed_there _ c.args.self.now c.requires c.in_ok-at.at c.in_ok-at.ensures.window c.in_ok-at.ensures.there (with_operation c.in-Ok.operation) c.at.result.now (c.at.ensures ∙ ap (λ l. get_or l.records.items c.in_ok-at.at c.at.result.now) pushed) in
     ap (λ w. in_plane w.origin) changed ∙ (drawing.window_settled _ c.args.self.now c.requires c.in_ok-at.at c.in_ok-at.ensures.window c.in_ok-at.ensures.there).origin
 
-pub returns : goal.returns
-returns g c =
+pub returns-clause-step : goal.returns-clause-step
+returns-clause-step g c =
     let pushed = drawing.when_ok c.push_operation.result (sym c.is_err.ensures.value ∙ c.if-is_err.false) c.push_operation.ensures.added in
     steps.draws _ c.args.self.now _ c.args.drawing.now c.in_ok-at.at c.in_ok-at.ensures
     (drawing.is_drawn_at _ c.args.self.now c.requires c.in_ok-at.at c.in_ok-at.ensures.window c.in_ok-at.ensures.there
@@ -42,8 +42,8 @@ returns g c =
     (c.at.ensures ∙ ap (λ l. get_or l.records.items c.in_ok-at.at c.at.result.now) pushed) c.index.ensures c.in-Ok.ensures.1 c.paint_last_operation.ensures.drawn
     _ (ap (λ l. record c.args.self.now { windows = l; screen = c.paint_last_operation.new.map }) pushed))
 
-pub returns-in_default : goal.returns-in_default
-returns-in_default g c = steps.no_memory _ c.args.self.now _ c.args.drawing.now c.in_ok-at.at c.in_ok-at.ensures (search rules)
+pub returns-in_default-clause-step : goal.returns-in_default-clause-step
+returns-in_default-clause-step g c = steps.no_memory _ c.args.self.now _ c.args.drawing.now c.in_ok-at.at c.in_ok-at.ensures (search rules)
 
-pub returns-then-is_err : goal.returns-then-is_err
-returns-then-is_err g c = steps.no_memory _ c.args.self.now _ c.args.drawing.now c.in_ok-at.at c.in_ok-at.ensures (search rules)
+pub returns-then-is_err-clause-step : goal.returns-then-is_err-clause-step
+returns-then-is_err-clause-step g c = steps.no_memory _ c.args.self.now _ c.args.drawing.now c.in_ok-at.at c.in_ok-at.ensures (search rules)

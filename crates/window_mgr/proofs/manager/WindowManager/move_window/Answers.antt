@@ -6,7 +6,6 @@ use Rattle.window_mgr.specs.declared.arrange.Edit.{Edit}
 use Rattle.window_mgr.proofs.PaintLemmas.{settled_in}
 use Rattle.window_mgr.proofs.SameDeskLemmas.{is_refused}
 use Rattle.window_mgr.specs.Edits.{IsWindowAt}
-use Rattle.window_mgr.specs.Sparing.{Spares}
 use Rattle.window_mgr.proofs.EditSeats as seating
 use Rattle.window_mgr.proofs.Steps as steps
 use Rattle.window_mgr.proofs.manager.WindowManager.move_window.Goals as goal
@@ -17,11 +16,11 @@ returns-then-not-may_stand-clause-step g c =
     is_refused _ c.args.self.now (Move c.args.moved) _ (λ slots whole.
     inl (steps.may_move _ c.args.self.now c.args.self.now slots whole c.in-Some.at c.args.moved.window c.at-found.result.now c.in-Some.ensures.0 (search rules) (c.in-Some.ensures.1 c.at-found.result.now (search rules)) c.args.moved false refl (search rules)))
 
-pub local-by-requires-clause-place : goal.local-by-requires-clause-place
-local-by-requires-clause-place g c = (settled_in _ c.args.self.now.windows.records.items c.in-Some.at c.at-found.result.now c.in-Some.ensures.0 (search rules) c.requires.whole.sound.settled).placed
+pub way-by-requires-clause-from : goal.way-by-requires-clause-from
+way-by-requires-clause-from g c = (settled_in _ c.args.self.now.windows.records.items c.in-Some.at c.at-found.result.now c.in-Some.ensures.0 (search rules) c.requires.whole.sound.settled).placed
 
-pub local-by-requires-clause-point : goal.local-by-requires-clause-point
-local-by-requires-clause-point g c =
+pub way-by-requires-clause-to : goal.way-by-requires-clause-to
+way-by-requires-clause-to g c =
     steps.arrives _ c.args.self.now c.args.self.now _ c.requires.whole c.in-Some.at c.args.moved.window c.at-found.result.now c.in-Some.ensures.0 (search rules) (c.in-Some.ensures.1 c.at-found.result.now (search rules)) c.args.moved (search rules)
 
 pub rearrange-requires-clause-to : goal.rearrange-requires-clause-to
@@ -41,7 +40,7 @@ rearrange-requires-clause-placed g c =
 
 pub rearrange-requires-clause-way : goal.rearrange-requires-clause-way
 rearrange-requires-clause-way g c =
-    seating.goes_as_far (record c.of-edit.result { place = c.args.moved.place; user_state = None; to = c.if-moved.edit }) c.in-Some.at c.local-by.result c.args.self.now.windows.records.items c.at-found.result.now (ap (λ (e : Edit). e.at) c.of-edit.ensures) c.in-Some.ensures.0 (search rules) c.local-by.ensures
+    seating.goes_there (record c.of-edit.result { place = c.args.moved.place; user_state = None; to = c.if-moved.edit }) c.in-Some.at c.way-by.result c.args.self.now.windows.records.items c.at-found.result.now (ap (λ (e : Edit). e.at) c.of-edit.ensures) c.in-Some.ensures.0 (search rules) c.way-by.ensures
 
 pub returns-clause-step : goal.returns-clause-step
 returns-clause-step g c slots whole =
@@ -55,10 +54,11 @@ returns-clause-step g c slots whole =
     let to = goes ∙ ap (λ n. if c.args.moved.select then n else c.in-Some.at) c.class_front-front.ensures.place in
     λ k. record { at = (ap (λ (e : Edit). e.at) c.of-edit.ensures) k; to = to k; place = c.args.moved.place; size = (ap (λ (e : Edit). e.size) c.of-edit.ensures) k; user_state = None; shown = (ap (λ (e : Edit). e.shown) c.of-edit.ensures) k })
     (c.if_so-activates.ensures ∙ ap (λ a. if c.args.moved.select then a else Nothing) (c.if_so.ensures ∙ ap (λ b. if b then Itself else Nothing) c.leads.ensures))
-    c.local-by.ensures c.rearrange.ensures.step
+    c.way-by.ensures c.rearrange.ensures.step
 
 pub returns-clause-sparing : goal.returns-clause-sparing
 returns-clause-sparing g c =
     let found = c.at-found.result.now in
-    subst (λ s. Spares _ s (Some c.args.moved.place) c.args.self.now c.rearrange.new.self) (c.in-Some.ensures.1 found (search rules))
-    (c.rearrange.ensures.sparing found (subst (λ i. IsWindowAt c.args.self.now.windows.records.items i found) (sym (ap (λ (e : Edit). e.at) c.of-edit.ensures)) (search rules)))
+    let t = c.args.self.now in
+    steps.move_spares _ t c.rearrange.new.self _ c.requires.whole c.in-Some.at c.args.moved.window found c.in-Some.ensures.0 (search rules) (c.in-Some.ensures.1 found (search rules)) c.args.moved c.way-by.result refl c.way-by.ensures
+    (c.rearrange.ensures.sparing found (subst (λ i. IsWindowAt t.windows.records.items i found) (sym (ap (λ (e : Edit). e.at) c.of-edit.ensures)) (search rules)))

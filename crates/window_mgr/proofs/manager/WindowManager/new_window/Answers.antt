@@ -21,6 +21,9 @@ pub returns-in-Err-plan_window-clause-step : goal.returns-in-Err-plan_window-cla
 returns-in-Err-plan_window-clause-step g c =
     adding.is_not_made _ c.args.floating c.args.window.now _ _ _ _ _ _ _ c.requires (slots.taken_named _ _ _ _ _ c.as_slice.ensures c.in-Ok.ensures.taken) c.in-Err-plan_window.ensures.err c.plan_window.ensures.same c.put_back.ensures
 
+pub returns-in-Err-plan_window-clause-quiet : goal.returns-in-Err-plan_window-clause-quiet
+returns-in-Err-plan_window-clause-quiet g c = c.plan_window.ensures.same.screen
+
 pub returns-in-Ok-plan_window-clause-whole : goal.returns-in-Ok-plan_window-clause-whole
 returns-in-Ok-plan_window-clause-whole g c =
     adding.is_whole _ c.args.floating _ _ _ _ _ _ _ _ _ _ (record {

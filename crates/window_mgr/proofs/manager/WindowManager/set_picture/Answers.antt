@@ -13,8 +13,8 @@ index-area-requires g c =
 pub put_update-requires : goal.put_update-requires
 put_update-requires g c = steps.area_low _ c.args.self.now c.requires c.in-Some.at _ c.in-Some.ensures
 
-pub returns : goal.returns
-returns g c =
+pub returns-clause-step : goal.returns-clause-step
+returns-clause-step g c =
     steps.sets _ c.args.self.now c.args.new.now c.in-Some.at c.in-Some.ensures _ (search rules)
     (
     rw c.put_update.ensures.state (steps.is_picture_at _ c.args.self.now c.requires c.in-Some.at _ c.in-Some.ensures c.args.new.now c.index-area.result.now c.put_update.ensures.area c.at.result.now c.covered.result.now c.in_ok-shown.shown c.in_ok-update.update c.index-area.ensures c.put_update.ensures.there c.at.ensures c.covered.ensures c.in_ok-shown.ensures c.in_ok-update.ensures _
@@ -22,20 +22,20 @@ returns g c =
     refl refl)
     )
 
-pub returns-then-not-is_in_range : goal.returns-then-not-is_in_range
-returns-then-not-is_in_range g c = steps.out_of_range _ c.args.self.now c.args.new.now c.in-Some.at c.in-Some.ensures (search rules)
+pub returns-then-not-is_in_range-clause-step : goal.returns-then-not-is_in_range-clause-step
+returns-then-not-is_in_range-clause-step g c = steps.out_of_range _ c.args.self.now c.args.new.now c.in-Some.at c.in-Some.ensures (search rules)
 
-pub returns-in_err-picture : goal.returns-in_err-picture
-returns-in_err-picture g c =
+pub returns-in_err-picture-clause-step : goal.returns-in_err-picture-clause-step
+returns-in_err-picture-clause-step g c =
     let e = err_from_is_err_and c.from_residual.result c.from_residual.ensures.1 in
     rw (e.1, e.2) (steps.no_memory _ c.args.self.now c.args.new.now c.in-Some.at c.in-Some.ensures _ (search rules) (search rules))
 
-pub returns-in_err-shown : goal.returns-in_err-shown
-returns-in_err-shown g c =
+pub returns-in_err-shown-clause-step : goal.returns-in_err-shown-clause-step
+returns-in_err-shown-clause-step g c =
     let e = err_from_is_err_and c.from_residual-in_err-shown.result c.from_residual-in_err-shown.ensures.1 in
     rw (e.1, e.2) (steps.no_memory _ c.args.self.now c.args.new.now c.in-Some.at c.in-Some.ensures _ (search rules) (search rules))
 
-pub returns-in_err-update : goal.returns-in_err-update
-returns-in_err-update g c =
+pub returns-in_err-update-clause-step : goal.returns-in_err-update-clause-step
+returns-in_err-update-clause-step g c =
     let e = err_from_is_err_and c.from_residual-in_err-update.result c.from_residual-in_err-update.ensures.1 in
     rw (e.1, e.2) (steps.no_memory _ c.args.self.now c.args.new.now c.in-Some.at c.in-Some.ensures _ (search rules) (search rules))

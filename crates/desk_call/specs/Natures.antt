@@ -1,0 +1,62 @@
+-- What kind of call it is, as far as the desk asks before or after a manager performs it.
+use Rattle.std.specs.Prelude.{ℕ, Bool, true, false, Option, None, Some}
+use Rattle.desk_call.specs.declared.activity.Standing.{Standing}
+use Rattle.desk_call.specs.declared.activity.Standing.TheVariants.{Asks}
+use Rattle.desk_call.specs.declared.call.Call.{Call}
+use Rattle.desk_call.specs.declared.call.Call.TheVariants.{Window, Update, Frame, Control, List, Menu, Outline, Event}
+use Rattle.desk_call.specs.declared.control.ControlCall.{ControlCall}
+use Rattle.desk_call.specs.declared.control.ControlCall.TheVariants as controls
+use Rattle.desk_call.specs.declared.nature.Asked.{Asked}
+use Rattle.desk_call.specs.declared.nature.Asked.TheVariants.{Nothing, WindowAt, ControlAt}
+use Rattle.desk_call.specs.declared.nature.Asked.TheVariants as asked
+use Rattle.desk_call.specs.declared.nature.Nature.{Nature}
+use Rattle.desk_call.specs.declared.window.WindowCall.{WindowCall}
+use Rattle.desk_call.specs.declared.window.WindowCall.TheVariants.{Dispose, Find, NewFloating, VisibleRegion, UpdateRegion}
+use Rattle.desk_call.specs.Gates.{window_standing, update_standing, frame_standing, control_standing, list_standing}
+use Rattle.desk_call.specs.Gates.{menu_standing, outline_standing}
+
+-- the window that is gone once the call was done
+abbrev pub window_ends : WindowCall → Option ℕ
+window_ends (Dispose s) = Some s
+window_ends _ = None
+
+-- what a call asks for that something in front of the windows may answer: a point of the screen, a point of a window, or a region
+abbrev pub window_asks : WindowCall → Asked
+window_asks (Find p) = WindowAt p
+window_asks (VisibleRegion s) = asked.VisibleRegion s
+window_asks (UpdateRegion s) = asked.UpdateRegion s
+window_asks _ = Nothing
+
+abbrev pub control_asks : ControlCall → Asked
+control_asks (controls.Find p) = ControlAt p
+control_asks _ = Nothing
+
+-- floating windows are of version 2
+abbrev pub is_floating : WindowCall → Bool
+is_floating (NewFloating w) = true
+is_floating _ = false
+
+-- a call of this standing, and no more than that
+abbrev pub plain : Standing → Nature
+plain standing = record { standing = standing; ends = None; asks = Nothing; is_version_2 = false }
+
+abbrev pub window_nature : WindowCall → Nature
+window_nature call = record {
+  standing = window_standing call;
+  ends = window_ends call;
+  asks = window_asks call;
+  is_version_2 = is_floating call;
+}
+
+abbrev pub control_nature : ControlCall → Nature
+control_nature call = record (plain (control_standing call)) { asks = control_asks call }
+
+abbrev pub nature_of : Call → Nature
+nature_of (Window call) = window_nature call
+nature_of (Update call) = plain (update_standing call)
+nature_of (Frame call) = plain (frame_standing call)
+nature_of (Control call) = control_nature call
+nature_of (List call) = plain (list_standing call)
+nature_of (Menu call) = plain (menu_standing call)
+nature_of (Outline call) = plain (outline_standing call)
+nature_of (Event call) = plain Asks

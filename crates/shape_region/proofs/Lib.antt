@@ -1,0 +1,2 @@
+-- Lemmas on rows of strips, one by one and joined.
+pub mod RowLemmas

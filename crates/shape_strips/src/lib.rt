@@ -1,0 +1,41 @@
+//! Round shapes as exact sets of pixels, row by row: rectangles whose corners are quarters of an oval, ovals among
+//! them, and what their frames leave inside.
+//!
+//! A pixel is in a round shape where its centre is: in the oval of a corner, or between the corners. Distances are
+//! counted in half pixels from the middle of that oval, so that centres are at whole numbers and nothing is rounded
+//! (`specs::Ovals`, `specs::Rounds`). A `Corner` is the size of the oval. It counts as no wider and no higher than
+//! the shape; one that is as wide and as high makes an oval (`Corner::of_oval`), and one without width or height a
+//! rectangle (`laws`).
+//!
+//! A frame is a round shape less its inside. A pixel is inside where the shape that is smaller by the pen on each
+//! side has it, and the whole shape has it and the four pixels beside it (`specs::Frames`). The second condition
+//! closes the frames of flat ovals, which would have gaps without it.
+//!
+//! A `Strip` is a set of pixels with at most one `Run` in each row. `Strip::run` answers the run of any row by
+//! itself, and takes no memory. Round shapes (`RoundStrip`) and insides (`InsideStrip`) are strips; a frame is none,
+//! and is made of both.
+//!
+//! In a row the pixels of a corner are out from the side on, and in from some column on: what is nearer to the middle
+//! stays in. So `Oval::lacking` finds how many are out by halving, with a test of squares below 2^61. The right end
+//! of a run is the mirror image of the left one. The run of an inside is what four runs share: that of the smaller
+//! shape, the shape's own less one column on either side, and those of the rows above and below.
+//!
+//! All rectangles lie in one coordinate space, with sides in -16384..=16383.
+#![tactic(auto)]
+
+mod corner;
+mod count;
+mod inside;
+pub mod laws;
+mod oval;
+mod pen;
+mod round;
+mod run;
+mod strip;
+
+pub use corner::Corner;
+pub use inside::InsideStrip;
+pub use pen::Pen;
+pub use round::RoundStrip;
+pub use run::Run;
+pub use strip::Strip;

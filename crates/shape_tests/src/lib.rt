@@ -1,0 +1,15 @@
+//! What no clause says of round shapes, by tests: that regions are made where memory is not refused, and that the
+//! words of the contracts are what is meant. Expected values are pictures drawn by hand, or come from a slow program
+//! over single pixels (`slow`), and never from the libraries.
+//!
+//! `strips` tests `shape_strips`, and `regions` tests `shape_region`. `sizes` has the shapes that both try.
+#![tactic(auto)]
+
+#[cfg(test)]
+mod regions;
+#[cfg(test)]
+mod sizes;
+#[cfg(test)]
+mod slow;
+#[cfg(test)]
+mod strips;
