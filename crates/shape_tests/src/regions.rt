@@ -21,8 +21,10 @@ fn is_framed(alloc: Global, shape: Round, pen: Pen) -> Result<bool, Refusal> {
     let sides = bordered(rect);
     let frame = frame_round_rect_region(alloc, rect, corner, pen)?;
     let inside = inside_region(alloc, rect, corner, pen)?;
-    Ok(is_region_of(alloc, &frame, &framed, sides)?
-        && is_region_of(alloc, &inside, &Inside(framed), sides)?)
+    Ok(
+        is_region_of(alloc, &frame, &framed, sides)?
+            && is_region_of(alloc, &inside, &Inside(framed), sides)?,
+    )
 }
 
 /// Whether a shape, its frames and their insides are.
@@ -69,8 +71,10 @@ fn is_oval(alloc: Global, width: u16, height: u16) -> Result<bool, Refusal> {
     let oval = oval_region(alloc, rect)?;
     let frame = frame_oval_region(alloc, rect, pen)?;
     let sides = bordered(rect);
-    Ok(is_region_of(alloc, &oval, &shape, sides)?
-        && is_region_of(alloc, &frame, &Framed { shape, pen }, sides)?)
+    Ok(
+        is_region_of(alloc, &oval, &shape, sides)?
+            && is_region_of(alloc, &frame, &Framed { shape, pen }, sides)?,
+    )
 }
 
 #[test]

@@ -126,6 +126,12 @@ fn insides_of_other_pens_are_their_runs(rt: HostRuntime) -> Result<(), Fail> {
 fn shapes_turned_inside_out_have_no_pixel(rt: HostRuntime) -> Result<(), Fail> {
     let rect = rect!(4, 2, -3, 7);
     let corner = corner(5, 5);
-    assert!(rt; are_rows(&RoundStrip { rect, corner }, &Round { rect, corner }, rect!(-5, 0, 9, 9)));
+    assert!(rt;
+        are_rows(
+            &RoundStrip { rect, corner },
+            &Round { rect, corner },
+            rect!(-5, 0, 9, 9)
+        )
+    );
     Ok(())
 }
