@@ -19,7 +19,6 @@ use Rattle.desk_call.specs.declared.event.EventCall.TheVariants.{Post, Next, Ava
 use Rattle.desk_call.specs.declared.event.EventReply.{EventReply}
 use Rattle.vis_update.specs.Records.{WindowRecord, is_floating}
 use Rattle.window_mgr.specs.Finding.{record_with}
-use Rattle.desk_toolbox.specs.declared.events.Events.{Events}
 use Rattle.desk_toolbox.specs.Activations.{IsNeverDisposed, activate_event_told, disposed_by, if_activate, is_activate}
 use Rattle.desk_toolbox.specs.Classes.{AreClassed, IsOfClass, IsOrdinary}
 use Rattle.desk_toolbox.specs.EventSteps.{EventStep, after_telling, told_next, with_word, word_of}

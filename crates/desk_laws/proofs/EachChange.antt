@@ -1,5 +1,5 @@
 -- What any call changes of pixels is its change.
-use Rattle.std.proofs.Common.{◌≡◌, ⊎_elim, ℕ, ℤ, List, [], ◌++◌, Option, None, Some, Result, Ok, Err, refl, sym, ap, ◌∙◌, subst}
+use Rattle.std.proofs.Common.{◌≡◌, ℤ, [], Option, None, Some, Result, Ok, Err, refl, sym, ap, subst}
 use Rattle.std.specs.Prelude.{nat_abs}
 use Rattle.std.specs.Option.{option_map_or}
 use Rattle.tb_geom.specs.declared.refusal.Refusal.{Refusal}
@@ -14,7 +14,6 @@ use Rattle.desk_call.specs.declared.call.Call.TheVariants as calls
 use Rattle.desk_call.specs.declared.call.Reply.{Reply}
 use Rattle.desk_call.specs.declared.call.Reply.TheVariants as reply
 use Rattle.desk_call.specs.declared.control.ControlCall.{ControlCall}
-use Rattle.desk_call.specs.declared.control.ControlCall.TheVariants as controls
 use Rattle.desk_call.specs.declared.control.ControlReply.{ControlReply}
 use Rattle.desk_call.specs.declared.event.EventCall.{EventCall}
 use Rattle.desk_call.specs.declared.event.EventReply.{EventReply}
@@ -36,13 +35,13 @@ use Rattle.desk_call.specs.declared.window.WindowReply.{WindowReply}
 use Rattle.desk_call.specs.declared.window.WindowReply.TheVariants as window_reply
 use Rattle.desk_call.specs.Gates.{gate, standing_of}
 use Rattle.window_mgr.specs.Effects.{IsUnchanged}
-use Rattle.window_mgr.specs.FullDesk.{FullState, IsRightState, layered_state}
+use Rattle.window_mgr.specs.FullDesk.{layered_state}
 use Rattle.window_update.specs.UpdateSteps.{IsUpdateStep}
 use Rattle.window_frame.specs.FrameSteps.{IsFrameStep}
 use Rattle.window_outline.specs.Outlining.{let_go_of}
 use Rattle.menu_mgr.specs.MenuSteps.{IsMenuStep}
 use Rattle.control_mgr.specs.ControlSteps.{IsControlStep}
-use Rattle.list_mgr.specs.ListDesks.{KeptList, ListDesk, list_of}
+use Rattle.list_mgr.specs.ListDesks.{KeptList, list_of}
 use Rattle.list_mgr.specs.ListSteps.{IsClickOn, IsListEffect, IsListStep, appended, clicked_at, with_columns_fewer, with_columns_more, with_grid, with_rows_fewer, with_rows_more, with_scroll}
 use Rattle.desk_toolbox.specs.Reached.{IsConsistent}
 use Rattle.desk_toolbox.specs.Run.{IsGated, IsLetGo, IsOutlineMade, IsStep, IsWindowMade, replied}
@@ -53,7 +52,7 @@ use Rattle.desk_toolbox.proofs.EachManager.{HoldsOfEach, of_step}
 use Rattle.desk_toolbox.proofs.Outlined.{outline_unchanged}
 use Rattle.desk_toolbox.proofs.Runs.{step_stays_right}
 use Rattle.desk_toolbox.specs.Run.{put_down}
-use Rattle.desk_laws.specs.Changes.{change_of_call, change_of_list, change_of_outline, change_of_window}
+use Rattle.desk_laws.specs.Changes.{change_of_call, change_of_list, change_of_window}
 use Rattle.desk_laws.proofs.GoneLists.{list_gone_changes}
 use Rattle.desk_laws.proofs.HiddenControls.{hidden_changes}
 use Rattle.desk_laws.proofs.ListChanges.{Edits, cells_change, lines_change, selection_change, unselected_change}

@@ -28,7 +28,7 @@ use Rattle.desk_laws.specs.Changes.{is_bar, is_bar_of, is_list}
 use Rattle.desk_laws.proofs.GoneParts.{IsAway, IsBarAway, away_removed, control_removed, gone_removed, list_behind_controls, list_removed, list_removed_behind, no_bar, no_list, no_part, not_found_away}
 use Rattle.desk_laws.proofs.JoinedChanges.{AreOthersKept, gone_then, kept_through}
 use Rattle.desk_laws.proofs.MadeLists.{LaidAgain, is_part, owners_laid, same_screen}
-use Rattle.desk_laws.proofs.PartsThere.{first_control, first_list, part_of}
+use Rattle.desk_laws.proofs.PartsThere.{first_list, part_of}
 use Rattle.desk_laws.proofs.WindowChanges.{unchanged_changes}
 
 -- ---- the steps

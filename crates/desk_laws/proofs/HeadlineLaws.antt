@@ -1,12 +1,11 @@
 -- The headline holds of each state that a run leaves from a desk that just began.
 use Rattle.std.proofs.Common.{◌≡◌, ◌↔◌, ℕ, Bool, true, false, if◌then◌else◌, List, [], ◌∷◌, map, Result, refl, sym, ap, ◌∙◌}
-use Rattle.std.specs.Prelude.{int_lt}
 use Rattle.std.proofs.lemmas.Bool.{false≢true}
 use Rattle.tb_geom.specs.declared.point.Point.{Point}
 use Rattle.tb_geom.specs.declared.refusal.Refusal.{Refusal}
 use Rattle.desk_layers.specs.Desk.{in_bar, on_screen}
 use Rattle.desk_layers.specs.Owner.{is_content, owner, owner_among}
-use Rattle.desk_layers.specs.Owner.Owner.{Bar, Desktop}
+use Rattle.desk_layers.specs.Owner.Owner.{Bar}
 use Rattle.desk_call.specs.declared.call.Call.{Call}
 use Rattle.desk_call.specs.declared.call.Reply.{Reply}
 use Rattle.vis_update.specs.Records.{WindowRecord, layered_window}

@@ -1,9 +1,8 @@
 -- A control that is hidden owns no pixel, so that hiding it draws none.
-use Rattle.std.proofs.Common.{◌≡◌, ℕ, zero, suc, Bool, true, false, not, ◌==◌, ◌&&◌, ◌||◌, if◌then◌else◌, List, [], ◌∷◌, Some, refl, sym, ap, ◌∙◌, subst, arith}
+use Rattle.std.proofs.Common.{◌≡◌, ℕ, zero, suc, Bool, true, false, not, ◌==◌, ◌&&◌, if◌then◌else◌, List, [], ◌∷◌, Some, refl, sym, ap, ◌∙◌, subst}
 use Rattle.std.specs.Prelude.{All, slice_get}
 use Rattle.std.specs.List.{list_any}
-use Rattle.std.proofs.lemmas.Bool.{eqb-true, false≢true}
-use Rattle.std.proofs.lemmas.Bool.Decides.{nat_tests}
+use Rattle.std.proofs.lemmas.Bool.{false≢true}
 use Rattle.std.proofs.lemmas.List.Elements.{All-cons, All-head, All-nil, All-tail}
 use Rattle.tb_geom.specs.declared.point.Point.{Point}
 use Rattle.tb_geom.specs.Points.{minus}
@@ -22,7 +21,7 @@ use Rattle.control_mgr.specs.ControlDesks.{ControlRecord, ControlsState}
 use Rattle.control_mgr.specs.ControlSteps.{IsControlLaid}
 use Rattle.control_mgr.specs.Fields.{with_shown}
 use Rattle.control_mgr.proofs.Places.{found_names}
-use Rattle.list_mgr.specs.ListDesks.{KeptList, ListDesk, with_controls}
+use Rattle.list_mgr.specs.ListDesks.{ListDesk, with_controls}
 use Rattle.list_mgr.proofs.ListsKept.{IsRightLists}
 use Rattle.desk_laws.proofs.GoneParts.{another, no_control_behind, no_part}
 use Rattle.desk_laws.proofs.JoinedChanges.{drawing}

@@ -1,11 +1,11 @@
 -- What a change leaves of each pixel, where the state after it is right, and a change after which nothing more is changed.
-use Rattle.std.proofs.Common.{◌≡◌, Bool, true, false, not, ◌&&◌, ◌||◌, if◌then◌else◌, refl, sym, ap, ◌∙◌}
+use Rattle.std.proofs.Common.{◌≡◌, Bool, true, false, not, ◌&&◌, if◌then◌else◌, refl, sym, ap, ◌∙◌}
 use Rattle.std.proofs.lemmas.Bool.{false≢true}
 use Rattle.tb_geom.specs.declared.point.Point.{Point}
 use Rattle.desk_layers.specs.Desk.{LayeredDesk, on_screen}
 use Rattle.desk_layers.specs.Owner.{Owner, owner, is_content, same_owner}
 use Rattle.desk_layers.specs.Scratch.{scratch}
-use Rattle.desk_layers.specs.Change.{Change, State, IsChanged, IsRight, had, image_by, no_change, stale_by}
+use Rattle.desk_layers.specs.Change.{Change, State, IsChanged, IsRight, had, no_change, stale_by}
 use Rattle.desk_layers.proofs.Owning.{same_owner-self}
 
 -- ---- a change whose state after it is right

@@ -1,5 +1,5 @@
 -- What a call that changes a list changes of pixels is its change.
-use Rattle.std.proofs.Common.{◌≡◌, ◌⊎◌, ⊎_elim, ℕ, Bool, true, false, not, ◌==◌, ◌&&◌, ◌||◌, if◌then◌else◌, List, [], ◌∷◌, Option, None, Some, refl, sym, ap, ◌∙◌, subst}
+use Rattle.std.proofs.Common.{◌≡◌, ⊎_elim, ℕ, Bool, true, false, not, ◌==◌, ◌&&◌, ◌||◌, if◌then◌else◌, List, Option, None, Some, refl, sym, ap, ◌∙◌, subst}
 use Rattle.std.proofs.Math.Bool.{beq}
 use Rattle.std.specs.Prelude.{is_none, slice_get}
 use Rattle.std.specs.Bool.{Decides}
@@ -9,7 +9,7 @@ use Rattle.std.specs.Ordering.{int_eq}
 use Rattle.std.specs.Str.{bytes_eq}
 use lib.Pointwise.{pointwise}
 use Rattle.std.proofs.lemmas.Bool.{false≢true}
-use Rattle.std.proofs.lemmas.Bool.Decides.{Decides-and, Decides-eqb, Decides-int_eq, not_from_Decides}
+use Rattle.std.proofs.lemmas.Bool.Decides.{Decides-and, Decides-eqb, Decides-int_eq}
 use Rattle.std.proofs.lemmas.Slice.Eq.{bytes_eq-Decides, slice_eq-Decides}
 use Rattle.tb_geom.specs.declared.point.Point.{Point}
 use Rattle.tb_geom.specs.Points.{minus}
@@ -34,14 +34,14 @@ use Rattle.desk_call.specs.declared.list.ListOf.{ListOf}
 use Rattle.vis_update.specs.Records.{WindowRecord}
 use Rattle.window_mgr.specs.Effects.{IsUnchanged}
 use Rattle.window_mgr.specs.Finding.{record_with}
-use Rattle.window_mgr.specs.FullDesk.{FullDesk, FullState, IsRightState, layered_desk, layered_state}
+use Rattle.window_mgr.specs.FullDesk.{FullState, IsRightState, layered_desk, layered_state}
 use Rattle.window_mgr.specs.Refused.{is_missing}
 use Rattle.window_mgr.specs.Relayered.{toggled_change}
 use Rattle.control_mgr.specs.ControlDesks as controls
 use Rattle.control_mgr.specs.ControlSteps.{IsSettingPutAt}
 use Rattle.list_mgr.specs.Fields.{with_cells}
 use Rattle.list_mgr.specs.ListDesks.{IsListDeskUnchanged, KeptList, ListDesk, ListsState, index_of, list_of, with_controls}
-use Rattle.list_mgr.specs.ListSteps.{AreBarsSet, IsBarSet, IsChangedTo, IsListChanged, IsRelined, IsSeenOrNot, IsSelectionChanged, IsToggledOrNot, IsUnseen, SameLists}
+use Rattle.list_mgr.specs.ListSteps.{AreBarsSet, IsBarSet, IsChangedTo, IsListChanged, IsRelined, IsSeenOrNot, IsSelectionChanged, IsToggledOrNot, IsUnseen}
 use Rattle.list_mgr.proofs.Places.{found_names}
 use Rattle.list_cells.specs.declared.click.SelectionFlags.{SelectionFlags}
 use Rattle.desk_toolbox.specs.Reached.{AreContentsRight}

@@ -10,7 +10,6 @@ use Rattle.def_iface.specs.WindowNews.{WindowNews, told_highlighted, told_placed
 use Rattle.def_iface.proofs.Hearing.{goes_by_all, goes_by_news}
 use Rattle.desk_call.specs.declared.call.Call.{Call}
 use Rattle.desk_call.specs.declared.call.Reply.{Reply}
-use Rattle.desk_call.specs.declared.frame.FrameReply.TheVariants.{Done}
 use Rattle.desk_call.specs.declared.window.MoveWindow.{MoveWindow}
 use Rattle.desk_call.specs.declared.window.NewWindow.{NewWindow}
 use Rattle.desk_call.specs.declared.window.WindowCall.{WindowCall}

@@ -1,41 +1,34 @@
 -- What a call that makes a list or disposes of one changes of pixels, with its scroll bars, is its change.
-use Rattle.std.proofs.Common.{◌≡◌, ⊎_elim, ℕ, zero, suc, Bool, true, false, not, ◌==◌, ◌&&◌, ◌||◌, if◌then◌else◌, List, [], ◌∷◌, ◌++◌, length, map, Option, None, Some, Result, Ok, refl, sym, ap, ◌∙◌, subst, eqb-true}
-use Rattle.std.specs.Prelude.{is_none, slice_get}
-use Rattle.std.specs.List.{AllZip, list_any, remove}
+use Rattle.std.proofs.Common.{◌≡◌, ℕ, Bool, true, false, ◌==◌, ◌&&◌, ◌||◌, if◌then◌else◌, List, [], ◌∷◌, ◌++◌, length, map, Option, None, Some, refl, sym, ap, ◌∙◌, subst, eqb-true}
+use Rattle.std.specs.Prelude.{slice_get}
 use Rattle.std.specs.Option.{option_map_or}
 use Rattle.std.proofs.lemmas.Bool.{false≢true}
 use Rattle.tb_geom.specs.declared.point.Point.{Point}
 use Rattle.desk_layers.specs.declared.part.Part.{Part}
 use Rattle.desk_layers.specs.declared.part.Part.TheVariants as part
-use Rattle.desk_layers.specs.Desk.{LayeredDesk, on_screen, same_part}
+use Rattle.desk_layers.specs.Desk.{on_screen}
 use Rattle.desk_layers.specs.Owner.{Owner, is_content, owner, same_owner}
 use Rattle.desk_layers.specs.Owner.Owner.{Content}
 use Rattle.desk_layers.specs.Change.{Change, IsChanged, no_change}
-use Rattle.desk_layers.proofs.Owning.{same_number, same_owner-self, same_owner-true, same_part-self}
-use Rattle.window_items.specs.Items.{AreApart, has_serial, is_in, items_of}
-use Rattle.window_items.proofs.SerialLemmas.{none_in_window, with_there}
-use Rattle.desk_call.specs.declared.control.ControlCall.TheVariants as control_calls
-use Rattle.desk_call.specs.declared.control.ControlOf.{ControlOf}
+use Rattle.desk_layers.proofs.Owning.{same_number, same_part-self}
+use Rattle.window_items.specs.Items.{is_in, items_of}
+use Rattle.window_items.proofs.SerialLemmas.{with_there}
 use Rattle.desk_call.specs.declared.control.ControlReply.TheVariants as control_reply
 use Rattle.desk_call.specs.declared.control.NewControl.{NewControl}
 use Rattle.desk_call.specs.declared.list.ListOf.{ListOf}
 use Rattle.desk_call.specs.declared.list.NewList.{NewList}
-use Rattle.vis_update.specs.Records.{WindowRecord}
-use Rattle.window_mgr.specs.FullDesk.{FullDesk, FullState, IsRightState, layered_desk, layered_state, look_of}
-use Rattle.control_mgr.specs.ControlDesks.{ControlRecord, ControlsState, index_of}
+use Rattle.window_mgr.specs.FullDesk.{FullDesk, IsRightState, layered_desk, layered_state, look_of}
+use Rattle.control_mgr.specs.ControlDesks.{ControlRecord}
 use Rattle.control_mgr.specs.ControlSteps.{IsControlMade, new_control}
 use Rattle.control_mgr.proofs.ControlBits.{bare, bare_laid}
 use Rattle.list_mgr.specs.ListDesks.{IsListDeskUnchanged, KeptList, ListDesk, ListsState, with_controls}
 use Rattle.list_mgr.specs.ListDesks as lists
-use Rattle.list_mgr.specs.ListSteps.{IsBarGone, IsBarGoneIf, IsBarMade, IsListDisposed, IsListGone, IsListMade, IsListPut, horizontal_bar_of, new_list, vertical_bar_of}
-use Rattle.list_mgr.proofs.ListsBars.{bar_gone_keeps, bar_made_keeps, bar_made_lists}
+use Rattle.list_mgr.specs.ListSteps.{IsBarMade, IsListMade, IsListPut, horizontal_bar_of, new_list, vertical_bar_of}
+use Rattle.list_mgr.proofs.ListsBars.{bar_made_keeps, bar_made_lists}
 use Rattle.list_mgr.proofs.ListsKept.{IsRightLists}
-use Rattle.list_mgr.proofs.ListsLaid.{gone_keeps}
-use Rattle.list_mgr.proofs.Places as places
-use Rattle.control_mgr.proofs.Places as control_places
 use Rattle.desk_toolbox.specs.ToolboxStates.{ToolboxState, with_lists}
 use Rattle.desk_laws.specs.Changes.{is_bar, is_bar_of, is_list, list_made}
-use Rattle.desk_laws.proofs.JoinedChanges.{AreOthersKept, AreOthersSame, drawing, drawn_then, gone_then, kept_through}
+use Rattle.desk_laws.proofs.JoinedChanges.{AreOthersSame, drawing, drawn_then}
 use Rattle.desk_laws.proofs.PartsThere.{AreJoined, alike_laid, control_has, first_control, first_list, list_has, part_of, related_owners}
 use Rattle.desk_laws.proofs.WindowChanges.{unchanged_changes}
 

@@ -1,9 +1,8 @@
 -- What calls about updates, frames, menus and controls change of pixels is their change.
-use Rattle.std.proofs.Common.{◌≡◌, ⊎_elim, ℕ, Bool, true, false, List, Option, None, Some, Result, Ok, Err, refl, sym, ap, ◌∙◌, subst}
+use Rattle.std.proofs.Common.{◌≡◌, ⊎_elim, ℕ, Bool, true, false, Option, None, Some, Result, sym, ap, subst}
 use Rattle.std.specs.Option.{option_map}
 use Rattle.tb_geom.specs.declared.point.Point.{Point}
 use Rattle.tb_geom.specs.declared.refusal.Refusal.{Refusal}
-use Rattle.def_iface.specs.WindowNews.{WindowNews, told_highlighted, told_title, told_tracked}
 use Rattle.control_values.specs.declared.part.ControlPart.{ControlPart}
 use Rattle.control_values.specs.Parts.{number_of}
 use Rattle.desk_layers.specs.declared.part.Part.TheVariants as part
@@ -29,19 +28,19 @@ use Rattle.window_mgr.specs.DeskStates.{DeskState}
 use Rattle.window_mgr.specs.Effects.{IsUnchanged}
 use Rattle.window_mgr.specs.FullDesk.{FullState, IsRightState, layered_desk, layered_state}
 use Rattle.window_update.specs.UpdateSteps.{IsUpdateEffect, adding, taking}
-use Rattle.window_frame.specs.FrameSteps.{IsFrameStep, with_flag, with_title, with_tracked}
+use Rattle.window_frame.specs.FrameSteps.{IsFrameStep}
 use Rattle.window_frame.proofs.ToldSteps.{HoldsOfFrames, of_frame}
 use Rattle.menu_mgr.specs.MenuDesks.{MenuDesk}
 use Rattle.menu_mgr.specs.MenuSteps.{IsMenuStep}
 use Rattle.menu_mgr.proofs.MenuKeeps.{step_leaves}
-use Rattle.control_mgr.specs.ControlDesks.{ControlDesk, ControlRecord}
+use Rattle.control_mgr.specs.ControlDesks.{ControlDesk}
 use Rattle.control_mgr.specs.Fields.{with_shown}
-use Rattle.control_mgr.specs.ControlSteps.{IsControlEffect, IsControlLaid, IsControlReleased, IsHighlighted, IsShownAnew, IsStepped, IsTracked, SameShown, highlight_of, is_thumb, tested}
+use Rattle.control_mgr.specs.ControlSteps.{IsControlEffect, IsControlLaid, IsControlReleased, IsHighlighted, IsStepped, IsTracked, highlight_of, is_thumb, tested}
 use Rattle.desk_toolbox.specs.ToolboxStates.{ToolboxState, with_controls}
 use Rattle.desk_laws.specs.Changes.{change_of_control, change_of_update, control_anew, tracked_anew}
 use Rattle.desk_laws.proofs.JoinedChanges.{shown_anew_too}
 use Rattle.desk_laws.proofs.MeantPixels.{area_is}
-use Rattle.desk_laws.proofs.WindowChanges.{same_but_shows, unchanged_changes}
+use Rattle.desk_laws.proofs.WindowChanges.{unchanged_changes}
 
 -- ---- updates
 

@@ -1,18 +1,15 @@
 -- What a call on windows changes of pixels is its change, also once definitions were told how their windows stand.
-use Rattle.std.proofs.Common.{◌≡◌, ⊎_elim, ℕ, ◌==◌, ◌&&◌, Bool, true, false, if◌then◌else◌, List, [], ◌∷◌, Option, None, Some, Result, Ok, Err, refl, sym, ap, ◌∙◌, subst}
+use Rattle.std.proofs.Common.{◌≡◌, ℕ, ◌==◌, ◌&&◌, Bool, true, false, if◌then◌else◌, List, [], ◌∷◌, Option, None, Some, Ok, Err, refl, sym, ap, ◌∙◌, subst}
 use Rattle.std.specs.List.{AllZip}
 use Rattle.std.specs.Option.{option_and_then, option_map_or}
-use Rattle.std.proofs.lemmas.Bool.{false≢true}
 use Rattle.tb_geom.specs.declared.point.Point.{Point}
 use Rattle.tb_geom.specs.declared.refusal.Refusal.{Refusal}
 use Rattle.tb_geom.specs.Points.{PixelSet, minus}
-use Rattle.def_iface.specs.WindowMeaning.{WindowDefinition}
 use Rattle.def_iface.specs.WindowNews.{WindowNews}
 use Rattle.desk_layers.specs.Desk.{on_screen}
-use Rattle.desk_layers.specs.Owner.{Owner, is_content, owner}
+use Rattle.desk_layers.specs.Owner.{owner}
 use Rattle.desk_layers.specs.Owner.Owner.{Content}
-use Rattle.desk_layers.specs.Change.{Change, IsChanged, State, had, no_change, stale_by}
-use Rattle.desk_layers.specs.Change as plain
+use Rattle.desk_layers.specs.Change.{Change, IsChanged, State, no_change}
 use Rattle.desk_call.specs.declared.activity.Standing.{Standing}
 use Rattle.desk_call.specs.declared.window.WindowCall.{WindowCall}
 use Rattle.desk_call.specs.declared.window.WindowCall.TheVariants as calls
@@ -30,7 +27,7 @@ use Rattle.window_mgr.specs.Effects.{IsEffect, IsUnchanged, draw_change, effect_
 use Rattle.window_mgr.specs.Finding.{record_with}
 use Rattle.window_mgr.specs.FrameNotices.{IsFrameNotified}
 use Rattle.window_mgr.specs.FullDesk.{FullDesk, FullState, IsRightState, layered_desk, layered_state, look_of}
-use Rattle.window_mgr.specs.Placings.{Placing, gone, sized, zoom_target, zoomed, zoomed_by}
+use Rattle.window_mgr.specs.Placings.{Placing, gone, sized, zoom_target, zoomed_by}
 use Rattle.window_mgr.proofs.FrameRight.{KeepsLayers, frame_told_stays_right}
 use Rattle.window_mgr.proofs.Running as windowing
 use Rattle.window_mgr.proofs.Running.{unchanged_stays_right}
@@ -38,11 +35,9 @@ use Rattle.window_mgr.proofs.Showing.{owner_showing}
 use Rattle.window_frame.specs.Followers.{Flag, IsCaughtUpBy, told_flag, with_heard}
 use Rattle.window_frame.specs.Followers.Flag.{Highlighting, Zooming}
 use Rattle.window_frame.proofs.ToldSteps.{HoldsOfFollowing, of_caught_up}
-use Rattle.control_mgr.specs.ControlDesks.{controls_show}
-use Rattle.list_mgr.specs.ListDesks.{lists_show}
 use Rattle.desk_toolbox.specs.Run.{IsWindowAnswer, IsWindowDone, IsWindowMade}
 use Rattle.desk_toolbox.specs.ToolboxStates.{ToolboxState}
-use Rattle.desk_laws.specs.Changes.{change_of_window, zoom_way}
+use Rattle.desk_laws.specs.Changes.{change_of_window}
 use Rattle.desk_laws.specs.Meant.{operation_of}
 use Rattle.desk_laws.proofs.KeptValues.{HaveSameOwners, nothing_changed, then_nothing}
 use Rattle.desk_laws.proofs.MeantPixels.{operation_is}
