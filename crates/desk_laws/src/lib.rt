@@ -11,6 +11,7 @@
 #![tactic(auto)]
 
 pub mod class_laws;
+pub mod desk_after;
 pub mod headline;
 pub mod laws;
 pub mod update_laws;
