@@ -219,11 +219,6 @@ module _ (desk : FullDesk) (s : ℕ) (w : WindowRecord) (found : record_with s d
 
 -- every call that nothing refuses has a sound effect
 pub effect_is_sound : (call : WindowCall) (state : FullState) → layers.IsDesk (layered_desk state.desk) → IsRefusal call state None → IsSoundEffect (effect_of call state.desk) state.desk
-effect_is_sound (New w) state distinct e = tt
-effect_is_sound (NewFloating w) state distinct e = tt
-effect_is_sound (Dispose s) state distinct e = tt
-effect_is_sound (Draw d) state distinct e = tt
-effect_is_sound (SetPicture n) state distinct e = tt
 effect_is_sound (Scroll m) state distinct e = there_of true (record_with m.window state.desk.windows) _ e
 effect_is_sound (Size z) state distinct e =
     let w = there_of true (record_with z.window state.desk.windows) _ e in
@@ -231,11 +226,6 @@ effect_is_sound (Size z) state distinct e =
 effect_is_sound (Zoom z) state distinct e =
     let w = there_of true (record_with z.window state.desk.windows) _ e in
     subst (λ o. IsSoundEffect (places (zoomed_by (zoom_of z.part) z.window o state.desk)) state.desk) (sym w.1) (zoomed_sound state.desk z.window w.0 w.1 (zoom_of z.part))
-effect_is_sound (Find p) state distinct e = tt
-effect_is_sound Front state distinct e = tt
-effect_is_sound (Info s) state distinct e = tt
-effect_is_sound (VisibleRegion s) state distinct e = tt
-effect_is_sound (UpdateRegion s) state distinct e = tt
 effect_is_sound (Select s) state distinct e = let w = there_of true (record_with s state.desk.windows) None e in brought_sound state.desk distinct s w.0 w.1 _ refl refl refl
 effect_is_sound (BringToFront s) state distinct e = let w = there_of true (record_with s state.desk.windows) None e in brought_sound state.desk distinct s w.0 w.1 _ refl refl refl
 effect_is_sound (Show s) state distinct e = let w = there_of true (record_with s state.desk.windows) None e in shown_sound state.desk distinct s w.0 w.1 _ true refl refl refl
@@ -243,3 +233,4 @@ effect_is_sound (Hide s) state distinct e = let w = there_of true (record_with s
 effect_is_sound (ShowHide c) state distinct e = let w = there_of true (record_with c.window state.desk.windows) None e in shown_sound state.desk distinct c.window w.0 w.1 _ c.shown refl refl refl
 effect_is_sound (SendBehind b) state distinct e = let w = there_of true (record_with b.window state.desk.windows) _ e in sent_sound state.desk distinct b.window w.0 w.1 _ b refl refl refl refl
 effect_is_sound (Move m) state distinct e = let w = there_of true (record_with m.window state.desk.windows) _ e in moved_sound state.desk distinct m.window w.0 w.1 m refl
+effect_is_sound _ state distinct e = tt

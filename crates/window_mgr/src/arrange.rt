@@ -1,5 +1,5 @@
 //! One window put anew among the others, whichever call it is for.
-ghost use Rattle.std.specs.Prelude.{◌≡◌, ◌<◌, Some, None, All, MatchOption, IfOk, length, map, vec_len, vec_capacity, OnErr};
+ghost use Rattle.std.specs.Prelude.{◌≡◌, ◌<◌, ◌≤◌, ◌+◌, Some, None, All, MatchOption, IfOk, length, map, vec_len, vec_capacity, OnErr};
 ghost use Rattle.vis_update.specs.Records.{record_of};
 ghost use Rattle.window_list.specs.Ranks.{moved_item};
 ghost use Rattle.window_mgr.specs.AnySlots.{IsRearrangedOverAnySlots};
@@ -207,6 +207,7 @@ impl WindowManager {
             seats.items) }
         ensures length { IfOk result (λ seats. vec_len seats ≡ length self.now.windows.records.items) }
         ensures room { IfOk result (λ seats. vec_len seats < vec_capacity seats) }
+        ensures most { IfOk result (λ seats. vec_capacity seats ≤ vec_len seats + 1) }
     {
         let mut seats = Vec::with_capacity(self.alloc, self.windows.len() + 1)?;
         for at in 0..self.windows.len() {
