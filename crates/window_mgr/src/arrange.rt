@@ -218,6 +218,7 @@ impl WindowManager {
 
     /// Room for the windows and one more, and no further.
     fn room_for_seats(&self) -> Result<Vec<Seat<'_>>, AllocError>
+        requires { length self.now.areas.items ≡ length self.now.windows.records.items }
         ensures none { IfOk result (λ seats. seats.items ≡ []) }
         ensures length { IfOk result (λ seats. vec_len seats ≡ 0) }
         ensures room { IfOk result (λ seats. vec_capacity seats ≡ length self.now.windows.records.items + 1) }
