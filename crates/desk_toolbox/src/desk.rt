@@ -44,9 +44,9 @@ pub trait Desk {
     /// show.
     ghost HasKeptManagers: { Self → Type 0 };
 
-    /// A call that moves, sizes, shows, hides, selects, sends behind or disposes of a window, or ends a drag, was economical,
-    /// between these two: it wrote pixels only where their owner changed, the window moved, or a frame was to be drawn. Of other
-    /// calls it says nothing.
+    /// A call that moves, sizes, shows, hides, selects, brings to the front, sends behind or disposes of a window, or ends a
+    /// drag, was economical, between these two: it wrote pixels only where their owner changed, the window moved, or a frame was
+    /// to be drawn. Of other calls it says nothing.
     ghost IsEconomical: { Named → Self → Self → Type 0 };
 
     /// These calls, answered so, led from the first desk to the last one, and each was economical where the desk that it
