@@ -1,5 +1,5 @@
 -- Titles that are those of menus: the next one is that of the next menu of the bar.
-use Rattle.std.proofs.Common.{◌≡◌, ◌≤◌, ◌<◌, ◌+◌, ◌×◌, ℕ, zero, suc, Bool, true, false, cond, List, [], ◌∷◌, ◌++◌, length, map, take, get_or, Option, refl, sym, ap, ◌∙◌, arith}
+use Rattle.std.proofs.Common.{◌≡◌, ◌≤◌, ◌<◌, ℕ, zero, suc, Bool, true, false, cond, List, [], ◌∷◌, ◌++◌, length, map, take, get_or, Option, refl, sym, ap, ◌∙◌, arith}
 use Rattle.std.proofs.lemmas.List.{length-take-le}
 use Rattle.desk_ground.specs.declared.titles.BarTitle.{BarTitle}
 use Rattle.menu_list.specs.declared.listed.Listed.{Listed}
@@ -15,7 +15,7 @@ get_mid (x ∷ xs) ys y d = get_mid xs ys y d
 
 module _ {D : Type 0} where
   -- titles in which that of this menu stands behind those of the menus before it
-  IsSplit : Option ℕ → List (Listed D) → ℕ → Listed D → Type 0
+  abbrev IsSplit : Option ℕ → List (Listed D) → ℕ → Listed D → Type 0
   IsSplit h xs i x = (rest : List BarTitle) × (titles_of h xs ≡ titles_of h (take i xs) ++ title_of h x ∷ rest)
 
   past : (h : Option ℕ) (x y : Listed D) (ys before : List (Listed D)) (rest : List BarTitle) (b : Bool)
