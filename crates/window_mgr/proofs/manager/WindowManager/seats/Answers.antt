@@ -11,7 +11,6 @@ loop-at-preserved g c =
       seats = arranging.seats_of_more c.args.self.now.windows.records.items c.args.self.now.areas.items c.loop-at.seats.items _ c.loop-at.at c.at.result.now c.index.result.now c.seat_of-seat.result (search rules) (search rules) (search rules) low within c.loop-at.invariant.seats c.seat_of-seat.ensures;
       made = search rules;
       room = search rules;
-      most = search rules;
     }
 
 pub returns-clause-seats : goal.returns-clause-seats
