@@ -27,8 +27,8 @@ pub fn desk_after(
     requires { AreAllFull (⟦<Stock as StockedAll>⟧.all_slots stock.old) }
     ensures whole { IfOk result (λ r. ⟦<Toolbox as Desk>⟧.IsWhole r.0 stock.new) }
     ensures headline { IfOk result (λ r. (first : ToolboxState) × IsJustBegun first
-        × IsDeskOf width height bar font first
         × IsHeadline first calls.now r.1.items (⟦<Toolbox as Desk>⟧.state r.0 stock.new)) }
+    ensures asked { IfOk result (λ r. IsDeskOf width height bar font (⟦<Toolbox as Desk>⟧.state r.0 stock.new)) }
     ensures refused { IfErr result (λ e. e ≡ (if screens.is_screen width height bar then Refusal.NoMemory else Refusal.OutOfRange)) }
     ensures full { OnErr result (AreAllFull (⟦<Stock as StockedAll>⟧.all_slots stock.new)) }
 {

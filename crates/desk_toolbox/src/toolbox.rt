@@ -180,7 +180,7 @@ impl Toolbox {
     /// The screen: the pulled menu where it lies, and else what the windows, the menu bar and the desktop show, with the outline
     /// of a window that is dragged or grown.
     pub fn screen(&self) -> &BitMap
-        requires { ⟦<Self as Desk>⟧.HasKeptManagers self.now }
+        requires { ⟦<Self as Desk>⟧.IsDrawable self.now }
         ensures width { result.now.width ≡ self.now.windows.screen.width }
         ensures height { result.now.height ≡ self.now.windows.screen.height }
         ensures shown { (stocks : AllSlots) (p : Point) → on_map result.now p ≡ true

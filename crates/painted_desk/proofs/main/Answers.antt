@@ -1,3 +1,4 @@
+use Rattle.desk_toolbox.proofs.Drawable.{drawable}
 use Rattle.painted_desk.proofs.main.Goals as goal
 
 -- a desk begins with slots that are full
@@ -8,7 +9,7 @@ desk_after-requires c =
 
 -- and it is whole with that stock after its calls
 pub paint-painted-requires : goal.paint-painted-requires
-paint-painted-requires c = record { stocks = _; managers = c.in-Ok-desk_after.ensures.whole.managers }
+paint-painted-requires c = drawable _ _ _ _ _ _ c.in-Ok-desk_after.ensures.whole.managers
 
 pub pixels_right-covered-requires : goal.pixels_right-covered-requires
 pixels_right-covered-requires c = record { stocks = _; whole = c.pixels_right-uncovered.ensures.whole _ c.in-Ok-desk_after.ensures.whole }
