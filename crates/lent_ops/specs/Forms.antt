@@ -1,6 +1,7 @@
 -- Shapes that calls carry: their numbers, and the pixels that they mean.
 use Rattle.std.specs.Prelude.{ℤ, Bool, ◌&&◌, pos, int_le, nat_abs}
 use Rattle.tb_geom.specs.Points.{PixelSet}
+use Rattle.tb_geom.specs.Pixels.{Pixels, pixels_where}
 use Rattle.tb_geom.specs.Rects.{is_in_range, rect_holds}
 use Rattle.shape_strips.specs.declared.corner.Corner.{Corner}
 use Rattle.shape_strips.specs.declared.pen.Pen.{Pen}
@@ -49,3 +50,7 @@ form_holds (Oval r) = oval_holds r
 form_holds (FrameRect r p) = frame_holds r no_corner (pen_of p)
 form_holds (FrameRound r c p) = frame_holds r (corner_of c) (pen_of p)
 form_holds (FrameOval r p) = frame_holds r (oval_corner r) (pen_of p)
+
+-- the finite set of them
+abbrev pub form_pixels : FormRef → Pixels
+form_pixels f = pixels_where (λ h v. form_holds f (record { h = h; v = v }))

@@ -2,8 +2,7 @@
 use Rattle.std.specs.Prelude.{◌≡◌, ◌⊎◌, ℕ, Bool, true, false, ◌&&◌, nat_lt, pos, int_le, nat_abs, List, length, All, Option, Some, None, IfSome}
 use Rattle.tb_geom.specs.declared.refusal.Refusal.{Refusal}
 use Rattle.tb_geom.specs.declared.refusal.Refusal.TheVariants.{BadSyntax, BadRegion, OutOfRange, TooLong}
-use Rattle.tb_geom.specs.declared.point.Point.{Point}
-use Rattle.tb_geom.specs.Pixels.{Pixels, holds}
+use Rattle.tb_geom.specs.Pixels.{Pixels}
 use Rattle.tb_geom.specs.Rects.{in_plane, is_in_range}
 use Rattle.tb_geom.specs.LentBytes.{are_rows}
 use Rattle.region_bytes.specs.Points.{PointRow, IsInRange}
@@ -16,7 +15,7 @@ use Rattle.lent_ops.specs.declared.op_ref.LineRef.{LineRef}
 use Rattle.lent_ops.specs.declared.op_ref.OpRef.{OpRef}
 use Rattle.lent_ops.specs.declared.op_ref.ShapeRef.{ShapeRef}
 use Rattle.lent_ops.specs.declared.op_ref.ShapeRef.TheVariants.{Erase as EraseRef, Invert as InvertRef, Fill as FillRef, Frame as FrameRef, HLine as HLineRef, VLine as VLineRef, Text as RunRef, Bits as ImageRef, FillRgn as FillRgnRef, Form as FormShapeRef}
-use Rattle.lent_ops.specs.Forms.{is_form_in_range, form_holds}
+use Rattle.lent_ops.specs.Forms.{is_form_in_range, form_pixels}
 
 -- whether the image of a shape has rows and columns, and its bytes are those of its rows; of a shape without one, true
 abbrev pub has_rows : ShapeRef → Bool
@@ -129,7 +128,7 @@ MeansShape (VLineRef l k) s = s ≡ VLine (line_of l) k
 MeansShape (RunRef t) s = s ≡ Text (record { pen = t.pen; mode = t.mode; text = t.text })
 MeansShape (ImageRef b) s = s ≡ Bits (record { place = b.place; width = nat_abs b.width; height = nat_abs b.height; mode = b.mode; rows = b.rows })
 MeansShape (FillRgnRef bytes k) s = (g : Pixels) × IsRegionBytes bytes g × (s ≡ FillRgn g k)
-MeansShape (FormShapeRef f k) s = (g : Pixels) × ((p : Point) → holds g p ≡ form_holds f p) × (s ≡ FillRgn g k)
+MeansShape (FormShapeRef f k) s = s ≡ FillRgn (form_pixels f) k
 
 -- the clip is the one whose bytes are given, where they are
 abbrev pub MeansClip : Option (List ℕ) → Option Pixels → Type 0

@@ -1,5 +1,5 @@
 -- The columns of two runs, and their edges.
-use Rattle.std.proofs.Common.{◌≡◌, ◌&&◌, ◌||◌, not, Bool, true, false, ℤ, pos, ◌-ℤ◌, ◌≤ℤ◌, ◌<ℤ◌, ◌∷◌, [], refl, sym, ap, ◌∙◌, arith}
+use Rattle.std.proofs.Common.{◌≡◌, ◌&&◌, ◌||◌, not, Bool, true, false, ℤ, pos, ◌-ℤ◌, ◌≤ℤ◌, ◌<ℤ◌, ◌∷◌, [], refl, sym, ap, arith}
 use Rattle.std.proofs.lemmas.Bool.{and_left, and_parts, and_right}
 use Rattle.std.proofs.lemmas.Int.{ints}
 use Rattle.tb_geom.specs.declared.point.Point.{Point}
@@ -15,7 +15,6 @@ use Rattle.shape_strips.specs.Rounds.{round_holds}
 use Rattle.shape_strips.specs.Frames.{frame_holds, has_size, inside_holds}
 use Rattle.shape_strips.proofs.LawLemmas.{inside_is_surrounded}
 use Rattle.shape_strips.proofs.RangeLemmas.{row_of}
-use Rattle.shape_region.specs.Rows.{IsPlaced}
 
 -- between equal numbers there is none
 pub between_same : (x h y : ℤ) → x ≡ y → between x h y ≡ false

@@ -1,9 +1,9 @@
 -- The inversion points of a row below another one.
-use Rattle.std.proofs.Common.{◌≡◌, ◌+◌, ◌≤◌, false, List, [], ◌∷◌, length, ℤ, pos, negsuc, sym, ap, ◌∙◌, subst, arith}
+use Rattle.std.proofs.Common.{◌≡◌, List, [], length, ℤ, pos, negsuc, sym, ap, ◌∙◌, subst, arith}
 use Rattle.std.proofs.lemmas.Int.{ints}
 use Rattle.std.proofs.lemmas.List.{get_or_default}
 use Rattle.region_bytes.specs.Points.{IsInRange}
-use Rattle.region_bytes.proofs.Edges.{inside-nil, IsRow-nil}
+use Rattle.region_bytes.proofs.Edges.{IsRow-nil}
 use Rattle.region_rows.specs.Edges.{differ, inside, is_odd, IsCoordinate, IsEdges, IsRow}
 use Rattle.region_rows.specs.Rows.{EdgeRow, with_row, IsPushed}
 use Rattle.region_rows.proofs.Climbs.{edges_of, inside_above, row_of}

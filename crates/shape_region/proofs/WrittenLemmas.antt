@@ -1,15 +1,13 @@
 -- The bytes of rows that have the pixels of a set.
 use Rattle.std.proofs.Common.{◌≡◌, ◌⊎◌, inl, inr, ◌<◌, ◌≤◌, ℕ, List, length, ℤ, refl, ◌∙◌}
-use Rattle.tb_geom.specs.declared.point.Point.{Point}
 use Rattle.tb_geom.specs.declared.refusal.Refusal.{Refusal}
 use Rattle.tb_geom.specs.declared.refusal.Refusal.TheVariants.{NoMemory, TooLong}
 use Rattle.tb_geom.specs.Points.{PixelSet}
-use Rattle.tb_geom.specs.Pixels.{Pixels, pixels_where}
+use Rattle.tb_geom.specs.Pixels.{pixels_where}
 use Rattle.region_bytes.specs.declared.writing.RegionWriter.{RegionWriter}
 use Rattle.region_bytes.specs.Points.{in_rows}
 use Rattle.region_bytes.specs.Writing.{AreWritten}
 use Rattle.region_bytes.specs.Words.{bytes_of}
-use Rattle.region_bytes.specs.Bytes.{IsUnwritten}
 use Rattle.region_rows.specs.Rows.{EdgeRow, AreRows}
 use Rattle.region_rows.proofs.Plane.{has_view}
 use Rattle.region_rows.proofs.Sets.{IsRegionBytes-of, IsUnwritten-of}

@@ -73,8 +73,8 @@ fn bytes_say_the_pixels_of_every_small_shape(rt: HostRuntime) -> Result<(), Fail
 
 /// The bytes of the region of an oval of 5 by 5 pixels.
 const OVAL: [u8; 52] = [
-    0, 0x34, 0, 0, 0, 0, 0, 5, 0, 5, 0, 0, 0, 1, 0, 4, 0x7F, 0xFF, 0, 1, 0, 0, 0, 1, 0, 4, 0, 5, 0x7F, 0xFF,
-    0, 4, 0, 0, 0, 1, 0, 4, 0, 5, 0x7F, 0xFF, 0, 5, 0, 1, 0, 4, 0x7F, 0xFF, 0x7F, 0xFF,
+    0, 0x34, 0, 0, 0, 0, 0, 5, 0, 5, 0, 0, 0, 1, 0, 4, 0x7F, 0xFF, 0, 1, 0, 0, 0, 1, 0, 4, 0, 5,
+    0x7F, 0xFF, 0, 4, 0, 0, 0, 1, 0, 4, 0, 5, 0x7F, 0xFF, 0, 5, 0, 1, 0, 4, 0x7F, 0xFF, 0x7F, 0xFF,
 ];
 
 #[test]

@@ -15,6 +15,7 @@ const CORNER: CornerRef = CornerRef {
     width: 3,
     height: 5,
 };
+
 const PEN: PenRef = PenRef {
     width: 2,
     height: 1,
@@ -23,12 +24,12 @@ const PEN: PenRef = PenRef {
 /// One more than the most columns or rows of a form that is tried.
 const SIZES: u16 = 10;
 
-/// Whether a form is made of the pixels that a slow program gives, as a region and as bytes.
+/// Whether a form is in range, and made of the pixels that a slow program gives, as a region and as bytes.
 fn is_made<P: Pixels>(alloc: Global, form: FormRef, of: &P, sides: Rect) -> Result<bool, Refusal> {
     let region = form.to_region(alloc)?;
     let bytes = form.to_bytes(alloc)?;
     let told = Told(RegionBytes::read(bytes.as_slice())?);
-    Ok(is_region_of(alloc, &region, of, sides)? && are_alike(&told, of, sides))
+    Ok(form.is_near() && is_region_of(alloc, &region, of, sides)? && are_alike(&told, of, sides))
 }
 
 /// Whether a painted form, and the same form framed, are.
@@ -54,15 +55,14 @@ fn is_each_made(alloc: Global, width: u16, height: u16) -> Result<bool, Refusal>
         corner: corner(width, height),
     };
     let (plain, round, oval) = (shape(0, 0), shape(3, 5), shape(width, height));
+    let (rect_form, rect_frame) = (FormRef::Rect(rect), FormRef::FrameRect(rect, PEN));
+    let round_form = FormRef::Round(rect, CORNER);
+    let round_frame = FormRef::FrameRound(rect, CORNER, PEN);
+    let (oval_form, oval_frame) = (FormRef::Oval(rect), FormRef::FrameOval(rect, PEN));
     Ok(
-        are_made(alloc, FormRef::Rect(rect), FormRef::FrameRect(rect, PEN), plain)?
-            && are_made(
-                alloc,
-                FormRef::Round(rect, CORNER),
-                FormRef::FrameRound(rect, CORNER, PEN),
-                round,
-            )?
-            && are_made(alloc, FormRef::Oval(rect), FormRef::FrameOval(rect, PEN), oval)?,
+        are_made(alloc, rect_form, rect_frame, plain)?
+            && are_made(alloc, round_form, round_frame, round)?
+            && are_made(alloc, oval_form, oval_frame, oval)?,
     )
 }
 

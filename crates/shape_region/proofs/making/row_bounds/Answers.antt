@@ -1,4 +1,4 @@
-use Rattle.std.proofs.Common.{◌≡◌, ◌∙◌, sym, refl, arith, true, false}
+use Rattle.std.proofs.Common.{◌∙◌, sym, refl, arith}
 use Rattle.std.proofs.lemmas.Int.{ints}
 use Rattle.tb_geom.proofs.RectLemmas.{sides_rise}
 use Rattle.shape_region.proofs.MadeLemmas.{none_bounds}

@@ -1,8 +1,8 @@
-use Rattle.std.proofs.Common.{◌≡◌, ◌+◌, ◌≤◌, refl, [], ◌∷◌, ◌++◌, get_or, take, drop, ◌-◌, pos, rules, arith, SFits, w32, sym, length, ap, length-append}
+use Rattle.std.proofs.Common.{◌≡◌, ◌≤◌, refl, [], get_or, pos, rules, arith, SFits, w32, sym, length, ap}
 use Rattle.std.proofs.lemmas.Int.{ints, to_z-of_z}
 use Rattle.std.proofs.lemmas.List.{nil_from_length}
 use Rattle.region_rows.proofs.Climbs.{edges_of}
-use Rattle.region_rows.proofs.Turnings.{TurnsTo, TurnsTo-none, TurnsTo-first, TurnsTo-second, TurnsTo-neither, one_part, TurnsTo-parts, IsTurned, turned_first, turned_second}
+use Rattle.region_rows.proofs.Turnings.{TurnsTo-none, TurnsTo-first, TurnsTo-second, TurnsTo-neither, one_part, TurnsTo-parts, turned_first, turned_second}
 use Rattle.shape_region.proofs.TurnLemmas.{turned_row}
 use Rattle.shape_region.proofs.turns.turn_points.Goals as goal
 

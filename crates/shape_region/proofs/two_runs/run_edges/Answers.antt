@@ -1,5 +1,5 @@
-use Rattle.std.proofs.Common.{◌≡◌, ◌<ℤ◌, ◌∷◌, [], sym, ap, ◌∙◌, subst, rules, arith, SFits, w32}
-use Rattle.std.proofs.lemmas.Int.{ints, to_z-of_z}
+use Rattle.std.proofs.Common.{◌≡◌, ◌<ℤ◌, ◌∷◌, [], sym, ap, ◌∙◌, subst, rules, arith}
+use Rattle.std.proofs.lemmas.Int.{ints}
 use Rattle.region_bytes.proofs.Edges.{inside-nil, IsRow-nil}
 use Rattle.region_rows.specs.Edges.{inside, IsRow}
 use Rattle.region_rows.proofs.PairRows.{inside_two, row_of_two}

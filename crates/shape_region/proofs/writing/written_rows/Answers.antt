@@ -4,11 +4,10 @@ use Rattle.tb_geom.proofs.Steps.{fits_next}
 use Rattle.region_bytes.specs.Points.{points_of}
 use Rattle.region_bytes.proofs.Edges.{IsRow-nil}
 use Rattle.region_rows.specs.Edges.{IsRow}
-use Rattle.region_rows.specs.Rows.{EdgeRow, IsPushed}
+use Rattle.region_rows.specs.Rows.{IsPushed}
 use Rattle.shape_strips.proofs.RangeLemmas.{sides_in}
 use Rattle.shape_region.specs.Rows.{turns}
 use Rattle.shape_region.proofs.MadeLemmas.{AreMade, none_made, one_made, made_pixels, made_rows}
-use Rattle.shape_region.proofs.WrittenLemmas.{AreMadeAndWritten}
 use Rattle.shape_region.proofs.writing.written_rows.Goals as goal
 
 pub loop-v-init : goal.loop-v-init

@@ -1,4 +1,4 @@
-use Rattle.std.proofs.Common.{◌≡◌, ◌<ℤ◌, ◌≤ℤ◌, ◌∷◌, [], sym, ap, ◌∙◌, subst, rules, arith, SFits, w32}
+use Rattle.std.proofs.Common.{◌≡◌, ◌∷◌, [], sym, ap, ◌∙◌, subst, rules, arith, SFits, w32}
 use Rattle.std.proofs.lemmas.Int.{ints, to_z-of_z}
 use Rattle.tb_geom.specs.Rects.{between}
 use Rattle.region_rows.specs.Edges.{inside, IsRow}
