@@ -106,6 +106,7 @@ effect_changes calls.Front answer before after right (is, same) = unchanged_chan
 effect_changes (calls.Info s) answer before after right (is, same) = unchanged_changes before after right same
 effect_changes (calls.VisibleRegion s) answer before after right (told, same) = unchanged_changes before after right same
 effect_changes (calls.UpdateRegion s) answer before after right (told, same) = unchanged_changes before after right same
+effect_changes (calls.Region f) answer before after right (told, same) = unchanged_changes before after right same
 
 -- a call that is narrowed to some pixels tells them
 narrowed_is_none : (call : WindowCall) (before : DeskState) (set : PixelSet) → narrowed call before.activity before.begun ≡ Some set → change_of_window call before.windows.desk ≡ no_change
