@@ -1,2 +1,4 @@
+mod FormLemmas
 mod NameLemmas
+mod NamedLemmas
 mod VerbLemmas

@@ -1,7 +1,7 @@
 //! The first words of commands.
 ghost use Rattle.std.specs.Prelude.{◌≡◌};
 ghost use Rattle.line_words.specs.Tables.{named};
-ghost use Rattle.command_words.specs.Verbs.{verbs};
+ghost use Rattle.command_words.specs.Verbs.{later_verbs, verbs_of};
 
 use crate::controls::ControlVerb;
 use crate::events::EventVerb;
@@ -29,14 +29,13 @@ pub enum Verb {
     Event(EventVerb),
 }
 
-/// Each first word, and what it stands for. Words that scripts have most often stand in front, since they are looked up from
+/// Each first word that every version has, and what it stands for. Words that scripts have most often stand in front, since they are looked up from
 /// there on.
-static VERBS: [(&[u8], Verb); 97] = [
+static VERBS: [(&[u8], Verb); 96] = [
     (b"image", Verb::Image),
     (b"move", Verb::Window(WindowVerb::Move)),
     (b"draw", Verb::Window(WindowVerb::Draw)),
     (b"window", Verb::Window(WindowVerb::New)),
-    (b"float", Verb::Window(WindowVerb::Float)),
     (b"close", Verb::Window(WindowVerb::Close)),
     (b"show", Verb::Window(WindowVerb::Show)),
     (b"hide", Verb::Window(WindowVerb::Hide)),
@@ -131,10 +130,25 @@ static VERBS: [(&[u8], Verb); 97] = [
     (b"version", Verb::Version),
 ];
 
-/// The verb that this word is, byte by byte; None of a word that is no verb.
-#[tactic(auto, unfolding(crate::specs::Verbs::verbs))]
-pub fn verb_of(word: &[u8]) -> Option<Verb>
-    ensures { result ≡ named word.now verbs }
+/// The verb that this word is in a script of this version, byte by byte; None of a word that is no verb there.
+pub fn verb_of(version: i32, word: &[u8]) -> Option<Verb>
+    ensures { result ≡ named word.now (verbs_of version) }
 {
-    named(&VERBS, word)
+    match named(&VERBS, word) {
+        Some(verb) => Some(verb),
+        None => later_verb_of(version, word),
+    }
+}
+
+/// The same of the verbs that a later version brought: `float` is of version 2, and `region` of version 3.
+fn later_verb_of(version: i32, word: &[u8]) -> Option<Verb>
+    ensures { result ≡ named word.now (later_verbs version) }
+{
+    if version >= 2 && word == b"float".as_slice() {
+        Some(Verb::Window(WindowVerb::Float))
+    } else if version >= 3 && word == b"region".as_slice() {
+        Some(Verb::Window(WindowVerb::Region))
+    } else {
+        None
+    }
 }
