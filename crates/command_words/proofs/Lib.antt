@@ -1,4 +1,4 @@
 mod FormLemmas
 mod NameLemmas
-mod NamedLemmas
+pub mod NamedLemmas
 mod VerbLemmas
