@@ -78,9 +78,9 @@ module _ (version : ℤ) where
   written_in old [] text new written = subst (AreImages 0) (sym written.0) none
   written_in old (line ∷ lines) text new (middle, first, others, answered, rest, whole) =
       let count = sum_by-cons (λ line. cond (asks_image (said version line)) 1 0) line lines in
-      let one = subst (λ b. AreImages (cond b 1 0) first) (image_alike old.version version line) (said_images old (said old.version line) first middle answered) in
+      let here = subst (λ b. AreImages (cond b 1 0) first) (image_alike old.version version line) (said_images old (said old.version line) first middle answered) in
       let both = joined (cond (asks_image (said version line)) 1 0) (count_by (λ line. asks_image (said version line)) lines) first others
-      one (written_in middle lines others new rest) in
+      here (written_in middle lines others new rest) in
       subst (AreImages (count_by (λ line. asks_image (said version line)) (line ∷ lines))) (sym whole)
       (subst (λ n. AreImages n (first ++ others)) (sym count) both)
 
