@@ -39,7 +39,7 @@ class Round(NamedTuple):
 
 
 class Frame(NamedTuple):
-    """The frame of a round shape, which a pen leaves within the shape."""
+    """The frame of a round shape, which a pen draws within the shape."""
 
     shape: Round
     pen: tuple
@@ -66,9 +66,9 @@ def circle(size):
 
 
 def table_of_circles(last):
-    """A table in Markdown of the circles up to this size: how many pixels each has, and each row of its upper half, and how
-    many the frames have that pens of 1 by 1 and 2 by 2 leave."""
-    lines = ["| Size | Pixels | Pixels of each row, down to the middle | With pen 1 1 | With pen 2 2 |", "|---|---|---|---|---|"]
+    """A table in Markdown of the circles up to this diameter: how many pixels each has, and each row of it down to the
+    middle, and how many its frames have that pens of 1 by 1 and of 2 by 2 draw."""
+    lines = ["| Diameter | Pixels | Of each row, down to the middle | Frame, pen 1 1 | Frame, pen 2 2 |", "|---|---|---|---|---|"]
     for size in range(1, last + 1):
         rows = [row.count("1") for row in circle(size)]
         frames = [Frame(oval(0, 0, size, size), (pen, pen)) for pen in (1, 2)]
