@@ -6,6 +6,9 @@ than one pixel at a time.
 
 from typing import NamedTuple
 
+# The first line of the table of circles.
+HEAD = "| Diameter | Pixels | Of each row, down to the middle | Frame, pen 1 1 | Frame, pen 2 2 |"
+
 
 class Round(NamedTuple):
     """A rectangle whose corners are quarters of an oval. One that is as large as the rectangle makes it an oval, and one
@@ -68,7 +71,7 @@ def circle(size):
 def table_of_circles(last):
     """A table in Markdown of the circles up to this diameter: how many pixels each has, and each row of it down to the
     middle, and how many its frames have that pens of 1 by 1 and of 2 by 2 draw."""
-    lines = ["| Diameter | Pixels | Of each row, down to the middle | Frame, pen 1 1 | Frame, pen 2 2 |", "|---|---|---|---|---|"]
+    lines = [HEAD, "|---|---|---|---|---|"]
     for size in range(1, last + 1):
         rows = [row.count("1") for row in circle(size)]
         frames = [Frame(oval(0, 0, size, size), (pen, pen)) for pen in (1, 2)]
