@@ -15,6 +15,7 @@ use test_pixels::rect;
 const SIZES: u16 = 13;
 
 /// The pixels that bytes say.
+#[derive(Drop)]
 pub struct Told<'a>(pub RegionBytes<'a>);
 
 impl Pixels for Told<'_> {
@@ -84,7 +85,7 @@ fn bytes_of_an_oval_are_written(rt: HostRuntime) -> Result<(), Fail> {
         corner: corner(5, 5),
     };
     let bytes = form_bytes(rt.alloc(), &Solid { strip: &strip })?;
-    assert!(rt; bytes.as_slice() == &OVAL);
+    assert!(rt; bytes.as_slice() == OVAL.as_slice());
     Ok(())
 }
 
@@ -98,14 +99,21 @@ fn bytes_of_a_great_oval_are_too_long(rt: HostRuntime) {
     assert!(rt; matches!(refused, Err(Refusal::TooLong)));
 }
 
+/// The columns from 2 up to 9.
+const OUTER: Run = Run { left: 2, right: 9 };
+
+/// One column of these, and none.
+const INNER: Run = Run { left: 4, right: 5 };
+
+const EMPTY: Run = Run { left: 4, right: 4 };
+
 #[test]
 fn rows_have_the_edges_of_their_runs(rt: HostRuntime) {
-    let outer = Run { left: 2, right: 9 };
-    let inner = Run { left: 4, right: 5 };
-    let empty = Run { left: 4, right: 4 };
+    let ring = TwoRuns::around(OUTER, INNER).edges();
+    assert!(rt; ring.as_slice() == [2, 4, 5, 9].as_slice());
+    assert!(rt; TwoRuns::one(OUTER).edges().as_slice() == [2, 9].as_slice());
+    let whole = TwoRuns::around(OUTER, EMPTY).edges();
+    assert!(rt; whole.as_slice() == [2, 9].as_slice());
+    assert!(rt; TwoRuns::around(OUTER, OUTER).edges().is_empty());
     assert!(rt; TwoRuns::none().edges().is_empty());
-    assert!(rt; TwoRuns::one(outer).edges().as_slice() == &[2, 9]);
-    assert!(rt; TwoRuns::around(outer, inner).edges().as_slice() == &[2, 4, 5, 9]);
-    assert!(rt; TwoRuns::around(outer, empty).edges().as_slice() == &[2, 9]);
-    assert!(rt; TwoRuns::around(outer, outer).edges().is_empty());
 }
