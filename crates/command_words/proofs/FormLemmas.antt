@@ -18,19 +18,25 @@ field_then : {A B C : Type 0} (w : Field C) (shape : C → Shape A) (rest_at : C
 field_then (Ok x) shape rest_at next same = same x.0 x.1
 field_then (Err e) shape rest_at next same = refl
 
+abbrev pair_at : {B : Type 0} → (ℤ → ℤ → B) → Option (List ℕ) → Field B
+pair_at of rest = number_at rest >>= λ width. number_at width.1 >>= λ height. Ok (of width.0 height.0, height.1)
+
 pair_then : {A B : Type 0} (of : ℤ → ℤ → B) (next : B → Shape A) (rest : Option (List ℕ))
     → reading (number (λ width. number (λ height. next (of width height)))) rest
-    ≡ ((number_at rest >>= λ width. number_at width.1 >>= λ height. Ok (of width.0 height.0, height.1)) >>= λ x. reading (next x.0) x.1)
+    ≡ (pair_at of rest >>= λ x. reading (next x.0) x.1)
 pair_then of next rest =
     field_then (number_at rest) (λ width. number (λ height. next (of width height)))
     (λ width more. number_at more >>= λ height. Ok (of width height.0, height.1)) next
     (λ width more. field_then (number_at more) (λ height. next (of width height)) (λ height more. Ok (of width height, more)) next (λ height more. refl))
 
 corner_then : {A : Type 0} (next : CornerRef → Shape A) (rest : Option (List ℕ)) → reading (corner next) rest ≡ (corner_at rest >>= λ x. reading (next x.0) x.1)
-corner_then next rest = pair_then (λ width height. record { width = width; height = height }) next rest
+corner_then next rest = pair_then {B = CornerRef} (λ width height. record { width = width; height = height }) next rest
 
 pen_then : {A : Type 0} (next : PenRef → Shape A) (rest : Option (List ℕ)) → reading (pen next) rest ≡ (pen_at rest >>= λ x. reading (next x.0) x.1)
-pen_then next rest = pair_then (λ width height. record { width = width; height = height }) next rest
+pen_then next rest = pair_then {B = PenRef} (λ width height. record { width = width; height = height }) next rest
+
+abbrev sides : ℤ → ℤ → ℤ → ℤ → Rect
+sides left top right bottom = record { left = left; top = top; right = right; bottom = bottom }
 
 rect_then : {A : Type 0} (next : Rect → Shape A) (rest : Option (List ℕ)) → reading (rect next) rest ≡ (rect_at rest >>= λ x. reading (next x.0) x.1)
 rect_then next rest =
@@ -39,9 +45,6 @@ rect_then next rest =
     (λ left more. field_then (number_at more) (λ top. number (λ right. number (λ bottom. next (sides left top right bottom))))
     (λ top more. number_at more >>= λ right. number_at right.1 >>= λ bottom. Ok (sides left top right.0 bottom.0, bottom.1)) next
     (λ top more. pair_then (sides left top) next more))
-  where
-    sides : ℤ → ℤ → ℤ → ℤ → Rect
-    sides left top right bottom = record { left = left; top = top; right = right; bottom = bottom }
 
 -- a form is read by its numbers, and then what follows it
 pub form_then : {A : Type 0} (word : FormWord) (next : FormRef → Shape A) (rest : Option (List ℕ)) → reading (form_shape word next) rest ≡ (form_at word rest >>= λ x. reading (next x.0) x.1)

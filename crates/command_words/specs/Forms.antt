@@ -4,6 +4,7 @@ use Rattle.lent_ops.specs.declared.form_ref.CornerRef.{CornerRef}
 use Rattle.lent_ops.specs.declared.form_ref.FormRef.{FormRef}
 use Rattle.lent_ops.specs.declared.form_ref.FormRef.TheVariants.{Rect, Round, Oval, FrameRect, FrameRound, FrameOval}
 use Rattle.lent_ops.specs.declared.form_ref.PenRef.{PenRef}
+use Rattle.tb_geom.specs.declared.rect.Rect.{Rect as Sides}
 use Rattle.line_words.specs.Words.{◌>>=◌, Field, number_at, rect_at}
 use Rattle.line_words.specs.Shapes.{Shape, says, never, number, name, rect}
 use Rattle.line_words.specs.Tables.{named}
@@ -58,11 +59,15 @@ corner_at rest = number_at rest >>= λ width. number_at width.1 >>= λ height. O
 abbrev pub pen_at : Option (List ℕ) → Field PenRef
 pen_at rest = number_at rest >>= λ width. number_at width.1 >>= λ height. Ok (record { width = width.0; height = height.0 }, height.1)
 
+-- words that are the other numbers of a form in this rectangle
+abbrev pub form_in : FormWord → Sides → Option (List ℕ) → Field FormRef
+form_in words.Rect r rest = Ok (Rect r, rest)
+form_in words.Round r rest = corner_at rest >>= λ c. Ok (Round r c.0, c.1)
+form_in words.Oval r rest = Ok (Oval r, rest)
+form_in words.FrameRect r rest = pen_at rest >>= λ p. Ok (FrameRect r p.0, p.1)
+form_in words.FrameRound r rest = corner_at rest >>= λ c. pen_at c.1 >>= λ p. Ok (FrameRound r c.0 p.0, p.1)
+form_in words.FrameOval r rest = pen_at rest >>= λ p. Ok (FrameOval r p.0, p.1)
+
 -- words that are the numbers of a form
 abbrev pub form_at : FormWord → Option (List ℕ) → Field FormRef
-form_at words.Rect rest = rect_at rest >>= λ r. Ok (Rect r.0, r.1)
-form_at words.Round rest = rect_at rest >>= λ r. corner_at r.1 >>= λ c. Ok (Round r.0 c.0, c.1)
-form_at words.Oval rest = rect_at rest >>= λ r. Ok (Oval r.0, r.1)
-form_at words.FrameRect rest = rect_at rest >>= λ r. pen_at r.1 >>= λ p. Ok (FrameRect r.0 p.0, p.1)
-form_at words.FrameRound rest = rect_at rest >>= λ r. corner_at r.1 >>= λ c. pen_at c.1 >>= λ p. Ok (FrameRound r.0 c.0 p.0, p.1)
-form_at words.FrameOval rest = rect_at rest >>= λ r. pen_at r.1 >>= λ p. Ok (FrameOval r.0 p.0, p.1)
+form_at word rest = rect_at rest >>= λ r. form_in word r.0 r.1

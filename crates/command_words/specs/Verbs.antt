@@ -112,11 +112,17 @@ verbs =
     ∷ (codes "version", words.Version)
     ∷ []
 
--- those that a later version brought: `float` is of version 2, and `region` of version 3
+-- the one that version 2 brought, where this version has it
+abbrev pub verbs_since_2 : ℤ → List (List ℕ × Verb)
+verbs_since_2 version = if int_le (pos 2) version then (codes "float", words.Window windows.Float) ∷ [] else []
+
+-- and the one that version 3 brought
+abbrev pub verbs_since_3 : ℤ → List (List ℕ × Verb)
+verbs_since_3 version = if int_le (pos 3) version then (codes "region", words.Window windows.Region) ∷ [] else []
+
+-- those of later versions
 abbrev pub later_verbs : ℤ → List (List ℕ × Verb)
-later_verbs version =
-    (if int_le (pos 2) version then (codes "float", words.Window windows.Float) ∷ [] else [])
-    ++ (if int_le (pos 3) version then (codes "region", words.Window windows.Region) ∷ [] else [])
+later_verbs version = verbs_since_2 version ++ verbs_since_3 version
 
 -- the first words of a script of this version; no word stands twice among them, so that their order says nothing
 unfoldable pub verbs_of : ℤ → List (List ℕ × Verb)

@@ -184,6 +184,7 @@ fn region<'a>(words: Words<'a>) -> Result<(BytesRef<'a>, Shade), Refusal>
 }
 
 /// The numbers of a form, a mode and a pattern.
+#[tactic(auto, using(crate::proofs::FormLemmas::form_then, line_words::proofs::Mapped::reading_mapped))]
 fn shaded_form<'a>(word: FormWord, words: Words<'a>) -> Result<ShapeRef<'a>, Refusal>
     ensures { result ≡ reading (shaded_form_shape word) words.entry }
 {

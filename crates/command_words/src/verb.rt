@@ -1,7 +1,7 @@
 //! The first words of commands.
 ghost use Rattle.std.specs.Prelude.{◌≡◌};
 ghost use Rattle.line_words.specs.Tables.{named};
-ghost use Rattle.command_words.specs.Verbs.{later_verbs, verbs_of};
+ghost use Rattle.command_words.specs.Verbs.{verbs, verbs_since_2, verbs_since_3, later_verbs, verbs_of};
 
 use crate::controls::ControlVerb;
 use crate::events::EventVerb;
@@ -134,19 +134,46 @@ static VERBS: [(&[u8], Verb); 96] = [
 pub fn verb_of(version: i32, word: &[u8]) -> Option<Verb>
     ensures { result ≡ named word.now (verbs_of version) }
 {
-    match named(&VERBS, word) {
+    match common_verb_of(word) {
         Some(verb) => Some(verb),
         None => later_verb_of(version, word),
     }
 }
 
-/// The same of the verbs that a later version brought: `float` is of version 2, and `region` of version 3.
+/// The same of the verbs that every version has.
+#[tactic(auto, unfolding(crate::specs::Verbs::verbs))]
+fn common_verb_of(word: &[u8]) -> Option<Verb>
+    ensures { result ≡ named word.now verbs }
+{
+    named(&VERBS, word)
+}
+
+/// The same of the verbs that later versions brought.
 fn later_verb_of(version: i32, word: &[u8]) -> Option<Verb>
     ensures { result ≡ named word.now (later_verbs version) }
 {
+    match verb_since_2(version, word) {
+        Some(verb) => Some(verb),
+        None => verb_since_3(version, word),
+    }
+}
+
+/// The same of `float`, which version 2 brought.
+fn verb_since_2(version: i32, word: &[u8]) -> Option<Verb>
+    ensures { result ≡ named word.now (verbs_since_2 version) }
+{
     if version >= 2 && word == b"float".as_slice() {
         Some(Verb::Window(WindowVerb::Float))
-    } else if version >= 3 && word == b"region".as_slice() {
+    } else {
+        None
+    }
+}
+
+/// The same of `region`, which version 3 brought.
+fn verb_since_3(version: i32, word: &[u8]) -> Option<Verb>
+    ensures { result ≡ named word.now (verbs_since_3 version) }
+{
+    if version >= 3 && word == b"region".as_slice() {
         Some(Verb::Window(WindowVerb::Region))
     } else {
         None

@@ -3,7 +3,7 @@ ghost use Rattle.std.specs.Prelude.{◌≡◌, pos, Some, None, OnOk, false};
 ghost use Rattle.def_iface.specs.Stocks.{AllSlots, AreAllFull};
 ghost use Rattle.script_runner.specs.Checks.{IsCheckLine};
 ghost use Rattle.script_runner.specs.Endings.{LineEnds, TakeEnds};
-ghost use Rattle.script_runner.specs.Script.{why_unread};
+ghost use Rattle.script_runner.specs.Script.{is_version, why_unread};
 ghost use Rattle.script_runner.specs.Session.{LeavesStock};
 ghost use Rattle.script_runner.specs.Writers.{IsSameWriter, SendsSome};
 
@@ -154,9 +154,16 @@ fn why_no_version(is_begun: bool, number: i32) -> Option<Refusal>
     if is_begun {
         return Some(Refusal::BadSyntax);
     }
-    if 1 <= number && number <= NEWEST_VERSION {
+    if is_version(number) {
         None
     } else {
         Some(Refusal::OutOfRange)
     }
+}
+
+/// Whether the commands have a version of this number.
+fn is_version(number: i32) -> bool
+    ensures { result ≡ is_version number }
+{
+    1 <= number && number <= NEWEST_VERSION
 }

@@ -22,7 +22,7 @@ use Rattle.command_words.specs.OutlineWords.{outline_shape}
 use Rattle.command_words.specs.UpdateWords.{update_shape}
 use Rattle.command_words.specs.Verbs.{verbs, later_verbs, verbs_of}
 use Rattle.command_words.specs.WindowWords.{window_shape}
-use Rattle.command_words.proofs.NamedLemmas.{first_of, named-append}
+use Rattle.command_words.proofs.NamedLemmas.{first_found, named-append}
 use Rattle.script_text.specs.declared.command.Command.{Command}
 use Rattle.script_text.specs.declared.command.Command.TheVariants.{Call}
 use Rattle.script_text.specs.Commands.{shape_of, read_with, command_of}
@@ -74,7 +74,7 @@ module _ {B : Type 0} (f : Option (Result Command Refusal) → B) (other : B) (o
 
     -- a word of the table of all versions, or one of later versions, or none
     word_alike : (first : Option Verb) (word : List ℕ) (rest : Option (List ℕ))
-        → f (Some (read_with one (first_of first (named word (later_verbs one))) rest)) ≡ f (Some (read_with another (first_of first (named word (later_verbs another))) rest))
+        → f (Some (read_with one (first_found first (named word (later_verbs one))) rest)) ≡ f (Some (read_with another (first_found first (named word (later_verbs another))) rest))
     word_alike (Some verb) word rest = verb_alike verb rest
     word_alike None word rest =
         later_said one word rest (int_le (pos 2) one) (int_le (pos 3) one) ∙ sym (later_said another word rest (int_le (pos 2) another) (int_le (pos 3) another))

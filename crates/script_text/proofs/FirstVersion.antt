@@ -19,7 +19,7 @@ use Rattle.command_words.specs.declared.windows.WindowVerb.TheVariants as window
 use Rattle.command_words.specs.Drawings.{operations_of, clipped_shape, clip_shape, drawing_shape}
 use Rattle.command_words.specs.Verbs.{verbs, later_verbs, verbs_of}
 use Rattle.command_words.specs.WindowWords.{new_shape, window_shape}
-use Rattle.command_words.proofs.NamedLemmas.{first_of, named-append}
+use Rattle.command_words.proofs.NamedLemmas.{first_found, named-append}
 use Rattle.script_text.specs.declared.command.Command.{Command}
 use Rattle.script_text.specs.declared.command.Command.TheVariants.{Call}
 use Rattle.script_text.specs.Commands.{shape_of, read_with, command_of}
@@ -74,18 +74,15 @@ module _ {B : Type 0} (f : Option (Result Command Refusal) → B) (of_floating :
   -- the verbs of all versions are read alike in both
   verb_same : (verb : Verb) (rest : Option (List ℕ)) → reading (shape_of (pos 1) verb) rest ≡ reading (shape_of (pos 2) verb) rest
   unfolding window_shape drawing_shape clip_shape clipped_shape operations_of
-  verb_same verb rest = by_verb verb
-    where
-      by_verb : (verb : Verb) → reading (shape_of (pos 1) verb) rest ≡ reading (shape_of (pos 2) verb) rest
-      by_verb (words.Window windows.Draw) = refl
-      by_verb verb = refl
+  verb_same (words.Window windows.Draw) rest = refl
+  verb_same verb rest = refl
 
   later_same : (rest : Option (List ℕ)) (floats : Bool) → f (Some (Err BadSyntax)) ≡ f (Some (read_with (pos 2) (if floats then Some (words.Window windows.Float) else None) rest))
   later_same rest true = sym (float_read rest)
   later_same rest false = refl
 
   word_same : (first : Option Verb) (word : List ℕ) (rest : Option (List ℕ))
-      → f (Some (read_with (pos 1) (first_of first (named word (later_verbs (pos 1)))) rest)) ≡ f (Some (read_with (pos 2) (first_of first (named word (later_verbs (pos 2)))) rest))
+      → f (Some (read_with (pos 1) (first_found first (named word (later_verbs (pos 1)))) rest)) ≡ f (Some (read_with (pos 2) (first_found first (named word (later_verbs (pos 2)))) rest))
   word_same (Some verb) word rest = ap (λ r. f (Some r)) (verb_same verb rest)
   word_same None word rest = later_same rest (bytes_eq (codes "float") word)
 

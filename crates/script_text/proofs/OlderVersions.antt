@@ -20,7 +20,7 @@ use Rattle.command_words.specs.Drawings.{operations, form_operations, operations
 use Rattle.command_words.specs.Forms.{drawn_forms}
 use Rattle.command_words.specs.Verbs.{verbs, later_verbs, verbs_of}
 use Rattle.command_words.specs.WindowWords.{window_shape}
-use Rattle.command_words.proofs.NamedLemmas.{first_of, named-append}
+use Rattle.command_words.proofs.NamedLemmas.{first_found, named-append}
 use Rattle.script_text.specs.declared.command.Command.{Command}
 use Rattle.script_text.specs.declared.command.Command.TheVariants.{Call}
 use Rattle.script_text.specs.Commands.{shape_of, read_with, command_of}
@@ -58,17 +58,16 @@ OrNone x y = (x ≡ y) ⊎ (x ≡ None)
 
 -- what a word stands for, behind a table in which it may be
 module _ (word : List ℕ) where
-  forms_where : Bool → Option Operation
+  abbrev forms_where : Bool → Option Operation
   forms_where third = named word (if third then map (λ form. (form.0, operation_words.Form form.1)) drawn_forms else [])
 
-  operation_or_none : (older newer : Bool) → (older ≡ true → newer ≡ true) → (first : Option Operation) → OrNone (first_of first (forms_where older)) (first_of first (forms_where newer))
-  unfolding forms_where
+  operation_or_none : (older newer : Bool) → (older ≡ true → newer ≡ true) → (first : Option Operation) → OrNone (first_found first (forms_where older)) (first_found first (forms_where newer))
   operation_or_none true true than first = inl refl
   operation_or_none true false than first = let bad : false ≡ true = than refl in absurd (cc)
   operation_or_none false newer than (Some x) = inl refl
   operation_or_none false newer than None = inr refl
 
-  later_where : Bool → Bool → Option Verb
+  abbrev later_where : Bool → Bool → Option Verb
   later_where second third = named word ((if second then (codes "float", words.Window windows.Float) ∷ [] else [])
       ++ (if third then (codes "region", words.Window windows.Region) ∷ [] else []))
 
@@ -79,7 +78,6 @@ module _ (word : List ℕ) where
 
   later_or_none : (second third : Bool) (second' third' : Bool) → (second ≡ true → second' ≡ true) → (third ≡ true → third' ≡ true) → (third ≡ true → second ≡ true)
       → OrNone (later_where second third) (later_where second' third')
-  unfolding later_where
   later_or_none false false second' third' two three both = inr refl
   later_or_none false true second' third' two three both = let bad : false ≡ true = both refl in absurd (cc)
   later_or_none true third false third' two three both = let bad : false ≡ true = two refl in absurd (cc)
@@ -88,9 +86,9 @@ module _ (word : List ℕ) where
   later_or_none true false true true two three both = float_or_none (bytes_eq (codes "float") word)
   later_or_none true false true false two three both = inl refl
 
-  verb_or_none : (first later later' : Option Verb) → OrNone later later' → OrNone (first_of first later) (first_of first later')
-  verb_or_none (Some x) later later' or = inl refl
-  verb_or_none None later later' or = or
+  verb_or_none : (first later later' : Option Verb) → OrNone later later' → OrNone (first_found first later) (first_found first later')
+  verb_or_none (Some x) later later' either = inl refl
+  verb_or_none None later later' either = either
 
 module _ (older newer : ℤ) (than : older ≤ℤ newer) where
   from : (n : ℤ) → int_le n older ≡ true → int_le n newer ≡ true
@@ -100,29 +98,29 @@ module _ (older newer : ℤ) (than : older ≤ℤ newer) where
   second_too third = let low : pos 3 ≤ℤ older = le_is (pos 3) older third in le_so (pos 2) older (omega (arith, ints))
 
   operation_older : (word : List ℕ) → OrNone (named word (operations_of older)) (named word (operations_of newer))
-  unfolding operations_of forms_where
+  unfolding operations_of
   operation_older word =
       subst (λ x. OrNone x (named word (operations_of newer))) (sym (named-append word operations (form_operations older)))
-      (subst (λ y. OrNone (first_of (named word operations) (named word (form_operations older))) y) (sym (named-append word operations (form_operations newer)))
+      (subst (λ y. OrNone (first_found (named word operations) (named word (form_operations older))) y) (sym (named-append word operations (form_operations newer)))
       (operation_or_none word (int_le (pos 3) older) (int_le (pos 3) newer) (from (pos 3)) (named word operations)))
 
   verb_older : (word : List ℕ) → OrNone (named word (verbs_of older)) (named word (verbs_of newer))
-  unfolding verbs_of later_where
+  unfolding verbs_of
   verb_older word =
       subst (λ x. OrNone x (named word (verbs_of newer))) (sym (named-append word verbs (later_verbs older)))
-      (subst (λ y. OrNone (first_of (named word verbs) (named word (later_verbs older))) y) (sym (named-append word verbs (later_verbs newer)))
+      (subst (λ y. OrNone (first_found (named word verbs) (named word (later_verbs older))) y) (sym (named-append word verbs (later_verbs newer)))
       (verb_or_none word (named word verbs) (named word (later_verbs older)) (named word (later_verbs newer))
       (later_or_none word (int_le (pos 2) older) (int_le (pos 3) older) (int_le (pos 2) newer) (int_le (pos 3) newer) (from (pos 2)) (from (pos 3)) second_too)))
+
+  name_older : (word : List ℕ) → OrNone (named word (operations_of older)) (named word (operations_of newer))
+      → IsOlder (operation_shape (named word (operations_of older))) (operation_shape (named word (operations_of newer)))
+  name_older word (inl same) rest = inl (ap (λ o. reading (operation_shape o) rest) same)
+  name_older word (inr none) rest = inr (ap (λ o. reading (operation_shape o) rest) none)
 
   clipped_older : (window : ℕ) (clip : Option (List ℕ)) (word : List ℕ) → IsOlder (clipped_shape older window clip word) (clipped_shape newer window clip word)
   unfolding clipped_shape
   clipped_older window clip word =
-      mapped_older _ (operation_shape (named word (operations_of older))) (operation_shape (named word (operations_of newer))) (by_name (operation_older word))
-    where
-      by_name : OrNone (named word (operations_of older)) (named word (operations_of newer))
-          → IsOlder (operation_shape (named word (operations_of older))) (operation_shape (named word (operations_of newer)))
-      by_name (inl same) rest = inl (ap (λ o. reading (operation_shape o) rest) same)
-      by_name (inr none) rest = inr (ap (λ o. reading (operation_shape o) rest) none)
+      mapped_older _ (operation_shape (named word (operations_of older))) (operation_shape (named word (operations_of newer))) (name_older word (operation_older word))
 
   clip_older : (window : ℕ) → IsOlder (clip_shape older window) (clip_shape newer window)
   unfolding clip_shape
@@ -156,31 +154,33 @@ module _ (older newer : ℤ) (than : older ≤ℤ newer) where
   read_older None rest = inl refl
   read_older (Some verb) rest = shape_older verb rest
 
+  found_older : (x : List ℕ × Option (List ℕ)) → OrNone (named x.0 (verbs_of older)) (named x.0 (verbs_of newer))
+      → OrBad (read_with older (named x.0 (verbs_of older)) x.1) (read_with newer (named x.0 (verbs_of newer)) x.1)
+  found_older x (inl same) =
+      subst (λ o. OrBad (read_with older (named x.0 (verbs_of older)) x.1) (read_with newer o x.1)) same (read_older (named x.0 (verbs_of older)) x.1)
+  found_older x (inr none) = inr (ap (λ o. read_with older o x.1) none)
+
+  words_older : (word : Field (List ℕ)) → OrBad (word >>= λ x. read_with older (named x.0 (verbs_of older)) x.1) (word >>= λ x. read_with newer (named x.0 (verbs_of newer)) x.1)
+  words_older (Ok x) = found_older x (verb_older x.0)
+  words_older (Err e) = inl refl
+
   command_older : (line : List ℕ) → OrBad (command_of older line) (command_of newer line)
   unfolding command_of
-  command_older line = by_word (word_at (Some line))
-    where
-      by_verb : (x : List ℕ × Option (List ℕ)) → OrNone (named x.0 (verbs_of older)) (named x.0 (verbs_of newer))
-          → OrBad (read_with older (named x.0 (verbs_of older)) x.1) (read_with newer (named x.0 (verbs_of newer)) x.1)
-      by_verb x (inl same) =
-          subst (λ o. OrBad (read_with older (named x.0 (verbs_of older)) x.1) (read_with newer o x.1)) same (read_older (named x.0 (verbs_of older)) x.1)
-      by_verb x (inr none) = inr (ap (λ o. read_with older o x.1) none)
-      by_word : (word : Field (List ℕ)) → OrBad (word >>= λ x. read_with older (named x.0 (verbs_of older)) x.1) (word >>= λ x. read_with newer (named x.0 (verbs_of newer)) x.1)
-      by_word (Ok x) = by_verb x (verb_older x.0)
-      by_word (Err e) = inl refl
+  command_older line = words_older (word_at (Some line))
+
+abbrev said_by : Bool → Bool → Bool → Result Command Refusal → Option (Result Command Refusal)
+said_by long skipped plain command = if long then Some (Err TooLong) else (if skipped then None else (if plain then Some command else Some (Err BadSyntax)))
+
+tests_older : (long skipped plain : Bool) (command command' : Result Command Refusal) → OrBad command command'
+    → (said_by long skipped plain command ≡ said_by long skipped plain command') ⊎ (said_by long skipped plain command ≡ Some (Err BadSyntax))
+tests_older true skipped plain command command' either = inl refl
+tests_older false true plain command command' either = inl refl
+tests_older false false false command command' either = inl refl
+tests_older false false true command command' (inl same) = inl (ap (λ c. Some c) same)
+tests_older false false true command command' (inr bad) = inr (ap (λ c. Some c) bad)
 
 -- a newer version adds lines, and changes none that was good
 pub said_older : (older newer : ℤ) (line : List ℕ) → older ≤ℤ newer → (said older line ≡ said newer line) ⊎ (said older line ≡ Some (Err BadSyntax))
 unfolding said
-said_older older newer line than = by_tests (nat_lt 1024 (length line)) (is_skipped line) (list_all is_plain line) (command_older older newer than line)
-  where
-    abbrev by_tests_said : Bool → Bool → Bool → Result Command Refusal → Option (Result Command Refusal)
-    by_tests_said long skipped plain command = if long then Some (Err TooLong) else (if skipped then None else (if plain then Some command else Some (Err BadSyntax)))
-    by_tests : (long skipped plain : Bool) → OrBad (command_of older line) (command_of newer line)
-        → (by_tests_said long skipped plain (command_of older line) ≡ by_tests_said long skipped plain (command_of newer line))
-        ⊎ (by_tests_said long skipped plain (command_of older line) ≡ Some (Err BadSyntax))
-    by_tests true skipped plain or = inl refl
-    by_tests false true plain or = inl refl
-    by_tests false false false or = inl refl
-    by_tests false false true (inl same) = inl (ap (λ c. Some c) same)
-    by_tests false false true (inr bad) = inr (ap (λ c. Some c) bad)
+said_older older newer line than =
+    tests_older (nat_lt 1024 (length line)) (is_skipped line) (list_all is_plain line) (command_of older line) (command_of newer line) (command_older older newer than line)

@@ -32,7 +32,7 @@ use Rattle.command_words.specs.MenuWords.{menu_shape}
 use Rattle.command_words.specs.OutlineWords.{outline_shape}
 use Rattle.command_words.specs.UpdateWords.{update_shape}
 use Rattle.command_words.specs.Verbs.{verbs, verbs_of}
-use Rattle.command_words.specs.WindowWords.{new_shape, window_shape}
+use Rattle.command_words.specs.WindowWords.{window_shape}
 use Rattle.script_text.specs.declared.command.Command.{Command}
 use Rattle.script_text.specs.declared.command.Command.TheVariants.{Version, Desk, Image, Call}
 use Rattle.script_text.specs.Commands.{shape_of, read_with, command_of}
@@ -44,13 +44,13 @@ use Rattle.script_text.proofs.AllSaid.{AllSaid, all_said-any, all_said-mapped, a
 named_all : {A : Type 0} (p : A → Bool) (word : List ℕ) (entries : List (List ℕ × A)) → list_all (λ entry. p entry.1) entries ≡ true
     → (x : A) → named word entries ≡ Some x → p x ≡ true
 named_all {A} p word [] all x h = let bad : ◌≡◌ {A = Option A} None (Some x) = h in absurd (cc)
-named_all {A} p word (entry ∷ entries) all x h = by_test (bytes_eq entry.0 word) h
+named_all {A} p word (entry ∷ entries) all x h =
+    let both = and_parts (p entry.1) (list_all (λ e. p e.1) entries) all in
+    by_test (bytes_eq entry.0 word) both.0 (named_all p word entries both.1 x) h
   where
-    both : (p entry.1 ≡ true) × (list_all (λ e. p e.1) entries ≡ true)
-    both = and_parts (p entry.1) (list_all (λ e. p e.1) entries) all
-    by_test : (b : Bool) → (if b then Some entry.1 else named word entries) ≡ Some x → p x ≡ true
-    by_test true e = let same : entry.1 ≡ x = cc in subst (λ y. p y ≡ true) same both.0
-    by_test false e = named_all p word entries both.1 x e
+    by_test : (b : Bool) → p entry.1 ≡ true → (named word entries ≡ Some x → p x ≡ true) → (if b then Some entry.1 else named word entries) ≡ Some x → p x ≡ true
+    by_test true here later e = let same : entry.1 ≡ x = cc in subst (λ y. p y ≡ true) same here
+    by_test false here later e = later e
 
 -- whether the word is one that every version has, or there are forms
 abbrev has_word : Bool → Operation → Bool
@@ -76,7 +76,7 @@ verbs_had false true = refl
 verbs_had false false = refl
 
 module _ (version : ℤ) where
-  IsHad : Command → Type 0
+  abbrev IsHad : Command → Type 0
   IsHad command = has_command version command ≡ true
 
   shaded_says : (had : int_le (pos 3) version ≡ true) (word : FormWord) → AllSaid (λ s. has_operation version s ≡ true) (form_shape word (λ form. mapped (λ shade. shapes.Form form shade) shade_shape))
@@ -107,19 +107,20 @@ module _ (version : ℤ) where
       all_said-mapped _ _ (operation_shape (named word (operations_of version)))
       (operation_says (named word (operations_of version)) (named_all (has_word (int_le (pos 3) version)) word (operations_of version) (words_had (int_le (pos 3) version))))
 
+  clip_says : (window : ℕ) (word : List ℕ) (clips : Bool) → AllSaid (λ d. has_operation version d.operation.shape ≡ true) (if clips then clip_shape version window else clipped_shape version window None word)
+  unfolding clip_shape
+  clip_says window word true = λ clip word. clipped_says window (Some clip) word
+  clip_says window word false = clipped_says window None word
+
   drawing_says : AllSaid (λ d. has_operation version d.operation.shape ≡ true) (drawing_shape version)
-  unfolding drawing_shape clip_shape
-  drawing_says = λ number word. by_clip (serial_of number) word (bytes_eq word (codes "clip"))
-    where
-      by_clip : (window : ℕ) (word : List ℕ) (clips : Bool) → AllSaid (λ d. has_operation version d.operation.shape ≡ true) (if clips then clip_shape version window else clipped_shape version window None word)
-      by_clip window word true = λ clip word. clipped_says window (Some clip) word
-      by_clip window word false = clipped_says window None word
+  unfolding drawing_shape
+  drawing_says = λ number word. clip_says (serial_of number) word (bytes_eq word (codes "clip"))
 
   window_says : (verb : WindowVerb) → has_verb (int_le (pos 2) version) (int_le (pos 3) version) (words.Window verb) ≡ true
       → AllSaid (λ call. has_command version (Call (calls.Window call)) ≡ true) (window_shape version verb)
   unfolding window_shape
-  window_says windows.New had = all_said-mapped _ _ new_shape (all_said-any _ (λ w. refl) new_shape)
-  window_says windows.Float had = all_said-mapped _ _ new_shape (all_said-any _ (λ w. had) new_shape)
+  window_says windows.New had = λ kind h v width height shown go_away title. refl
+  window_says windows.Float had = λ kind h v width height shown go_away title. had
   window_says windows.Close had = λ window. refl
   window_says windows.Show had = λ window. refl
   window_says windows.Hide had = λ window. refl
@@ -153,18 +154,20 @@ module _ (version : ℤ) where
   verb_says (words.Menu verb) had = all_said-mapped _ _ (menu_shape verb) (all_said-any _ (λ call. refl) (menu_shape verb))
   verb_says (words.Event verb) had = all_said-mapped _ _ (event_shape verb) (all_said-any _ (λ call. refl) (event_shape verb))
 
+  read_says : (command : Command) (word : List ℕ) (rest : Option (List ℕ)) (verb : Option Verb) → named word (verbs_of version) ≡ verb → read_with version verb rest ≡ Ok command → IsHad command
+  unfolding verbs_of
+  read_says command word rest None found says = absurd (cc)
+  read_says command word rest (Some verb) found says =
+      let had = named_all (has_verb (int_le (pos 2) version) (int_le (pos 3) version)) word (verbs_of version) (verbs_had (int_le (pos 2) version) (int_le (pos 3) version)) verb found in
+      all_said-read IsHad (shape_of version verb) (verb_says verb had) rest command says
+
+  word_says : (command : Command) (word : Field (List ℕ)) → (word >>= λ x. read_with version (named x.0 (verbs_of version)) x.1) ≡ Ok command → IsHad command
+  word_says command (Ok x) says = read_says command x.0 x.1 (named x.0 (verbs_of version)) refl says
+  word_says command (Err e) says = absurd (cc)
+
   command_says : (line : List ℕ) (command : Command) → command_of version line ≡ Ok command → IsHad command
-  unfolding command_of verbs_of
-  command_says line command h = by_word (word_at (Some line)) h
-    where
-      by_verb : (word : List ℕ) (rest : Option (List ℕ)) (verb : Option Verb) → named word (verbs_of version) ≡ verb → read_with version verb rest ≡ Ok command → IsHad command
-      by_verb word rest None found says = absurd (cc)
-      by_verb word rest (Some verb) found says =
-          let had = named_all (has_verb (int_le (pos 2) version) (int_le (pos 3) version)) word (verbs_of version) (verbs_had (int_le (pos 2) version) (int_le (pos 3) version)) verb found in
-          all_said-read IsHad (shape_of version verb) (verb_says verb had) rest command says
-      by_word : (word : Field (List ℕ)) → (word >>= λ x. read_with version (named x.0 (verbs_of version)) x.1) ≡ Ok command → IsHad command
-      by_word (Ok x) says = by_verb x.0 x.1 (named x.0 (verbs_of version)) refl says
-      by_word (Err e) says = absurd (cc)
+  unfolding command_of
+  command_says line command h = word_says command (word_at (Some line)) h
 
 -- what a line says that is neither too long, nor skipped, nor of other bytes, its words say
 pub said_by_words : (version : ℤ) (line : List ℕ) (command : Command) → said version line ≡ Some (Ok command) → command_of version line ≡ Ok command
