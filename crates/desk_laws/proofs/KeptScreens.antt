@@ -86,7 +86,9 @@ each_keeps_screen = record {
   window = λ call answer before after may step. window_stays_on call answer before after step;
   update = λ call answer before after may step rest. ap ground (update_keeps_desk call answer before.desk after.desk step);
   frame = λ call answer before after may step rest. of_frame StaysOn frames_stay_on call answer before.desk after.desk step;
-  control = λ call answer before after may step events lists menus. ap ground (control_facts call answer (with_controls before) (with_controls after) step).0.rest;
+  control = λ call answer before after may step events lists menus.
+      let facts = (control_facts call answer (with_controls before) (with_controls after) step).0 in
+      λ i. (facts.width i, (facts.height i, ((facts.bar i).rows, facts.font i)));
   list = λ call answer before after may step events menus. ap ground (list_facts call answer (with_lists before) (with_lists after) step).0.rest;
   menu = λ call answer before after may step events controls lists. menu_keeps ground (λ d titles. refl) call answer (with_menus before) (with_menus after) step;
   outline = λ call answer before after may step rest. ap ground (outline_keeps_desk call answer before.desk after.desk step);

@@ -42,11 +42,11 @@ abbrev pub IsNoneStale : FullState → Type 0
 IsNoneStale s = (p : Point) → on_screen (layered_desk s.desk) p ≡ true → s.stale p ≡ false
 
 -- the desk has a screen of these sides, so many rows of menu bar, and this font
-pub record IsDeskOf (width height bar : ℤ) (font : List ℕ) (s : ToolboxState) : Type 0 where
-  pub width : s.desk.windows.desk.width ≡ width
-  pub height : s.desk.windows.desk.height ≡ height
-  pub bar : s.desk.windows.desk.bar.rows ≡ bar
-  pub font : s.desk.windows.desk.font ≡ font
+pub record IsDeskOf (w h rows : ℤ) (bytes : List ℕ) (s : ToolboxState) : Type 0 where
+  pub width : s.desk.windows.desk.width ≡ w
+  pub height : s.desk.windows.desk.height ≡ h
+  pub bar : s.desk.windows.desk.bar.rows ≡ rows
+  pub font : s.desk.windows.desk.font ≡ bytes
 
 -- the headline of a state that calls leave, which were answered so from a first state on
 pub record IsHeadline (first : ToolboxState) (calls : List Call) (answers : List (Result Reply Refusal))
