@@ -13,7 +13,7 @@ use anyhow::{Result, bail};
 use bit_map::BitMap;
 use calls::{bar, calls};
 use def_iface::Stock;
-use desk_laws::desk_after;
+use desk_laws::desk_after::desk_after;
 use desk_toolbox::Reply;
 use scratch_paint::paint;
 use std_wdef::{StdWindow, Variation};

@@ -8,6 +8,9 @@ desk_after-requires c =
     record { windows = c.in-Ok-add.ensures.full (c.in-Ok.ensures.full none.windows); menus = none.menus; controls = none.controls; lists = none.lists }
 
 -- and it is whole with that stock after its calls
+pub screen-requires : goal.screen-requires
+screen-requires c = drawable _ _ _ _ _ _ c.in-Ok-desk_after.ensures.whole.managers
+
 pub paint-painted-requires : goal.paint-painted-requires
 paint-painted-requires c = drawable _ _ _ _ _ _ c.in-Ok-desk_after.ensures.whole.managers
 
