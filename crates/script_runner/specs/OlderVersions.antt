@@ -1,5 +1,4 @@
--- Scripts as they were before there was a newer version: in version 1 lines knew no `version` and no `float`, and in version 2
--- no form and no `region`.
+-- What scripts of version 1 wrote before there were versions, and those of version 2 before there was version 3.
 use Rattle.std.specs.Prelude.{◌≡◌, ◌⊎◌, ℕ, ℤ, pos, Bool, true, false, List, [], ◌∷◌, ◌++◌, Option, None, Some, Result, Ok, Err}
 use Rattle.tb_geom.specs.declared.refusal.Refusal.{Refusal}
 use Rattle.tb_geom.specs.declared.refusal.Refusal.TheVariants.{BadSyntax}
@@ -12,7 +11,7 @@ use Rattle.script_text.specs.Replies.{refused_text}
 use Rattle.line_words.specs.Replies.{done_text}
 use Rattle.script_runner.specs.Session.{SessionState, Obeys, reply_shown}
 
--- what a line said before there were versions, by what it says in version 2
+-- what a line said before there were versions, by what it says in version 2: then there was no `version` and no `float`
 abbrev pub said_before : Option (Result Command Refusal) → Option (Result Command Refusal)
 said_before (Some (Ok (Version number))) = Some (Err BadSyntax)
 said_before (Some (Ok (Call (Window (NewFloating w))))) = Some (Err BadSyntax)
