@@ -1,6 +1,6 @@
 -- What a first word stands for.
-use Rattle.std.proofs.Common.{◌≡◌, ℕ, ℤ, pos, ◌↔◌, Bool, true, false, List, [], ◌∷◌, ◌++◌, codes, Some, Contains, if◌then◌else◌, refl}
-use Rattle.std.specs.Prelude.{int_le}
+use Rattle.std.proofs.Common.{◌≡◌, ℕ, ℤ, pos, ◌↔◌, Bool, true, false, List, [], ◌∷◌, ◌++◌, Some, Contains, if◌then◌else◌, refl}
+use Rattle.std.specs.Prelude.{int_le, codes}
 use Rattle.line_words.specs.Tables.{named}
 use Rattle.line_words.proofs.TableLemmas.{found_is_in, in_is_found, are_distinct}
 use Rattle.command_words.specs.declared.verb.Verb.{Verb}

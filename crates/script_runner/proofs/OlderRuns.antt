@@ -27,7 +27,7 @@ module _ (raw : Bool) where
   -- a line was answered as before, and leaves a script of version 1; `follows` says whether a version is said first in what
   -- follows
   record IsAsBefore (old : ScriptState) (says : Option (Result Command Refusal)) (follows : Bool) (text : List ℕ) (new : ScriptState) : Type 0 where
-    answered : AnswersAs raw before old.session (said_before says) text new.session
+    answered : AnswersAs raw old.session (said_before says) text new.session
     version : new.version ≡ pos 1
     first : new.is_begun ≡ false → follows ≡ false
 
@@ -74,17 +74,17 @@ module _ (raw : Bool) where
       let read = subst (λ v. SaidAnswers raw old (said v line) front middle) one answered in
       let step = said_as_before old (said (pos 1) line) (begins_with_version lines) front middle one (no_floating line) first read in
       let same = said_without_floating said_before (λ w. refl) line in
-      (middle.session, front, others, subst (λ s. AnswersAs raw before old.session s front middle.session) same step.answered,
+      (middle.session, front, others, subst (λ s. AnswersAs raw old.session s front middle.session) same step.answered,
       all_as_before middle lines others new step.version step.first rest, whole)
 
   -- ---- behind a line that says a version
 
-  abbrev behind : ℤ → List ℕ → Option (Result Command Refusal)
-  behind version line = said_behind (said version line)
+  abbrev said_in : ℤ → List ℕ → Option (Result Command Refusal)
+  said_in version line = said_behind (said version line)
 
   -- a line was answered as one that says no version, and leaves the version of the script
   record IsBehind (version : ℤ) (old : ScriptState) (says : Option (Result Command Refusal)) (text : List ℕ) (new : ScriptState) : Type 0 where
-    answered : AnswersAs raw (behind version) old.session (said_behind says) text new.session
+    answered : AnswersAs raw old.session (said_behind says) text new.session
     same : new.version ≡ version
     begins : new.is_begun ≡ true
 
@@ -117,7 +117,7 @@ module _ (raw : Bool) where
   }
 
   all_behind : (version : ℤ) (old : ScriptState) (lines : List (List ℕ)) (text : List ℕ) (new : ScriptState) → old.version ≡ version → old.is_begun ≡ true
-      → Written raw old lines text new → WrittenAs raw (behind version) old.session lines text new.session
+      → Written raw old lines text new → WrittenAs raw (said_in version) old.session lines text new.session
   all_behind version old [] text new is begun written = (written.0, ap (λ s. s.session) written.1)
   all_behind version old (line ∷ lines) text new is begun (middle, front, others, answered, rest, whole) =
       let read = subst (λ v. SaidAnswers raw old (said v line) front middle) is answered in
@@ -132,8 +132,8 @@ module _ (raw : Bool) where
       let read = subst (λ s. SaidAnswers raw old s front middle) says.0 (subst (λ v. SaidAnswers raw old (said v line) front middle) one answered) in
       let taken = subst (λ b. Takes raw (why_unread b (Version (pos 2))) old (Version (pos 2)) front middle) not read in
       let written = all_behind (pos 2) middle lines others new (ap (λ s. s.version) taken.1) (ap (λ s. s.is_begun) taken.1) rest in
-      let from_old = subst (λ s. WrittenAs raw (behind (pos 2)) s lines others new.session) (ap (λ s. s.session) taken.1) written in
-      (others, subst (λ ls. WrittenAs raw (behind (pos 2)) old.session ls others new.session) (sym says.1) from_old, whole ∙ ap (λ t. t ++ others) taken.0)
+      let from_old = subst (λ s. WrittenAs raw (said_in (pos 2)) s lines others new.session) (ap (λ s. s.session) taken.1) written in
+      (others, subst (λ ls. WrittenAs raw (said_in (pos 2)) old.session ls others new.session) (sym says.1) from_old, whole ∙ ap (λ t. t ++ others) taken.0)
   since_version_2 old (line ∷ lines) behind_it text new one not (inr none) (middle, front, others, answered, rest, whole) =
       let read = subst (λ s. SaidAnswers raw old s front middle) none.0 (subst (λ v. SaidAnswers raw old (said v line) front middle) one answered) in
       let written = since_version_2 old lines behind_it others new one not none.1 (subst (λ s. Written raw s lines others new) read.1 rest) in

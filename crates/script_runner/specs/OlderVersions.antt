@@ -39,25 +39,25 @@ BeginsWith version [] behind = ⊥
 BeginsWith version (line ∷ lines) behind =
     ((said (pos 1) line ≡ Some (Ok (Version version))) × (behind ≡ lines)) ⊎ ((said (pos 1) line ≡ None) × BeginsWith version lines behind)
 
--- `raw` says whether a run is raw, and `says` what a line says
-module _ (raw : Bool) (says : List ℕ → Option (Result Command Refusal)) where
+-- `raw` says whether a run is raw
+module _ (raw : Bool) where
   -- what a line says may be answered so, and leave this desk
   abbrev pub AnswersAs : SessionState → Option (Result Command Refusal) → List ℕ → SessionState → Type 0
   AnswersAs old None text new = (text ≡ []) × (new ≡ old)
   AnswersAs old (Some (Err e)) text new = (text ≡ reply_shown raw (refused_text e)) × (new ≡ old)
   AnswersAs old (Some (Ok command)) text new = Obeys raw old command text new
 
-  -- the lines, one after another, may be answered by this text, and leave this desk
-  abbrev pub WrittenAs : SessionState → List (List ℕ) → List ℕ → SessionState → Type 0
-  WrittenAs old [] text new = (text ≡ []) × (new ≡ old)
-  WrittenAs old (line ∷ lines) text new = (middle : SessionState) × (first : List ℕ) × (others : List ℕ)
-      × AnswersAs old (says line) first middle × WrittenAs middle lines others new × (text ≡ first ++ others)
+  -- the lines, one after another, may be answered by this text, and leave this desk, where `says` is what each says
+  abbrev pub WrittenAs : (List ℕ → Option (Result Command Refusal)) → SessionState → List (List ℕ) → List ℕ → SessionState → Type 0
+  WrittenAs says old [] text new = (text ≡ []) × (new ≡ old)
+  WrittenAs says old (line ∷ lines) text new = (middle : SessionState) × (first : List ℕ) × (others : List ℕ)
+      × AnswersAs old (says line) first middle × WrittenAs says middle lines others new × (text ≡ first ++ others)
 
--- likewise before there were versions
-abbrev pub WrittenBefore : Bool → SessionState → List (List ℕ) → List ℕ → SessionState → Type 0
-WrittenBefore raw = WrittenAs raw (λ line. said_before (said (pos 2) line))
+  -- likewise before there were versions
+  abbrev pub WrittenBefore : SessionState → List (List ℕ) → List ℕ → SessionState → Type 0
+  WrittenBefore old lines text new = WrittenAs (λ line. said_before (said (pos 2) line)) old lines text new
 
--- and behind a line that says version 2 and is answered by `ok`, before there was version 3
-abbrev pub WrittenInVersion2 : Bool → SessionState → List (List ℕ) → List ℕ → SessionState → Type 0
-WrittenInVersion2 raw old lines text new =
-    (others : List ℕ) × WrittenAs raw (λ line. said_behind (said (pos 2) line)) old lines others new × (text ≡ reply_shown raw done_text ++ others)
+  -- and behind a line that says version 2 and is answered by `ok`, before there was version 3
+  abbrev pub WrittenInVersion2 : SessionState → List (List ℕ) → List ℕ → SessionState → Type 0
+  WrittenInVersion2 old lines text new =
+      (others : List ℕ) × WrittenAs (λ line. said_behind (said (pos 2) line)) old lines others new × (text ≡ reply_shown raw done_text ++ others)

@@ -40,7 +40,7 @@ word_older s t older (Ok x) = older x.0 x.1
 word_older s t older (Err e) = inl refl
 
 mapped_older : {A B : Type 0} (f : A → B) (s t : Shape A) → IsOlder s t → IsOlder (mapped f s) (mapped f t)
-mapped_older f s t older rest =
+mapped_older f s t older = λ rest.
     elim (older rest) [
       | inl same ↦ inl (reading_mapped f s rest ∙ ap (λ r. r >>= λ x. Ok (f x)) same ∙ sym (reading_mapped f t rest))
       | inr bad ↦ inr (mapped_err f s rest BadSyntax bad)
@@ -91,8 +91,8 @@ module _ (word : List ℕ) where
   verb_or_none None later later' either = either
 
 module _ (older newer : ℤ) (than : older ≤ℤ newer) where
-  from : (n : ℤ) → int_le n older ≡ true → int_le n newer ≡ true
-  from n in_older = let low : n ≤ℤ older = le_is n older in_older in le_so n newer (omega (arith, ints))
+  later_has : (n : ℤ) → int_le n older ≡ true → int_le n newer ≡ true
+  later_has n in_older = let low : n ≤ℤ older = le_is n older in_older in le_so n newer (omega (arith, ints))
 
   second_too : int_le (pos 3) older ≡ true → int_le (pos 2) older ≡ true
   second_too third = let low : pos 3 ≤ℤ older = le_is (pos 3) older third in le_so (pos 2) older (omega (arith, ints))
@@ -102,7 +102,7 @@ module _ (older newer : ℤ) (than : older ≤ℤ newer) where
   operation_older word =
       subst (λ x. OrNone x (named word (operations_of newer))) (sym (named-append word operations (form_operations older)))
       (subst (λ y. OrNone (first_found (named word operations) (named word (form_operations older))) y) (sym (named-append word operations (form_operations newer)))
-      (operation_or_none word (int_le (pos 3) older) (int_le (pos 3) newer) (from (pos 3)) (named word operations)))
+      (operation_or_none word (int_le (pos 3) older) (int_le (pos 3) newer) (later_has (pos 3)) (named word operations)))
 
   verb_older : (word : List ℕ) → OrNone (named word (verbs_of older)) (named word (verbs_of newer))
   unfolding verbs_of
@@ -110,12 +110,12 @@ module _ (older newer : ℤ) (than : older ≤ℤ newer) where
       subst (λ x. OrNone x (named word (verbs_of newer))) (sym (named-append word verbs (later_verbs older)))
       (subst (λ y. OrNone (first_found (named word verbs) (named word (later_verbs older))) y) (sym (named-append word verbs (later_verbs newer)))
       (verb_or_none word (named word verbs) (named word (later_verbs older)) (named word (later_verbs newer))
-      (later_or_none word (int_le (pos 2) older) (int_le (pos 3) older) (int_le (pos 2) newer) (int_le (pos 3) newer) (from (pos 2)) (from (pos 3)) second_too)))
+      (later_or_none word (int_le (pos 2) older) (int_le (pos 3) older) (int_le (pos 2) newer) (int_le (pos 3) newer) (later_has (pos 2)) (later_has (pos 3)) second_too)))
 
   name_older : (word : List ℕ) → OrNone (named word (operations_of older)) (named word (operations_of newer))
       → IsOlder (operation_shape (named word (operations_of older))) (operation_shape (named word (operations_of newer)))
-  name_older word (inl same) rest = inl (ap (λ o. reading (operation_shape o) rest) same)
-  name_older word (inr none) rest = inr (ap (λ o. reading (operation_shape o) rest) none)
+  name_older word (inl same) = λ rest. inl (ap (λ o. reading (operation_shape o) rest) same)
+  name_older word (inr none) = λ rest. inr (ap (λ o. reading (operation_shape o) rest) none)
 
   clipped_older : (window : ℕ) (clip : Option (List ℕ)) (word : List ℕ) → IsOlder (clipped_shape older window clip word) (clipped_shape newer window clip word)
   unfolding clipped_shape
@@ -124,7 +124,7 @@ module _ (older newer : ℤ) (than : older ≤ℤ newer) where
 
   clip_older : (window : ℕ) → IsOlder (clip_shape older window) (clip_shape newer window)
   unfolding clip_shape
-  clip_older window rest =
+  clip_older window = λ rest.
       word_older (λ clip. name (λ word. clipped_shape older window (Some clip) word)) (λ clip. name (λ word. clipped_shape newer window (Some clip) word))
       (λ clip more. word_older (λ word. clipped_shape older window (Some clip) word) (λ word. clipped_shape newer window (Some clip) word)
       (λ word. clipped_older window (Some clip) word) (name_at more)) (hex_at rest)
@@ -136,7 +136,7 @@ module _ (older newer : ℤ) (than : older ≤ℤ newer) where
 
   drawing_older : IsOlder (drawing_shape older) (drawing_shape newer)
   unfolding drawing_shape
-  drawing_older rest =
+  drawing_older = λ rest.
       word_older (λ n. name (λ word. if bytes_eq word (codes "clip") then clip_shape older (serial_of n) else clipped_shape older (serial_of n) None word))
       (λ n. name (λ word. if bytes_eq word (codes "clip") then clip_shape newer (serial_of n) else clipped_shape newer (serial_of n) None word))
       (λ n more. word_older (λ word. if bytes_eq word (codes "clip") then clip_shape older (serial_of n) else clipped_shape older (serial_of n) None word)
