@@ -1,5 +1,5 @@
 -- Which calls may come while something is open.
-use Rattle.std.specs.Prelude.{ℕ, ◌==◌, if◌then◌else◌, Option, None, Some}
+use Rattle.std.specs.Prelude.{◌==◌, if◌then◌else◌, Option, None, Some}
 use Rattle.tb_geom.specs.declared.refusal.Refusal.{Refusal}
 use Rattle.tb_geom.specs.declared.refusal.Refusal.TheVariants.{Busy, NotBusy}
 use Rattle.desk_call.specs.declared.activity.Activity.{Activity}

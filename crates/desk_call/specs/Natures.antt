@@ -1,9 +1,8 @@
 -- What kind of call it is, as far as the desk asks before or after a manager performs it.
 use Rattle.std.specs.Prelude.{ℕ, Bool, true, false, Option, None, Some}
 use Rattle.desk_call.specs.declared.activity.Standing.{Standing}
-use Rattle.desk_call.specs.declared.activity.Standing.TheVariants.{Asks}
 use Rattle.desk_call.specs.declared.call.Call.{Call}
-use Rattle.desk_call.specs.declared.call.Call.TheVariants.{Window, Update, Frame, Control, List, Menu, Outline, Event}
+use Rattle.desk_call.specs.declared.call.Call.TheVariants.{Window, Control}
 use Rattle.desk_call.specs.declared.control.ControlCall.{ControlCall}
 use Rattle.desk_call.specs.declared.control.ControlCall.TheVariants as controls
 use Rattle.desk_call.specs.declared.nature.Asked.{Asked}
@@ -12,8 +11,7 @@ use Rattle.desk_call.specs.declared.nature.Asked.TheVariants as asked
 use Rattle.desk_call.specs.declared.nature.Nature.{Nature}
 use Rattle.desk_call.specs.declared.window.WindowCall.{WindowCall}
 use Rattle.desk_call.specs.declared.window.WindowCall.TheVariants.{Dispose, Find, NewFloating, VisibleRegion, UpdateRegion}
-use Rattle.desk_call.specs.Gates.{window_standing, update_standing, frame_standing, control_standing, list_standing}
-use Rattle.desk_call.specs.Gates.{menu_standing, outline_standing}
+use Rattle.desk_call.specs.Gates.{control_standing, standing_of, window_standing}
 
 -- the window that is gone once the call was done
 abbrev pub window_ends : WindowCall → Option ℕ
@@ -41,22 +39,24 @@ abbrev pub plain : Standing → Nature
 plain standing = record { standing = standing; ends = None; asks = Nothing; is_version_2 = false }
 
 abbrev pub window_nature : WindowCall → Nature
-window_nature call = record {
-  standing = window_standing call;
-  ends = window_ends call;
-  asks = window_asks call;
-  is_version_2 = is_floating call;
-}
+window_nature call = record { standing = window_standing call; ends = window_ends call; asks = window_asks call; is_version_2 = is_floating call }
 
 abbrev pub control_nature : ControlCall → Nature
 control_nature call = record (plain (control_standing call)) { asks = control_asks call }
 
+-- of any call
+abbrev pub ends_of : Call → Option ℕ
+ends_of (Window call) = window_ends call
+ends_of _ = None
+
+abbrev pub asked_of : Call → Asked
+asked_of (Window call) = window_asks call
+asked_of (Control call) = control_asks call
+asked_of _ = Nothing
+
+abbrev pub is_of_version_2 : Call → Bool
+is_of_version_2 (Window call) = is_floating call
+is_of_version_2 _ = false
+
 abbrev pub nature_of : Call → Nature
-nature_of (Window call) = window_nature call
-nature_of (Update call) = plain (update_standing call)
-nature_of (Frame call) = plain (frame_standing call)
-nature_of (Control call) = control_nature call
-nature_of (List call) = plain (list_standing call)
-nature_of (Menu call) = plain (menu_standing call)
-nature_of (Outline call) = plain (outline_standing call)
-nature_of (Event call) = plain Asks
+nature_of call = record { standing = standing_of call; ends = ends_of call; asks = asked_of call; is_version_2 = is_of_version_2 call }

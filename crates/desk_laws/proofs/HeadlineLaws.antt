@@ -22,6 +22,7 @@ use Rattle.desk_laws.proofs.FindLaws.{control_is_found_by_owner}
 use Rattle.desk_laws.proofs.FindWindowLaws.{window_is_found_by_owner}
 use Rattle.desk_laws.proofs.FrontLaws.{screen_is_right, served_run_shows_all_right}
 use Rattle.desk_laws.proofs.RegionLaws.{stale_is_in_one, update_where_stale}
+use Rattle.desk_laws.proofs.Shown.{windows_go_by_records}
 
 -- a desk without windows has no content
 no_content : (s : FullState) → s.desk.windows ≡ [] → (p : Point) → is_content (owner (layered_desk s.desk) p) ≡ false
@@ -62,6 +63,8 @@ headline_holds first last calls answers begun run =
     record {
       screen = screen_is_right last now.right;
       served = served_run_shows_all_right first last calls answers was.right was.contents run;
+      contents = now.contents;
+      records = windows_go_by_records last now;
       regions = stale_in_regions last.desk.windows now.right;
       none = none_at_first first begun;
       exact = stale_by_calls first last calls answers was run;

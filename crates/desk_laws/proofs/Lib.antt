@@ -4,6 +4,7 @@ pub mod Ordering
 pub mod LiveDefinitions
 pub mod Classed
 pub mod KeptClasses
+pub mod KeptScreens
 pub mod HeldWindows
 pub mod ControlNumbers
 pub mod ListNumbers

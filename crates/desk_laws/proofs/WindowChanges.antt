@@ -101,11 +101,7 @@ effect_changes (calls.Hide s) answer before after right (is, arranged) = arrange
 effect_changes (calls.ShowHide c) answer before after right (is, arranged) = arranged.pixels
 effect_changes (calls.Size z) answer before after right done = sized_changes z (record_with z.window before.desk.windows) answer before after right done
 effect_changes (calls.Zoom z) answer before after right done = zoomed_changes (zoom_of z.part) z.window (record_with z.window before.desk.windows) answer before after right done
-effect_changes (calls.Find p) answer before after right (is, same) = unchanged_changes before after right same
-effect_changes calls.Front answer before after right (is, same) = unchanged_changes before after right same
-effect_changes (calls.Info s) answer before after right (is, same) = unchanged_changes before after right same
-effect_changes (calls.VisibleRegion s) answer before after right (told, same) = unchanged_changes before after right same
-effect_changes (calls.UpdateRegion s) answer before after right (told, same) = unchanged_changes before after right same
+effect_changes _ answer before after right done = unchanged_changes before after right done.1
 
 -- a call that is narrowed to some pixels tells them
 narrowed_is_none : (call : WindowCall) (before : DeskState) (set : PixelSet) → narrowed call before.activity before.begun ≡ Some set → change_of_window call before.windows.desk ≡ no_change

@@ -1,8 +1,9 @@
 -- The headline: what holds of each state that a desk reaches.
-use Rattle.std.specs.Prelude.{◌≡◌, ◌↔◌, ℕ, true, false, List, Result, Ok}
+use Rattle.std.specs.Prelude.{◌≡◌, ◌↔◌, ℕ, ℤ, true, false, List, All, Result, Ok}
 use Rattle.tb_geom.specs.declared.point.Point.{Point}
 use Rattle.tb_geom.specs.declared.refusal.Refusal.{Refusal}
 use Rattle.tb_geom.specs.Rects.{in_plane}
+use Rattle.def_iface.specs.WindowMeaning.{WindowGoesBy}
 use Rattle.desk_layers.specs.Desk.{on_screen}
 use Rattle.desk_layers.specs.Owner.{owner}
 use Rattle.desk_layers.specs.Change.{Change, stale_by}
@@ -20,6 +21,7 @@ use Rattle.window_mgr.specs.Refused.{is_missing}
 use Rattle.window_mgr.specs.Telling.{update_of}
 use Rattle.window_update.specs.Served.{AreAllServed}
 use Rattle.desk_toolbox.specs.Fronts.{IsScreenAllRight, IsScreenRight, found_on_screen, window_on_screen}
+use Rattle.desk_toolbox.specs.Reached.{AreContentsRight, news_by_record}
 use Rattle.desk_toolbox.specs.Run.{IsRunOf, IsStep}
 use Rattle.desk_toolbox.specs.ToolboxStates.{ToolboxState}
 use Rattle.desk_laws.specs.Changes.{change_of_call}
@@ -39,6 +41,13 @@ IsStaleStep call answer before after = IsStep call answer before after
 abbrev pub IsNoneStale : FullState → Type 0
 IsNoneStale s = (p : Point) → on_screen (layered_desk s.desk) p ≡ true → s.stale p ≡ false
 
+-- the desk has a screen of these sides, so many rows of menu bar, and this font
+pub record IsDeskOf (w h rows : ℤ) (bytes : List ℕ) (s : ToolboxState) : Type 0 where
+  pub width : s.desk.windows.desk.width ≡ w
+  pub height : s.desk.windows.desk.height ≡ h
+  pub bar : s.desk.windows.desk.bar.rows ≡ rows
+  pub font : s.desk.windows.desk.font ≡ bytes
+
 -- the headline of a state that calls leave, which were answered so from a first state on
 pub record IsHeadline (first : ToolboxState) (calls : List Call) (answers : List (Result Reply Refusal))
     (last : ToolboxState) : Type 0 where
@@ -46,6 +55,10 @@ pub record IsHeadline (first : ToolboxState) (calls : List Call) (answers : List
   pub screen : IsScreenRight last
   -- once every update is served, every pixel does
   pub served : AreAllServed last.desk.windows → IsScreenAllRight last
+  -- what is painted is the desk: the layers of each window are its controls and lists, and show what these show, and each
+  -- window is shown and hit by what its record says
+  pub contents : AreContentsRight last
+  pub records : All (λ w. WindowGoesBy (news_by_record w) w.definition) last.desk.windows.desk.windows
   -- the pixels of the update regions are the stale ones
   pub regions : (p : Point) → on_screen (layered_desk last.desk.windows.desk) p ≡ true
       → (last.desk.windows.stale p ≡ true) ↔ ((window : ℕ) × IsInRegion update_of window last.desk.windows p)

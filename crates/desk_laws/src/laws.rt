@@ -1,5 +1,5 @@
 //! What the definitions of a desk, of its steps and of runs say of each other.
-ghost use Rattle.std.specs.Prelude.{◌≡◌, ◌≢◌, ℕ, Bool, true, false, not, List, [], ◌∷◌, ◌++◌, map, Option, None, Some, Result, Ok, All};
+ghost use Rattle.std.specs.Prelude.{◌≡◌, ◌≢◌, ℕ, ℤ, Bool, true, false, not, List, [], ◌∷◌, ◌++◌, map, Option, None, Some, Result, Ok, All};
 ghost use Rattle.std.specs.List.{find};
 ghost use Rattle.std.specs.Option.{option_map};
 ghost use Rattle.tb_geom.specs.declared.point.Point.{Point};
@@ -64,6 +64,7 @@ ghost use Rattle.desk_call.specs.declared.window.WindowReply.TheVariants as wind
 ghost use Rattle.desk_call.specs.declared.call.Reply.{Reply};
 ghost use Rattle.window_update.specs.Served.{AreAllServed, IsAllRight};
 ghost use Rattle.window_frame.specs.Followers.{AreInformed};
+ghost use Rattle.desk_laws.specs.Headline.{IsDeskOf};
 ghost use Rattle.desk_toolbox.specs.Activations.{activate_events_told, IsNeverDisposed};
 ghost use Rattle.desk_toolbox.specs.Reached.{AreContentsRight, IsConsistent, IsJustBegun, news_by_record};
 ghost use Rattle.desk_layers.specs.Desk.{on_screen};
@@ -177,6 +178,14 @@ pub fn controls_are_counted()
 pub fn lists_are_counted()
     ensures { (first last : ToolboxState) (calls : List Call) (answers : List (Result Reply Refusal))
         → IsRunOfCalls first calls answers last → AreCounted first.lists.next (lists_made answers) }
+{}
+
+/// No run changes the sides of the screen, the rows of its menu bar, or the font.
+#[tactic(auto, using(crate::proofs::KeptScreens::desk_stays))]
+pub fn runs_keep_the_screen()
+    ensures { (first last : ToolboxState) (calls : List Call) (answers : List (Result Reply Refusal))
+        → IsRunOfCalls first calls answers last → (width height bar : ℤ) (font : List ℕ)
+        → IsDeskOf width height bar font first → IsDeskOf width height bar font last }
 {}
 
 /// After any run from a right state each pixel of the screen in no update set has the value that

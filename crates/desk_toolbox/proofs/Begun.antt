@@ -53,6 +53,7 @@ module _ {V : Type 0} {H : V → Type 0} (loan : TakenBox V H → WindowLoan) {W
         windows = windows;
         stock = full.windows;
         active = ap (λ (d : FullDesk). d.active) empty.desk;
+        next_window = ap (λ (d : FullDesk). d.next) empty.desk;
         idle = idle;
         controls = ap (all_seen control_loan) bare;
         next_control = next;

@@ -42,4 +42,5 @@ pub mod Asked
 pub mod WaitingShown
 pub mod UnderMenus
 pub mod Begun
+pub mod Drawable
 pub mod Quiet

@@ -4,30 +4,17 @@ use Rattle.tb_geom.specs.Points.{PixelSet}
 use Rattle.def_iface.specs.Slots.{TakenBox}
 use Rattle.def_iface.specs.WindowMeaning.{WindowLoan}
 use Rattle.desk_call.specs.declared.activity.Activity.{Activity}
-use Rattle.desk_call.specs.declared.call.Call.{Call}
-use Rattle.desk_call.specs.declared.call.Call.TheVariants.{Window, Update, Frame, Control, List, Menu, Outline, Event}
 use Rattle.desk_call.specs.declared.nature.Asked.{Asked}
 use Rattle.desk_call.specs.declared.nature.Nature.{Nature}
 use Rattle.desk_call.specs.declared.window.WindowCall.{WindowCall}
-use Rattle.desk_call.specs.Gates.{standing_of, window_standing}
-use Rattle.desk_call.specs.Natures.{nature_of, window_asks, window_ends, window_nature}
+use Rattle.desk_call.specs.Gates.{window_standing}
+use Rattle.desk_call.specs.Natures.{window_asks, window_ends, window_nature}
 use Rattle.window_mgr.specs.declared.manager.WindowManager.{WindowManager}
 use Rattle.window_mgr.specs.DeskStates.{narrowed, narrowed_to}
 use Rattle.window_mgr.specs.Updating.{LeavesState}
 use Rattle.window_frame.specs.Followers.{IsCaughtUpBy}
 use Rattle.desk_toolbox.specs.Run.{is_behind_menu, is_covered}
 use Rattle.desk_toolbox.specs.ToolboxStates.{ToolboxState}
-
--- a call's nature says when the call may come
-pub standing_so : (call : Call) → (nature_of call).standing ≡ standing_of call
-standing_so (Window call) = refl
-standing_so (Update call) = refl
-standing_so (Frame call) = refl
-standing_so (Control call) = refl
-standing_so (List call) = refl
-standing_so (Menu call) = refl
-standing_so (Outline call) = refl
-standing_so (Event call) = refl
 
 -- what is asked for is a point of the menu, or not
 pub behind_so : (asks own : Asked) (s : ToolboxState) (told value : Bool) → asks ≡ own → told ≡ is_behind_menu asks s → told ≡ value → is_behind_menu own s ≡ value

@@ -16,7 +16,7 @@ use Rattle.desk_toolbox.specs.declared.toolbox.Toolbox.{Toolbox}
 use Rattle.desk_toolbox.specs.EconomicalRuns as runs
 use Rattle.desk_toolbox.specs.Economy.{IsCallEconomical}
 use Rattle.desk_toolbox.specs.ToolboxStates.{ToolboxState}
-use Rattle.desk_toolbox.specs.WholeToolbox.{AreKeptManagers, AreWholeManagers, IsKeptToolbox, IsWholeToolbox, toolbox_state}
+use Rattle.desk_toolbox.specs.WholeToolbox.{IsDrawableToolbox, AreWholeManagers, IsKeptToolbox, IsWholeToolbox, toolbox_state}
 
 -- no slot at all: whatever the slots, a screen shows the same
 abbrev pub no_slots : AllSlots
@@ -42,8 +42,8 @@ module _ {V : Type 0} {H : V → Type 0} (window : (b : DynBox V Global H) → w
       AreWholeManagers (window_loan_by window) (menu_loan_by menu) (control_loan_by control) (list_loan_by list) t stocks
 
   -- its managers are whole over some slots, and it is
-  abbrev pub HasKeptManagers : Toolbox V U W X H J K L → Type 0
-  HasKeptManagers t = AreKeptManagers (window_loan_by window) (menu_loan_by menu) (control_loan_by control) (list_loan_by list) t
+  abbrev pub IsDrawable : Toolbox V U W X H J K L → Type 0
+  IsDrawable t = IsDrawableToolbox (window_loan_by window) (menu_loan_by menu) (control_loan_by control) (list_loan_by list) t
 
   abbrev pub IsKept : Toolbox V U W X H J K L → Type 0
   IsKept t = IsKeptToolbox (window_loan_by window) (menu_loan_by menu) (control_loan_by control) (list_loan_by list) t

@@ -27,8 +27,8 @@ module _ {V : Type 0} {H : V → Type 0} (loan : TakenBox V H → WindowLoan) wh
   IsDropEconomical None old new = Unit {0}
   IsDropEconomical (Some drop) old new = IsEconomical loan (Move drop) old new
 
-  -- while this was open, a call that moves, sizes, shows, hides, selects, sends behind or disposes of a window was economical, and
-  -- one that ended a drag; of the other calls nothing is said
+  -- while this was open, a call that moves, sizes, shows, hides, selects, brings to the front, sends behind or disposes of a
+  -- window was economical, and one that ended a drag; of the other calls nothing is said
   abbrev pub IsCallEconomical : Call → Activity → WindowManager V H → WindowManager V H → Type 0
   IsCallEconomical (Window call) activity old new = IsEconomical loan call old new
   IsCallEconomical (Outline call) activity old new = IsDropEconomical (let_go_of call activity (desk_of loan old [])) old new

@@ -125,6 +125,7 @@ pub record IsJustBegun (s : ToolboxState) : Type 0 where
   pub windows : s.desk.windows.desk.windows ≡ []
   pub stock : All IsFull s.desk.windows.desk.stock
   pub active : s.desk.windows.desk.active ≡ None
+  pub next_window : s.desk.windows.desk.next ≡ Some 1
   pub idle : s.desk.activity ≡ Idle
   pub controls : s.controls.controls ≡ []
   pub next_control : s.controls.next ≡ Some 1

@@ -1,22 +1,25 @@
 -- What holds of a Toolbox and its stock between calls, and its state.
-use Rattle.std.specs.Prelude.{[]}
+use Rattle.std.specs.Prelude.{◌≡◌, pos, true, [], map, All}
 use Rattle.def_iface.specs.Slots.{TakenBox}
 use Rattle.def_iface.specs.ControlMeaning.{ControlLoan}
 use Rattle.def_iface.specs.ListMeaning.{ListLoan}
 use Rattle.def_iface.specs.WindowMeaning.{WindowLoan}
 use Rattle.def_iface.specs.MenuMeaning.{MenuLoan}
 use Rattle.def_iface.specs.Stocks.{AllSlots}
+use Rattle.desk_ground.specs.Screens.{is_screen}
+use Rattle.vis_update.specs.Records.{record_of}
 use Rattle.window_mgr.specs.FullDesk.{IsRightState}
 use Rattle.window_mgr.specs.Records.{desk_of, state_of, state_showing}
-use Rattle.window_mgr.specs.Whole.{IsWholeManager}
+use Rattle.window_mgr.specs.Whole.{IsSettled, IsWholeManager}
 use Rattle.window_mgr.specs.DeskStates.{desk_with}
 use Rattle.window_update.specs.WholeUpdates.{IsWholeUpdates, opened}
 use Rattle.control_mgr.specs.ControlDesks.{controls_show}
+use Rattle.control_mgr.specs.Settled.{AreSettled}
 use Rattle.control_mgr.specs.WholeControls.{AreWholeControls, IsTrackable, controls_state, records_of}
 use Rattle.list_mgr.specs.ListDesks.{lists_show}
 use Rattle.list_mgr.specs.WholeLists.{AreWholeLists, lists_state}
 use Rattle.list_mgr.specs.WholeLists as lists
-use Rattle.menu_mgr.specs.WholeMenus.{IsWholeMenus, menus_state}
+use Rattle.menu_mgr.specs.WholeMenus.{AreLive, IsPlaced, IsWholeMenus, menus_of, menus_state}
 use Rattle.desk_toolbox.specs.declared.toolbox.Toolbox.{Toolbox}
 use Rattle.desk_toolbox.specs.FrontMaps.{IsFrontRight}
 use Rattle.desk_toolbox.specs.ToolboxStates.{ToolboxState}
@@ -51,10 +54,17 @@ module _ {V : Type 0} {H : V → Type 0} (loan : TakenBox V H → WindowLoan) {W
     pub managers : AreWholeManagers t stocks
     pub right : IsRightState (toolbox_state t stocks).desk.windows
 
-  -- a Toolbox by itself: its managers are whole over some slots, whatever its screen shows
-  pub record AreKeptManagers (t : Toolbox V U W X H J K L) : Type 0 where
-    pub stocks : AllSlots
-    pub managers : AreWholeManagers t stocks
+  -- a Toolbox that can be painted from nothing, whatever its screen shows: that has sides of a screen, and the definitions of its
+  -- windows, controls, lists and menus are live and go by these; the map in front shows the menu that is pulled down, or the
+  -- outline, over what the screen shows
+  pub record IsDrawableToolbox (t : Toolbox V U W X H J K L) : Type 0 where
+    pub sides : is_screen (pos t.windows.screen.width) (pos t.windows.screen.height) t.windows.bar.rows ≡ true
+    pub windows : All IsSettled (map (record_of loan) t.windows.windows.records.items)
+    pub controls : AreSettled (records_of control_loan t.controls)
+    pub lists : lists.AreSettled (lists.records_of list_loan t.lists)
+    pub menus : AreLive (menus_of menu_loan t.menus.list.menus.items)
+    pub placed : IsPlaced t.activity
+    pub front : IsFrontRight menu_loan t.activity t.windows t.menus t.front
 
   -- and it is whole over some slots
   pub record IsKeptToolbox (t : Toolbox V U W X H J K L) : Type 0 where

@@ -40,13 +40,12 @@ pub trait Desk {
     /// Each of its managers is whole over slots.
     ghost HasWholeManagersOver: { Self → AllSlots → Type 0 };
 
-    /// Each of its managers is whole over some slots, whatever the screen shows: so a screen can be compared with what it should
-    /// show.
-    ghost HasKeptManagers: { Self → Type 0 };
+    /// It can be painted from nothing, whatever its screen shows: so that can be compared with what it should show.
+    ghost IsDrawable: { Self → Type 0 };
 
-    /// A call that moves, sizes, shows, hides, selects, sends behind or disposes of a window, or ends a drag, was economical,
-    /// between these two: it wrote pixels only where their owner changed, the window moved, or a frame was to be drawn. Of other
-    /// calls it says nothing.
+    /// A call that moves, sizes, shows, hides, selects, brings to the front, sends behind or disposes of a window, or ends a
+    /// drag, was economical, between these two: it wrote pixels only where their owner changed, the window moved, or a frame was
+    /// to be drawn. Of other calls it says nothing.
     ghost IsEconomical: { Named → Self → Self → Type 0 };
 
     /// These calls, answered so, led from the first desk to the last one, and each was economical where the desk that it
@@ -78,7 +77,7 @@ impl Desk for Toolbox {
 
     ghost HasWholeManagersOver = { boxed.HasWholeManagersOver WindowDef-box MenuDef-box ControlDef-box ListDef-box };
 
-    ghost HasKeptManagers = { boxed.HasKeptManagers WindowDef-box MenuDef-box ControlDef-box ListDef-box };
+    ghost IsDrawable = { boxed.IsDrawable WindowDef-box MenuDef-box ControlDef-box ListDef-box };
 
     ghost IsEconomical = { boxed.IsEconomical WindowDef-box MenuDef-box ControlDef-box ListDef-box };
 

@@ -8,8 +8,6 @@ ghost use Rattle.window_mgr.specs.Closing.{IsClosed};
 ghost use Rattle.window_mgr.specs.FullDesk.{IsRightState};
 ghost use Rattle.window_mgr.specs.Refused.{is_missing};
 ghost use Rattle.desk_call.specs.declared.activity.Activity.TheVariants.{Idle};
-ghost use Rattle.desk_call.specs.Gates.{standing_of};
-ghost use Rattle.desk_call.specs.Natures.{nature_of};
 ghost use Rattle.bit_map.specs.Bits.{bit, on_map};
 ghost use Rattle.control_mgr.specs.ControlClosing.{AreAllControlsClosed};
 ghost use Rattle.list_mgr.specs.ListClosing.{AreAllListsClosed};
@@ -31,7 +29,6 @@ use crate::{Activity, Call, Desk, Reply};
 use bit_map::BitMap;
 use control_mgr::Controls;
 use def_iface::{Stock, StockedAll, TakenControl, TakenList};
-use desk_call::Nature;
 use desk_ground::is_screen;
 use list_mgr::{Contents, Lists};
 use menu_list::MenuList;
@@ -183,7 +180,7 @@ impl Toolbox {
     /// The screen: the pulled menu where it lies, and else what the windows, the menu bar and the desktop show, with the outline
     /// of a window that is dragged or grown.
     pub fn screen(&self) -> &BitMap
-        requires { ⟦<Self as Desk>⟧.HasKeptManagers self.now }
+        requires { ⟦<Self as Desk>⟧.IsDrawable self.now }
         ensures width { result.now.width ≡ self.now.windows.screen.width }
         ensures height { result.now.height ≡ self.now.windows.screen.height }
         ensures shown { (stocks : AllSlots) (p : Point) → on_map result.now p ≡ true
@@ -258,7 +255,7 @@ impl Toolbox {
             → ⟦<Self as Desk>⟧.IsEconomical call.now self.old self.new }
         ensures quiet { IsQuietRefusal call.now result self.old.windows.screen self.new.windows.screen }
     {
-        let nature = nature_of(call);
+        let nature = call.nature();
         match self.activity.admit(nature.standing) {
             Ok(()) => self.perform(call, nature, stock),
             Err(refusal) => match form_refusal_of(call, stock) {
@@ -347,12 +344,4 @@ impl Toolbox {
         windows.close(&mut stock.windows);
         menus.close(&mut stock.menus);
     }
-}
-
-/// The nature of a call, which says when the call may come.
-fn nature_of(call: &Call<'_>) -> Nature
-    ensures nature { result ≡ nature_of call.now }
-    ensures standing { result.standing ≡ standing_of call.now }
-{
-    call.nature()
 }

@@ -7,6 +7,7 @@ pub mod Ending
 pub mod Made
 pub mod MenuKeeps
 pub mod MovedSteps
+pub mod NextTitles
 pub mod Painted
 pub mod PulledSteps
 pub mod SeenMenus

@@ -32,8 +32,10 @@ impl Menus {
     pub(crate) fn show_titles(&self, windows: &mut WindowManager)
         requires few { length self.now.list.menus.items ≤ 16 }
         requires kept { ⟦<WindowManager as DeskWindows>⟧.IsKept windows.old }
-        ensures { ⟦<WindowManager as DeskWindows>⟧.LeavesState
+        ensures shown { ⟦<WindowManager as DeskWindows>⟧.LeavesState
             (IsBarShown (titles_of self.now.list.highlighted self.now.list.menus.items)) windows.old windows.new }
+        ensures spared { windows.old.bar.titles ≡ titles_of self.now.list.highlighted self.now.list.menus.items
+            → windows.new ≡ windows.old }
     {
         if !are_shown(windows.parts().titles.as_slice(), &self.list) {
             windows.set_titles(self.list.titles());

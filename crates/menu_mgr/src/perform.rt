@@ -1,6 +1,7 @@
 //! Calls, one by one.
 ghost use Rattle.std.specs.Prelude.{◌≡◌, ◌≤◌, List, None, length, true};
 ghost use Rattle.tb_geom.specs.Points.{PixelSet};
+ghost use Rattle.menu_list.specs.Lists.{titles_of};
 ghost use Rattle.desk_call.specs.Gates.{gate, menu_standing};
 ghost use Rattle.desk_call.specs.declared.activity.Activity.TheVariants.{Idle};
 ghost use Rattle.menu_mgr.specs.Leaving.{opened};
@@ -19,7 +20,8 @@ use window_mgr::{DeskWindows, WindowManager};
 impl Menus {
     /// Performs one call on these menus beside these windows, which may come while this is open, and gives its answer. The
     /// map in front of the windows' screen then shows the menu that is pulled down. A refused call changes nothing; which
-    /// refusal comes first where several would do stands with the call.
+    /// refusal comes first where several would do stands with the call. Where the menu bar has the titles already that it is to
+    /// have, nothing is drawn on the screen.
     pub fn perform(
         &mut self,
         windows: &mut WindowManager,
@@ -36,6 +38,8 @@ impl Menus {
             (IsMenuStep call.now result)
             windows.old (opened activity.old begun) self.old windows.new (opened activity.new begun) self.new }
         ensures front { ⟦<Self as DeskMenus>⟧.IsFront activity.new windows.new self.new front.new }
+        ensures spared { windows.old.bar.titles ≡ titles_of self.new.list.highlighted self.new.list.menus.items
+            → windows.new ≡ windows.old }
     {
         match call {
             MenuCall::New(new) => self.make_and_show(windows, new, stock),
@@ -64,9 +68,11 @@ impl Menus {
     ) -> Result<MenuReply, Refusal>
         requires kept { ⟦<WindowManager as DeskWindows>⟧.IsKept windows.old }
         requires menus { ⟦<Self as MenusOnStock>⟧.IsWhole Idle self.old stock.old }
-        ensures { (begun : PixelSet) → ⟦<Self as DeskMenus>⟧.LeavesStock stock.old stock.new
+        ensures step { (begun : PixelSet) → ⟦<Self as DeskMenus>⟧.LeavesStock stock.old stock.new
             (IsMenuStep (asks.New new.now) result)
             windows.old (opened Idle begun) self.old windows.new (opened Idle begun) self.new }
+        ensures spared { windows.old.bar.titles ≡ titles_of self.new.list.highlighted self.new.list.menus.items
+            → windows.new ≡ windows.old }
     {
         match self.make(new, stock) {
             Ok(reply) => {
@@ -86,9 +92,11 @@ impl Menus {
     ) -> Result<MenuReply, Refusal>
         requires kept { ⟦<WindowManager as DeskWindows>⟧.IsKept windows.old }
         requires menus { ⟦<Self as MenusOnStock>⟧.IsWhole Idle self.old stock.old }
-        ensures { (begun : PixelSet) → ⟦<Self as DeskMenus>⟧.LeavesStock stock.old stock.new
+        ensures step { (begun : PixelSet) → ⟦<Self as DeskMenus>⟧.LeavesStock stock.old stock.new
             (IsMenuStep (asks.Dispose menu) result)
             windows.old (opened Idle begun) self.old windows.new (opened Idle begun) self.new }
+        ensures spared { windows.old.bar.titles ≡ titles_of self.new.list.highlighted self.new.list.menus.items
+            → windows.new ≡ windows.old }
     {
         match self.end(menu, stock) {
             Ok(reply) => {
@@ -108,11 +116,13 @@ impl Menus {
         requires kept { ⟦<WindowManager as DeskWindows>⟧.IsKept windows.old }
         requires edits { is_edit call.now ≡ true }
         requires few { length self.old.list.menus.items ≤ 16 }
-        ensures { (begun : PixelSet) (kept : List MenuSlot)
+        ensures step { (begun : PixelSet) (kept : List MenuSlot)
             → ⟦<Self as MenusOnStock>⟧.IsWholeOver Idle self.old kept
             → ⟦<Self as DeskMenus>⟧.LeavesOver kept kept
             (IsMenuStep call.now result)
             windows.old (opened Idle begun) self.old windows.new (opened Idle begun) self.new }
+        ensures spared { windows.old.bar.titles ≡ titles_of self.new.list.highlighted self.new.list.menus.items
+            → windows.new ≡ windows.old }
     {
         match edit(&mut self.list, call) {
             Ok(reply) => {

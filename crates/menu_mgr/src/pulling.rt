@@ -179,6 +179,8 @@ impl Menus {
             (record { hit = title.hit; record_of = listed }))
             × IsShown windows.new.font (Some (as_pulled result listed)) windows.new.screen front.new.front) }
         ensures placed { (is_menu_place result.place ≡ true) × (is_menu_size result.size ≡ true) }
+        ensures spared { windows.old.bar.titles ≡ titles_of self.new.list.highlighted self.new.list.menus.items
+            → windows.new ≡ windows.old }
     {
         let pulled = self.below(windows, title);
         self.list.highlight(Some(title.hit.menu));
@@ -235,6 +237,8 @@ impl Menus {
             (IsMenuStep (asks.Down point) result)
             windows.old (opened activity.old begun) self.old windows.new (opened activity.new begun) self.new }
         ensures front { ⟦<Self as DeskMenus>⟧.IsFront activity.new windows.new self.new front.new }
+        ensures spared { windows.old.bar.titles ≡ titles_of self.new.list.highlighted self.new.list.menus.items
+            → windows.new ≡ windows.old }
     {
         if !point.is_in_range() {
             return Err(Refusal::OutOfRange);
@@ -265,6 +269,8 @@ impl Menus {
             (IsMenuStep (asks.Move point) result)
             windows.old (opened activity.old begun) self.old windows.new (opened activity.new begun) self.new }
         ensures front { ⟦<Self as DeskMenus>⟧.IsFront activity.new windows.new self.new front.new }
+        ensures spared { windows.old.bar.titles ≡ titles_of self.new.list.highlighted self.new.list.menus.items
+            → windows.new ≡ windows.old }
     {
         if !point.is_in_range() {
             return Err(Refusal::OutOfRange);
@@ -301,6 +307,8 @@ impl Menus {
         ensures front { (front : FrontMap)
             → ⟦<Self as DeskMenus>⟧.IsFront activity.old windows.old self.old front
             → ⟦<Self as DeskMenus>⟧.IsFront activity.new windows.new self.new front }
+        ensures spared { windows.old.bar.titles ≡ titles_of self.new.list.highlighted self.new.list.menus.items
+            → windows.new ≡ windows.old }
     {
         if !point.is_in_range() {
             return Err(Refusal::OutOfRange);

@@ -1,9 +1,10 @@
-//! A desk of two windows that overlap, called by a list. It prints what the calls answer, the screen after them, the desk
-//! painted from nothing, whether each of two rectangles of a window is right, and what the stock has left after the desk's end.
+//! A desk of two windows that overlap, begun and called by a list. It prints what the calls answer, the screen after them, the
+//! desk painted from nothing, whether each of two rectangles of a window is right, and what the stock has left after the desk's
+//! end.
 //!
-//! So it shows what no clause says of `desk_toolbox` with the managers below it and of `scratch_paint`, and no script does: that
-//! calls succeed where memory is not refused, in a list too; a picture that is given whole; which pixels are right; and the
-//! desk painted from nothing. What it has to print was written by hand, from what the calls mean.
+//! So it shows what no clause says of `desk_toolbox` with the managers below it, of `desk_after` and of `scratch_paint`, and no
+//! script does: that calls succeed where memory is not refused, in a list too; a picture that is given whole; which pixels are
+//! right; and the desk painted from nothing. What it has to print was written by hand, from what the calls mean.
 #![tactic(auto)]
 
 mod calls;
@@ -12,9 +13,9 @@ use anyhow::{Result, bail};
 use bit_map::BitMap;
 use calls::{bar, calls};
 use def_iface::Stock;
-use desk_toolbox::{Reply, Toolbox};
+use desk_laws::desk_after::desk_after;
+use desk_toolbox::Reply;
 use scratch_paint::paint;
-use std::alloc::AllocError;
 use std_wdef::{StdWindow, Variation};
 use strike_font::Font;
 use tb_geom::{Point, Rect, Refusal};
@@ -49,12 +50,9 @@ fn print_map(rt: &impl Print, map: &BitMap) -> Result<()> {
     Ok(())
 }
 
-/// What the calls of a run answered.
-type Answers = Vec<Result<Reply, Refusal>>;
-
-/// Prints a line for each answer, where there was memory for them.
-fn print_answers(rt: &impl Print, answers: Result<Answers, AllocError>) -> Result<()> {
-    for answer in answers? {
+/// Prints a line for each answer.
+fn print_answers(rt: &impl Print, answers: Vec<Result<Reply, Refusal>>) -> Result<()> {
+    for answer in answers {
         println!(rt; "{answer:?}")?;
     }
     Ok(())
@@ -76,15 +74,23 @@ fn main(rt: HostRuntime) -> Result<()> {
 
     let picture = bar(alloc)?;
 
-    // A desk on a screen of 16 by 10 pixels, without a menu bar.
+    // A desk on a screen of 16 by 10 pixels, without a menu bar, which made the calls.
     let font = Font::built_in(alloc)?;
-    let mut desk = match Toolbox::new(alloc, 16, 10, 0, font) {
-        Ok(desk) => desk,
-        Err(not_begun) => bail!("no desk: {}", not_begun.refusal),
+    let (mut desk, answers) = match desk_after(
+        alloc,
+        16,
+        10,
+        0,
+        font,
+        &calls(&picture),
+        &mut stock,
+    ) {
+        Ok(after) => after,
+        Err(refusal) => bail!("no desk: {refusal}"),
     };
 
     // Until the desk has ended nothing returns, so that its windows' definitions always go back into the stock.
-    let answered = print_answers(&rt, desk.run(&calls(&picture), &mut stock));
+    let answered = print_answers(&rt, answers);
     let shown = print_map(&rt, desk.screen());
     let painted = paint(alloc, &desk);
     let uncovered = desk.pixels_right(1, UNCOVERED);

@@ -9,7 +9,7 @@
 //! boxes are apart share nothing (`Region::is_apart`). The box of a union is the rectangle around both boxes; for
 //! the others the rows are asked.
 //!
-//! `empty`, `from_rect` and `copy` begin a region, and `offset` moves its numbers in place. `is_empty`,
+//! `empty`, `from_rect`, `of_rows` and `copy` begin a region, and `offset` moves its numbers in place. `is_empty`,
 //! `bbox` and `contains` answer from the box and from parity, and `meets_rect` from the box and the rows of points.
 //!
 //! A walk goes along rows of pixels without memory. A `Part` is what one region of a cut lets through of a

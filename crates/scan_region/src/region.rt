@@ -100,6 +100,15 @@ impl Region {
         Ok(Region::of_rows(rows))
     }
 
+    /// The region whose rows of inversion points these are, in their coordinate space. It takes no memory.
+    pub fn of_rows(rows: Vec<Row>) -> Region
+        requires { AreRows rows.items }
+        ensures { (h v : ℤ) → has result h v ≡ in_rows rows.items h v }
+    {
+        let bounds = Bounds::of(rows_hull(rows.as_slice()));
+        Region { bounds, rows }
+    }
+
     /// A region of the same pixels (*Inside Macintosh* I, "QuickDraw": `CopyRgn`), in the same
     /// coordinate space.
     pub fn copy(&self, alloc: Global) -> Result<Region, AllocError>
@@ -383,14 +392,5 @@ impl Region {
     {
         let rows = combined_rows(alloc, self.rows.as_slice(), other.rows.as_slice(), operator)?;
         Ok(Region::of_rows(rows))
-    }
-
-    /// The region of these rows.
-    fn of_rows(rows: Vec<Row>) -> Region
-        requires { AreRows rows.items }
-        ensures { (h v : ℤ) → has result h v ≡ in_rows rows.items h v }
-    {
-        let bounds = Bounds::of(rows_hull(rows.as_slice()));
-        Region { bounds, rows }
     }
 }

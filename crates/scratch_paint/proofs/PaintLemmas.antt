@@ -36,7 +36,6 @@ use Rattle.vis_update.specs.Records.{WindowRecord, Look, content_layer, layered_
 use Rattle.vis_update.proofs.PlaceLemmas.{placed_from, stays_with_box}
 use Rattle.window_mgr.specs.declared.manager.WindowManager.{WindowManager}
 use Rattle.window_mgr.specs.FullDesk.{FullDesk, layered_desk, look_of}
-use Rattle.window_mgr.specs.Kept.{IsKept}
 use Rattle.window_mgr.specs.Records.{desk_of, desk_showing}
 use Rattle.window_mgr.specs.Whole.{IsSettled}
 use Rattle.window_mgr.proofs.Arranged.{between-is_below}
@@ -288,14 +287,14 @@ desk_painted desk g mid new bar_is ground drawn topped = record {
 -- and that is the desk of a manager, where its parts were asked of what is the same
 pub kept_painted : {V : Type 0} {H : V → Type 0} (loan : TakenBox V H → WindowLoan) (shows : List ℕ → Part → PixelSet) (t : WindowManager V H) (width height bar : ℤ) (font : List ℕ) (titles : List BarTitle) (windows : WindowList V H) (g : Ground) (mid new : Bits)
     → width ≡ pos t.screen.width → height ≡ pos t.screen.height → bar ≡ t.bar.rows → titles ≡ t.bar.titles → font ≡ t.font → windows ≡ t.windows
-    → IsKept loan t
+    → is_screen (pos t.screen.width) (pos t.screen.height) t.bar.rows ≡ true
     → IsGround width height bar g
     → Draws (holds g.gray) (windows_value (look_in shows font) (map (record_of loan) windows.records.items)) g.screen mid
     → Draws (λ p. int_lt p.v bar) (λ p _. bar_picture font titles p) mid new
     → IsPaintedDesk (desk_showing shows (desk_of loan t [])) new
-kept_painted {V} {H} loan shows t width height bar font titles windows g mid new wide high rows texts letters list kept ground drawn topped =
+kept_painted {V} {H} loan shows t width height bar font titles windows g mid new wide high rows texts letters list sides ground drawn topped =
     desk_painted (desk_showing shows (desk_of loan t [])) g mid new
-    (is_bar_of (pos t.screen.width) (pos t.screen.height) t.bar.rows kept.whole.sound.screen)
+    (is_bar_of (pos t.screen.width) (pos t.screen.height) t.bar.rows sides)
     (subst (λ (x : ℤ × (ℤ × ℤ)). IsGround x.0 x.1.0 x.1.1 g) (λ i. (wide i, (high i, rows i))) ground)
     (subst (λ (x : List ℕ × WindowList V H). Draws (holds g.gray) (windows_value (look_in shows x.0) (map (record_of loan) x.1.records.items)) g.screen mid) (λ i. (letters i, list i)) drawn)
     (subst (λ (x : ℤ × (List ℕ × List BarTitle)). Draws (λ p. int_lt p.v x.0) (λ p _. bar_picture x.1.0 x.1.1 p) mid new) (λ i. (rows i, (letters i, texts i))) topped)

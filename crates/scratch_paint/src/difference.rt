@@ -13,7 +13,7 @@ use tb_geom::Point;
 
 /// How many pixels of the screen in no update region differ from the desk painted from nothing.
 pub fn differences(alloc: Global, toolbox: &Toolbox) -> Result<usize, AllocError>
-    requires { ⟦<Toolbox as Desk>⟧.HasKeptManagers toolbox.now }
+    requires { ⟦<Toolbox as Desk>⟧.IsDrawable toolbox.now }
     ensures { IfOk result (λ n. n ≡ difference_count (⟦<Toolbox as Desk>⟧.state_over toolbox.now no_slots)) }
 {
     let painted = paint(alloc, toolbox)?;
@@ -22,7 +22,7 @@ pub fn differences(alloc: Global, toolbox: &Toolbox) -> Result<usize, AllocError
 
 /// How many differ from this map.
 fn differences_from(toolbox: &Toolbox, painted: &BitMap) -> usize
-    requires kept { ⟦<Toolbox as Desk>⟧.HasKeptManagers toolbox.now }
+    requires kept { ⟦<Toolbox as Desk>⟧.IsDrawable toolbox.now }
     requires large { IsAsLarge (⟦<Toolbox as Desk>⟧.state_over toolbox.now no_slots) painted.now }
     ensures { result ≡ differences_of
         (⟦<Toolbox as Desk>⟧.state_over toolbox.now no_slots)
@@ -38,7 +38,7 @@ fn differences_from(toolbox: &Toolbox, painted: &BitMap) -> usize
 
 /// The same of a row.
 fn differences_in_row(toolbox: &Toolbox, painted: &BitMap, row: u16) -> usize
-    requires kept { ⟦<Toolbox as Desk>⟧.HasKeptManagers toolbox.now }
+    requires kept { ⟦<Toolbox as Desk>⟧.IsDrawable toolbox.now }
     requires large { IsAsLarge (⟦<Toolbox as Desk>⟧.state_over toolbox.now no_slots) painted.now }
     requires row { row < painted.now.height }
     ensures count { result ≡ row_differences
@@ -62,7 +62,7 @@ fn differences_in_row(toolbox: &Toolbox, painted: &BitMap, row: u16) -> usize
 
 /// Whether a pixel of the screen differs, and is in no update region.
 fn differs_at(toolbox: &Toolbox, painted: &BitMap, point: Point) -> bool
-    requires kept { ⟦<Toolbox as Desk>⟧.HasKeptManagers toolbox.now }
+    requires kept { ⟦<Toolbox as Desk>⟧.IsDrawable toolbox.now }
     requires large { IsAsLarge (⟦<Toolbox as Desk>⟧.state_over toolbox.now no_slots) painted.now }
     requires point { on_map painted.now point ≡ true }
     ensures { result ≡ differs (⟦<Toolbox as Desk>⟧.state_over toolbox.now no_slots) (bit painted.now) point }

@@ -1,7 +1,8 @@
 //! Painting back to front.
-ghost use Rattle.std.specs.Prelude.{[], map, All, IfOk, OnOk};
+ghost use Rattle.std.specs.Prelude.{◌≡◌, pos, true, [], map, All, IfOk, OnOk};
 ghost use Rattle.tb_geom.specs.Pixels.{holds};
 ghost use Rattle.bit_blit.specs.Draws.{Draws};
+ghost use Rattle.desk_ground.specs.Screens as screens;
 ghost use Rattle.desk_call.specs.Outlines.{IsOutlineKept};
 ghost use Rattle.vis_update.specs.Records.{record_of};
 ghost use Rattle.window_mgr.specs.Records.{desk_showing};
@@ -30,7 +31,7 @@ use window_paint::Showing;
 /// bar and the desktop show, controls and lists among that, and over it the menu that is pulled down, or the outline of a window
 /// that is dragged or grown. It reads neither the screen's pixels nor any region that the Toolbox keeps.
 pub fn paint(alloc: Global, toolbox: &Toolbox) -> Result<BitMap, AllocError>
-    requires { ⟦<Toolbox as Desk>⟧.HasKeptManagers toolbox.now }
+    requires { ⟦<Toolbox as Desk>⟧.IsDrawable toolbox.now }
     ensures { IfOk result (IsPaintedScreen (⟦<Toolbox as Desk>⟧.state_over toolbox.now no_slots)) }
 {
     let windows = toolbox.windows();
@@ -69,7 +70,9 @@ fn paint_base<S: Showing>(
     windows: &WindowManager,
     layers: &S,
 ) -> Result<BitMap, AllocError>
-    requires kept { ⟦<WindowManager as DeskWindows>⟧.IsKept windows.now }
+    requires sides { screens.is_screen (pos windows.now.screen.width) (pos windows.now.screen.height) windows.now.bar.rows
+        ≡ true }
+    requires settled { All IsSettled (map (record_of ⟦<TakenWindow as Defined>⟧.loan) windows.now.windows.records.items) }
     requires layers { S.is_whole layers.now }
     ensures { IfOk result (IsPaintedDesk
         (desk_showing (S.shows layers.now) (⟦<WindowManager as DeskWindows>⟧.desk windows.now []))) }

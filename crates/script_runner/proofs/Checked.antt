@@ -10,7 +10,8 @@ use Rattle.def_iface.specs.MenuMeaning.{MenuLoan}
 use Rattle.def_iface.specs.Stocks.{AllSlots}
 use Rattle.desk_toolbox.specs.declared.toolbox.Toolbox.{Toolbox}
 use Rattle.tb_geom.specs.declared.refusal.Refusal.{Refusal}
-use Rattle.desk_toolbox.specs.WholeToolbox.{AreKeptManagers, IsWholeToolbox, toolbox_state}
+use Rattle.desk_toolbox.specs.WholeToolbox.{IsDrawableToolbox, IsWholeToolbox, toolbox_state}
+use Rattle.desk_toolbox.proofs.Drawable.{drawable}
 use Rattle.scratch_paint.specs.Differences.{difference_count, differences_of, row_differences}
 use Rattle.desk_toolbox.specs.Boxed.{no_slots}
 use Rattle.watched_io.specs.Reads.{Input}
@@ -40,14 +41,14 @@ module _ {V : Type 0} {H : V → Type 0} (loan : TakenBox V H → WindowLoan) {W
   pub line_of_none : (desk : Option (Toolbox V U W X H J K L)) → desk ≡ None → IsCheckLine (state_with loan menu_loan control_loan list_loan desk font stocks) (check_text (Some 0))
   line_of_none desk none = rw none (unmade_line font)
 
--- between two lines the managers of a desk are whole over some slots
+-- between two lines a desk can be painted from nothing
 module _ {V : Type 0} {H : V → Type 0} (loan : TakenBox V H → WindowLoan) {W : Type 0} {K : W → Type 0} (menu_loan : TakenBox W K → MenuLoan) {U : Type 0} {J : U → Type 0} (control_loan : TakenBox U J → ControlLoan) {X : Type 0} {L : X → Type 0} (list_loan : TakenBox X L → ListLoan) (stocks : AllSlots) where
   pub kept_desk : (desk : Option (Toolbox V U W X H J K L)) (font : Option (List ℕ)) (t : Toolbox V U W X H J K L) → IsReadyWith loan menu_loan control_loan list_loan desk font stocks → desk ≡ Some t
-      → AreKeptManagers loan menu_loan control_loan list_loan t
+      → IsDrawableToolbox loan menu_loan control_loan list_loan t
   kept_desk None font t ready some = absurd (cc)
   kept_desk (Some d) font t ready some =
       let same : d ≡ t = cc in
-      record { stocks = stocks; managers = (subst (λ (x : Toolbox V U W X H J K L). IsWholeToolbox loan menu_loan control_loan list_loan x stocks) same ready).managers }
+      drawable loan menu_loan control_loan list_loan t stocks (subst (λ (x : Toolbox V U W X H J K L). IsWholeToolbox loan menu_loan control_loan list_loan x stocks) same ready).managers
 
 -- a check that is asked for follows a script that ended well
 pub followed_by_check : {X : Type 0} (raw check : Bool) (first : ScriptState) (input rest : Input) (old between new : Output) (state : ScriptState) (script r : Result X Refusal) (x : X)

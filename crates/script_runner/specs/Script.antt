@@ -4,7 +4,7 @@ use Rattle.std.specs.Ordering.{int_eq}
 use Rattle.tb_geom.specs.declared.refusal.Refusal.{Refusal}
 use Rattle.tb_geom.specs.declared.refusal.Refusal.TheVariants.{BadSyntax, OutOfRange}
 use Rattle.def_iface.specs.Stocks.{AllSlots}
-use Rattle.desk_call.specs.Natures.{nature_of}
+use Rattle.desk_call.specs.Natures.{is_of_version_2}
 use Rattle.script_text.specs.declared.command.Command.{Command}
 use Rattle.script_text.specs.declared.command.Command.TheVariants.{Version, Call}
 use Rattle.script_text.specs.Lines.{said}
@@ -36,7 +36,7 @@ why_no_call version true = if int_eq version (pos 2) then None else Some BadSynt
 abbrev pub why_unread : Bool → ℤ → Command → Option Refusal
 why_unread is_begun version (Version number) =
     if is_begun then Some BadSyntax else (if int_eq number (pos 1) || int_eq number (pos 2) then None else Some OutOfRange)
-why_unread is_begun version (Call call) = why_no_call version (nature_of call).is_version_2
+why_unread is_begun version (Call call) = why_no_call version (is_of_version_2 call)
 why_unread is_begun version _ = None
 
 -- whether the command is the one that makes the script's desk

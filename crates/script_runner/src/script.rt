@@ -104,7 +104,7 @@ impl Script {
 
     /// Writes the line of the check of the script's desk, as `Session::check` says.
     pub fn check<S: Sink>(&self, writer: &mut AnswerWriter<'_, S>) -> Result<(), Refusal>
-        requires kept { (desk : _) → self.now.session.desk ≡ Some desk → ⟦<Toolbox as Desk>⟧.HasKeptManagers desk }
+        requires kept { (desk : _) → self.now.session.desk ≡ Some desk → ⟦<Toolbox as Desk>⟧.IsDrawable desk }
         requires unfailed { (S.output writer.old.sink.now).has_failed ≡ false }
         ensures same { IsSameWriter writer.old writer.new }
         ensures line { (stocks : AllSlots)

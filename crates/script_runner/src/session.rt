@@ -115,7 +115,7 @@ impl Session {
     /// Writes the line of the check: how many pixels of the screen in no update region differ from the desk
     /// painted from nothing, or NoMemory where there is none for painting. Without a desk none differs.
     pub fn check<S: Sink>(&self, writer: &mut AnswerWriter<'_, S>) -> Result<(), Refusal>
-        requires kept { (desk : _) → self.now.desk ≡ Some desk → ⟦<Toolbox as Desk>⟧.HasKeptManagers desk }
+        requires kept { (desk : _) → self.now.desk ≡ Some desk → ⟦<Toolbox as Desk>⟧.IsDrawable desk }
         requires unfailed { (S.output writer.old.sink.now).has_failed ≡ false }
         ensures same { IsSameWriter writer.old writer.new }
         ensures line { (stocks : AllSlots)

@@ -1,2 +1,3 @@
--- Lemmas on rows of strips, one by one and joined.
-pub mod RowLemmas
+-- Lemmas on the rows of strips: where two of them differ, and how far they are made.
+pub mod TurnLemmas
+pub mod StripLemmas

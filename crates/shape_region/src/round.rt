@@ -36,5 +36,6 @@ pub fn oval_region(alloc: Global, rect: Rect) -> Result<Region, Refusal>
         return Err(Refusal::OutOfRange);
     }
     let corner = Corner::of_oval(rect);
-    Ok(strip_region(alloc, &RoundStrip { rect, corner })?)
+    let oval = RoundStrip { rect, corner };
+    Ok(strip_region(alloc, &oval)?)
 }

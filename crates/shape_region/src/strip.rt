@@ -1,15 +1,21 @@
 //! The region of a strip.
-ghost use Rattle.std.specs.Prelude.{◌≡◌, ◌&&◌, pos, negsuc, ◌+ℤ◌, ◌≤ℤ◌, IfOk};
+ghost use Rattle.std.specs.Prelude.{◌≡◌, false, ℤ, IfOk};
 ghost use Rattle.tb_geom.specs.declared.point.Point.{Point};
-ghost use Rattle.tb_geom.specs.Rects.{between};
 ghost use Rattle.tb_geom.specs.Pixels.{holds};
+ghost use Rattle.tb_geom.specs.Rects.{is_empty_rect};
+ghost use Rattle.region_bytes.specs.Points.{in_rows};
+ghost use Rattle.region_rows.specs.Rows.{AreRows};
+ghost use Rattle.shape_strips.specs.Runs.{run_holds};
+ghost use Rattle.shape_region.specs.Turns.{AreBounds, IsPlaced};
 
+use crate::turns::push_turns;
+use region_rows::Row;
 use scan_region::Region;
-use shape_strips::Strip;
+use shape_strips::{Run, Strip};
 use std::alloc::{AllocError, Global};
 use tb_geom::Rect;
 
-/// The region of the pixels of a strip.
+/// The region of the pixels of a strip, in its coordinate space.
 pub fn strip_region<S: Strip>(alloc: Global, strip: &S) -> Result<Region, AllocError>
     ensures { IfOk result (λ region. (p : Point) → holds region p ≡ S.pixels strip.now p) }
 {
@@ -17,46 +23,48 @@ pub fn strip_region<S: Strip>(alloc: Global, strip: &S) -> Result<Region, AllocE
     if bounds.is_empty() {
         return Ok(Region::empty(alloc));
     }
-    let height = bounds.bottom.abs_diff(bounds.top);
-    rows_region(alloc, strip, bounds.top, height)
+    let rows = strip_rows(alloc, strip, bounds)?;
+    Ok(Region::of_rows(rows))
 }
 
-/// The pixels of `height` rows from `top` on: those of the upper half of the rows joined with those of the lower one.
-fn rows_region<S: Strip>(
-    alloc: Global,
-    strip: &S,
-    top: i32,
-    height: u32,
-) -> Result<Region, AllocError>
-    requires top { negsuc 16383 ≤ℤ top }
-    requires bottom { (top +ℤ pos height) ≤ℤ pos 16383 }
-    ensures { IfOk result (λ region. (p : Point)
-        → holds region p ≡ (between top p.v (top +ℤ pos height) && S.pixels strip.now p)) }
+/// The rows of inversion points of a strip within these bounds, from the top down.
+fn strip_rows<S: Strip>(alloc: Global, strip: &S, bounds: Rect) -> Result<Vec<Row>, AllocError>
+    requires bounds { AreBounds (S.pixels strip.now) bounds }
+    requires some { is_empty_rect bounds ≡ false }
+    ensures pixels { IfOk result (λ rows. (h v : ℤ)
+        → in_rows rows.items h v ≡ S.pixels strip.now (record { h = h; v = v })) }
+    ensures rows { IfOk result (λ rows. AreRows rows.items) }
 {
-    if height == 0 {
-        return Ok(Region::empty(alloc));
+    let mut rows = Vec::new(alloc);
+    let mut above = no_run(bounds);
+    for v in bounds.top..bounds.bottom {
+        let run = placed_run(strip, bounds, v);
+        push_turns(alloc, &mut rows, v, above, run)?;
+        above = run;
     }
-    if height == 1 {
-        return row_region(alloc, strip, top);
-    }
-    let half = height / 2;
-    let upper = rows_region(alloc, strip, top, half)?;
-    let lower = rows_region(alloc, strip, top + half as i32, height - half)?;
-    upper.joined(alloc, lower)
+    push_turns(alloc, &mut rows, bounds.bottom, above, no_run(bounds))?;
+    Ok(rows)
 }
 
-/// The pixels of the row `v`.
-fn row_region<S: Strip>(alloc: Global, strip: &S, v: i32) -> Result<Region, AllocError>
-    requires { v ≤ℤ pos 16383 }
-    ensures { IfOk result (λ region. (p : Point)
-        → holds region p ≡ (between v p.v (v +ℤ pos 1) && S.pixels strip.now p)) }
+/// The run of the row `v` of a strip, with its ends within the bounds also where it has no column.
+fn placed_run<S: Strip>(strip: &S, bounds: Rect, v: i32) -> Run
+    requires { AreBounds (S.pixels strip.now) bounds }
+    ensures placed { IsPlaced result }
+    ensures pixels { (h : ℤ) → run_holds result h ≡ S.pixels strip.now (record { h = h; v = v }) }
 {
     let run = strip.run(v);
-    let row = Rect {
-        left: run.left,
-        top: v,
-        right: run.right,
-        bottom: v + 1,
-    };
-    Region::from_rect_in_range(alloc, row.sect(strip.bounds()))
+    if run.left < run.right {
+        return run;
+    }
+    no_run(bounds)
+}
+
+/// A run without columns, at the left side of the bounds.
+fn no_run(bounds: Rect) -> Run
+    ensures { result ≡ record { left = bounds.left; right = bounds.left } }
+{
+    Run {
+        left: bounds.left,
+        right: bounds.left,
+    }
 }

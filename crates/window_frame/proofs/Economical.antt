@@ -7,7 +7,7 @@ use Rattle.def_iface.specs.Slots.{TakenBox}
 use Rattle.def_iface.specs.WindowMeaning.{WindowLoan}
 use Rattle.desk_call.specs.declared.activity.Standing.{Standing}
 use Rattle.desk_call.specs.declared.window.WindowCall.{WindowCall}
-use Rattle.desk_call.specs.declared.window.WindowCall.TheVariants.{Dispose, Show, Hide, ShowHide, Select, SendBehind, Move, Size}
+use Rattle.desk_call.specs.declared.window.WindowCall.TheVariants.{Dispose, Show, Hide, ShowHide, Select, BringToFront, SendBehind, Move, Size}
 use Rattle.desk_call.specs.declared.window.WindowReply.{WindowReply}
 use Rattle.desk_call.specs.Gates.{window_standing}
 use Rattle.vis_update.specs.Records.{WindowRecord}
@@ -69,6 +69,7 @@ others_left (Show s) answer before middle step = λ n away. arranged_dark _ befo
 others_left (Hide s) answer before middle step = λ n away. arranged_dark _ before middle step.1.1 n (changed_other n s _ before.desk.windows (λ w. refl) away)
 others_left (ShowHide c) answer before middle step = λ n away. arranged_dark _ before middle step.1.1 n (changed_other n c.window _ before.desk.windows (λ w. refl) away)
 others_left (Select s) answer before middle step = λ n away. arranged_dark _ before middle step.1.1 n (brought_other n s before.desk.windows away)
+others_left (BringToFront s) answer before middle step = λ n away. arranged_dark _ before middle step.1.1 n (brought_other n s before.desk.windows away)
 others_left (SendBehind b) answer before middle step = λ n away. arranged_dark _ before middle step.1.1 n (sent_other n b before.desk.windows away)
 others_left (Move m) answer before middle step = λ n away. arranged_dark _ before middle step.1.1 n (by_flag m.select n away)
   where
@@ -96,6 +97,7 @@ same_others (Show s) ws = λ n away. refl
 same_others (Hide s) ws = λ n away. refl
 same_others (ShowHide c) ws = λ n away. refl
 same_others (Select s) ws = λ n away. refl
+same_others (BringToFront s) ws = λ n away. refl
 same_others (SendBehind b) ws = λ n away. refl
 same_others (Move m) ws = λ n away. refl
 same_others (Size z) ws = λ n away. refl
@@ -145,6 +147,8 @@ module _ {V : Type 0} {H : V → Type 0} (loan : TakenBox V H → WindowLoan) wh
       economical c.window None (window_standing (ShowHide c)) old middle new (record { spares = spares; kept = kept; told = told; repaints = repaints; informed = informed; others = others })
   all_economical (Select s) old middle new others spares kept told repaints informed =
       economical s None (window_standing (Select s)) old middle new (record { spares = spares; kept = kept; told = told; repaints = repaints; informed = informed; others = others })
+  all_economical (BringToFront s) old middle new others spares kept told repaints informed =
+      economical s None (window_standing (BringToFront s)) old middle new (record { spares = spares; kept = kept; told = told; repaints = repaints; informed = informed; others = others })
   all_economical (SendBehind b) old middle new others spares kept told repaints informed =
       economical b.window None (window_standing (SendBehind b)) old middle new (record { spares = spares; kept = kept; told = told; repaints = repaints; informed = informed; others = others })
   all_economical (Move m) old middle new others spares kept told repaints informed =
@@ -160,6 +164,7 @@ module _ {V : Type 0} {H : V → Type 0} (loan : TakenBox V H → WindowLoan) wh
   refused_economical (Hide s) old new spares = weaker s None old new spares
   refused_economical (ShowHide c) old new spares = weaker c.window None old new spares
   refused_economical (Select s) old new spares = weaker s None old new spares
+  refused_economical (BringToFront s) old new spares = weaker s None old new spares
   refused_economical (SendBehind b) old new spares = weaker b.window None old new spares
   refused_economical (Move m) old new spares = weaker m.window (way_to m.place (record_with m.window (windows_of loan old))) old new spares
   refused_economical (Size z) old new spares = weaker z.window None old new spares
@@ -172,6 +177,7 @@ module _ {V : Type 0} {H : V → Type 0} (loan : TakenBox V H → WindowLoan) wh
   call_spares_same (Hide s) t = spares_same loan s None t
   call_spares_same (ShowHide c) t = spares_same loan c.window None t
   call_spares_same (Select s) t = spares_same loan s None t
+  call_spares_same (BringToFront s) t = spares_same loan s None t
   call_spares_same (SendBehind b) t = spares_same loan b.window None t
   call_spares_same (Move m) t = spares_same loan m.window (way_to m.place (record_with m.window (windows_of loan t))) t
   call_spares_same (Size z) t = spares_same loan z.window None t

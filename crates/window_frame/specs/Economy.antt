@@ -5,7 +5,7 @@ use Rattle.tb_geom.specs.declared.point.Point.{Point}
 use Rattle.def_iface.specs.Slots.{TakenBox}
 use Rattle.def_iface.specs.WindowMeaning.{WindowLoan}
 use Rattle.desk_call.specs.declared.window.WindowCall.{WindowCall}
-use Rattle.desk_call.specs.declared.window.WindowCall.TheVariants.{Dispose, Show, Hide, ShowHide, Select, SendBehind, Move, Size}
+use Rattle.desk_call.specs.declared.window.WindowCall.TheVariants.{Dispose, Show, Hide, ShowHide, Select, BringToFront, SendBehind, Move, Size}
 use Rattle.vis_update.specs.Records.{WindowRecord, record_of}
 use Rattle.window_mgr.specs.declared.manager.WindowManager.{WindowManager}
 use Rattle.window_mgr.specs.Arrange.{way_to}
@@ -47,6 +47,7 @@ LeavesOthers (Show s) before after = AreOthersLeft s before after
 LeavesOthers (Hide s) before after = AreOthersLeft s before after
 LeavesOthers (ShowHide c) before after = AreOthersLeft c.window before after
 LeavesOthers (Select s) before after = AreOthersLeft s before after
+LeavesOthers (BringToFront s) before after = AreOthersLeft s before after
 LeavesOthers (SendBehind b) before after = AreOthersLeft b.window before after
 LeavesOthers (Move m) before after = AreOthersLeft m.window before after
 LeavesOthers (Size z) before after = AreOthersLeft z.window before after
@@ -62,13 +63,14 @@ module _ {V : Type 0} {H : V → Type 0} (loan : TakenBox V H → WindowLoan) wh
   abbrev pub Economical : ℕ → Option Point → WindowManager V H → WindowManager V H → Type 0
   Economical s by old new = IsSparing (moving_content s by) (λ n. n == s || relit (windows_of old) (windows_of new) n) (layered_desk (desk_of loan old [])) (layered_desk (desk_of loan new [])) old.screen new.screen
 
-  -- so it is after a call that moves, sizes, shows, hides, selects, sends behind or disposes of a window
+  -- so it is after a call that moves, sizes, shows, hides, selects, brings to the front, sends behind or disposes of a window
   abbrev pub IsEconomical : WindowCall → WindowManager V H → WindowManager V H → Type 0
   IsEconomical (Dispose s) old new = Economical s None old new
   IsEconomical (Show s) old new = Economical s None old new
   IsEconomical (Hide s) old new = Economical s None old new
   IsEconomical (ShowHide c) old new = Economical c.window None old new
   IsEconomical (Select s) old new = Economical s None old new
+  IsEconomical (BringToFront s) old new = Economical s None old new
   IsEconomical (SendBehind b) old new = Economical b.window None old new
   IsEconomical (Move m) old new = Economical m.window (way_to m.place (record_with m.window (windows_of old))) old new
   IsEconomical (Size z) old new = Economical z.window None old new

@@ -1,7 +1,6 @@
 -- How each call arranges the windows: it puts one of them anew among the others.
-use Rattle.std.proofs.Common.{◌≡◌, ℕ, suc, ◌==◌, Bool, true, false, if◌then◌else◌, List, [], ◌∷◌, map, Option, None, Some, ℤ, pos, negsuc, ◌-ℤ◌, refl, sym, ap, ◌∙◌, subst, arith}
+use Rattle.std.proofs.Common.{◌≡◌, ℕ, suc, ◌==◌, Bool, true, false, if◌then◌else◌, List, [], ◌∷◌, map, Option, None, Some, refl, sym, ap, ◌∙◌, subst}
 use Rattle.std.specs.Prelude.{is_none}
-use Rattle.std.proofs.lemmas.Int.{ints}
 use Rattle.tb_geom.specs.declared.point.Point.{Point}
 use Rattle.tb_geom.specs.declared.refusal.Refusal.{Refusal}
 use Rattle.tb_geom.specs.declared.refusal.Refusal.TheVariants.{NoSuchWindow}
@@ -15,7 +14,7 @@ use Rattle.window_list.specs.Classes.{front_place, back_place}
 use Rattle.vis_update.specs.Records.{WindowRecord, Look, layered_window, is_floating}
 use Rattle.vis_update.specs.Touches.{moved_from, came_from}
 use Rattle.desk_call.specs.declared.window.WindowCall.{WindowCall}
-use Rattle.desk_call.specs.declared.window.WindowCall.TheVariants.{New, NewFloating, Dispose, Show, Hide, ShowHide, Select, BringToFront, SendBehind, Move, Size, Zoom, Draw, SetPicture, Scroll, Find, Front, Info, VisibleRegion, UpdateRegion}
+use Rattle.desk_call.specs.declared.window.WindowCall.TheVariants.{Show, Hide, ShowHide, Select, BringToFront, SendBehind, Move, Size, Zoom, Scroll}
 use Rattle.desk_call.specs.declared.window.MoveWindow.{MoveWindow}
 use Rattle.desk_call.specs.declared.window.SendBehind as sending
 use Rattle.def_iface.specs.WindowMeaning.{WindowDefinition}
@@ -219,11 +218,6 @@ module _ (desk : FullDesk) (s : ℕ) (w : WindowRecord) (found : record_with s d
 
 -- every call that nothing refuses has a sound effect
 pub effect_is_sound : (call : WindowCall) (state : FullState) → layers.IsDesk (layered_desk state.desk) → IsRefusal call state None → IsSoundEffect (effect_of call state.desk) state.desk
-effect_is_sound (New w) state distinct e = tt
-effect_is_sound (NewFloating w) state distinct e = tt
-effect_is_sound (Dispose s) state distinct e = tt
-effect_is_sound (Draw d) state distinct e = tt
-effect_is_sound (SetPicture n) state distinct e = tt
 effect_is_sound (Scroll m) state distinct e = there_of true (record_with m.window state.desk.windows) _ e
 effect_is_sound (Size z) state distinct e =
     let w = there_of true (record_with z.window state.desk.windows) _ e in
@@ -231,11 +225,6 @@ effect_is_sound (Size z) state distinct e =
 effect_is_sound (Zoom z) state distinct e =
     let w = there_of true (record_with z.window state.desk.windows) _ e in
     subst (λ o. IsSoundEffect (places (zoomed_by (zoom_of z.part) z.window o state.desk)) state.desk) (sym w.1) (zoomed_sound state.desk z.window w.0 w.1 (zoom_of z.part))
-effect_is_sound (Find p) state distinct e = tt
-effect_is_sound Front state distinct e = tt
-effect_is_sound (Info s) state distinct e = tt
-effect_is_sound (VisibleRegion s) state distinct e = tt
-effect_is_sound (UpdateRegion s) state distinct e = tt
 effect_is_sound (Select s) state distinct e = let w = there_of true (record_with s state.desk.windows) None e in brought_sound state.desk distinct s w.0 w.1 _ refl refl refl
 effect_is_sound (BringToFront s) state distinct e = let w = there_of true (record_with s state.desk.windows) None e in brought_sound state.desk distinct s w.0 w.1 _ refl refl refl
 effect_is_sound (Show s) state distinct e = let w = there_of true (record_with s state.desk.windows) None e in shown_sound state.desk distinct s w.0 w.1 _ true refl refl refl
@@ -243,3 +232,4 @@ effect_is_sound (Hide s) state distinct e = let w = there_of true (record_with s
 effect_is_sound (ShowHide c) state distinct e = let w = there_of true (record_with c.window state.desk.windows) None e in shown_sound state.desk distinct c.window w.0 w.1 _ c.shown refl refl refl
 effect_is_sound (SendBehind b) state distinct e = let w = there_of true (record_with b.window state.desk.windows) _ e in sent_sound state.desk distinct b.window w.0 w.1 _ b refl refl refl refl
 effect_is_sound (Move m) state distinct e = let w = there_of true (record_with m.window state.desk.windows) _ e in moved_sound state.desk distinct m.window w.0 w.1 m refl
+effect_is_sound _ state distinct e = tt

@@ -116,26 +116,10 @@ module _ (shows : List ℕ → Part → PixelSet) where
       by_cases (Some zoom) (Some w) = ap (gone z.window w) (by_state zoom w.user_state w)
 
   refusal_showing : (call : WindowCall) (s : FullState) (why : Option Refusal) → IsRefusal call s why → IsRefusal call (state_showing shows s) why
-  refusal_showing (New w) s why e = e
-  refusal_showing (NewFloating w) s why e = e
-  refusal_showing (Draw d) s why e = e
-  refusal_showing (SetPicture n) s why e = e
-  refusal_showing (Scroll m) s why e = e
-  refusal_showing (SendBehind b) s why e = e
-  refusal_showing (Move m) s why e = e
-  refusal_showing (Size z) s why e = e
   refusal_showing (Zoom z) s why e = ap (λ o. first_refusal ((is_missing z.window s.desk.windows, NoSuchWindow) ∷ (is_none (zoom_of z.part), OutOfRange) ∷ (not (may_lie o (record_with z.window s.desk.windows)), OutOfRange) ∷ [])) (zoomed_showing z (record_with z.window s.desk.windows) s.desk) ∙ e
-  refusal_showing (Find p) s why e = e
-  refusal_showing Front s why e = e
   refusal_showing (VisibleRegion n) s why e = untold_showing n (visible_of n s) (visible_of n (state_showing shows s)) s.desk why (visible_showing n s) e
   refusal_showing (UpdateRegion n) s why e = untold_showing n (update_of n s) (update_of n (state_showing shows s)) s.desk why (update_showing shows s n) e
-  refusal_showing (Dispose n) s why e = e
-  refusal_showing (Show n) s why e = e
-  refusal_showing (Hide n) s why e = e
-  refusal_showing (ShowHide c) s why e = e
-  refusal_showing (Select n) s why e = e
-  refusal_showing (BringToFront n) s why e = e
-  refusal_showing (Info n) s why e = e
+  refusal_showing _ s why e = e
 
   -- ---- effects
 
@@ -245,21 +229,7 @@ module _ (shows : List ℕ → Part → PixelSet) where
   step_effect (Zoom z) answer s t distinct effect =
       subst (λ o. IsEffect (places o) answer (state_showing shows s) (state_showing shows t)) (sym (zoomed_showing z (record_with z.window s.desk.windows) s.desk))
       (effect_showing (effect_of (Zoom z) s.desk) answer s t (places_alike _) distinct effect)
-  step_effect (New w) answer s t distinct effect = effect_showing (Makes false w) answer s t tt distinct effect
-  step_effect (NewFloating w) answer s t distinct effect = effect_showing (Makes true w) answer s t tt distinct effect
-  step_effect (Dispose n) answer s t distinct effect = effect_showing (Disposes n) answer s t tt distinct effect
-  step_effect (Draw d) answer s t distinct effect = effect_showing (Draws d) answer s t tt distinct effect
-  step_effect (SetPicture n) answer s t distinct effect = effect_showing (Pictures n) answer s t tt distinct effect
-  step_effect (Scroll m) answer s t distinct effect = effect_showing (Scrolls m) answer s t tt distinct effect
-  step_effect (Select n) answer s t distinct effect = effect_showing (effect_of (Select n) s.desk) answer s t tt distinct effect
-  step_effect (BringToFront n) answer s t distinct effect = effect_showing (effect_of (BringToFront n) s.desk) answer s t tt distinct effect
-  step_effect (SendBehind b) answer s t distinct effect = effect_showing (effect_of (SendBehind b) s.desk) answer s t tt distinct effect
-  step_effect (Move m) answer s t distinct effect = effect_showing (effect_of (Move m) s.desk) answer s t tt distinct effect
-  step_effect (Show n) answer s t distinct effect = effect_showing (effect_of (Show n) s.desk) answer s t tt distinct effect
-  step_effect (Hide n) answer s t distinct effect = effect_showing (effect_of (Hide n) s.desk) answer s t tt distinct effect
-  step_effect (ShowHide c) answer s t distinct effect = effect_showing (effect_of (ShowHide c) s.desk) answer s t tt distinct effect
-  step_effect Front answer s t distinct effect = effect_showing (effect_of Front s.desk) answer s t tt distinct effect
-  step_effect (Info n) answer s t distinct effect = effect_showing (effect_of (Info n) s.desk) answer s t tt distinct effect
+  step_effect call answer s t distinct effect = effect_showing (effect_of call s.desk) answer s t tt distinct effect
 
   pub step_showing : (call : WindowCall) (result : Result WindowReply Refusal) (s t : FullState) → IsDesk (layered_desk t.desk)
       → IsWindowStep call result s t → IsWindowStep call result (state_showing shows s) (state_showing shows t)

@@ -8,7 +8,7 @@ use Rattle.desk_layers.specs.Owner.Owner.{Frame}
 use Rattle.def_iface.specs.Slots.{TakenBox}
 use Rattle.def_iface.specs.WindowMeaning.{WindowLoan}
 use Rattle.desk_call.specs.declared.window.WindowCall.{WindowCall}
-use Rattle.desk_call.specs.declared.window.WindowCall.TheVariants.{Dispose, Show, Hide, ShowHide, Select, SendBehind, Move, Size}
+use Rattle.desk_call.specs.declared.window.WindowCall.TheVariants.{Dispose, Show, Hide, ShowHide, Select, BringToFront, SendBehind, Move, Size}
 use Rattle.vis_update.specs.Areas.{is_content_of}
 use Rattle.window_mgr.specs.declared.manager.WindowManager.{WindowManager}
 use Rattle.window_mgr.specs.Arrange.{way_to}
@@ -63,6 +63,7 @@ module _ {V : Type 0} {H : V → Type 0} (loan : TakenBox V H → WindowLoan) wh
   IsSparingCall (Hide s) old new = Spares s None old new
   IsSparingCall (ShowHide c) old new = Spares c.window None old new
   IsSparingCall (Select s) old new = Spares s None old new
+  IsSparingCall (BringToFront s) old new = Spares s None old new
   IsSparingCall (SendBehind b) old new = Spares b.window None old new
   IsSparingCall (Move m) old new = Spares m.window (way_to m.place (record_with m.window (desk_of loan old []).windows)) old new
   IsSparingCall (Size z) old new = Spares z.window None old new

@@ -1,5 +1,5 @@
 //! One window put anew among the others, whichever call it is for.
-ghost use Rattle.std.specs.Prelude.{◌≡◌, ◌<◌, Some, None, All, MatchOption, IfOk, length, map, vec_len, vec_capacity, OnErr};
+ghost use Rattle.std.specs.Prelude.{◌≡◌, ◌<◌, ◌+◌, [], Some, None, All, MatchOption, IfOk, length, map, vec_len, vec_capacity, OnErr};
 ghost use Rattle.vis_update.specs.Records.{record_of};
 ghost use Rattle.window_list.specs.Ranks.{moved_item};
 ghost use Rattle.window_mgr.specs.AnySlots.{IsRearrangedOverAnySlots};
@@ -208,12 +208,22 @@ impl WindowManager {
         ensures length { IfOk result (λ seats. vec_len seats ≡ length self.now.windows.records.items) }
         ensures room { IfOk result (λ seats. vec_len seats < vec_capacity seats) }
     {
-        let mut seats = Vec::with_capacity(self.alloc, self.windows.len() + 1)?;
+        let mut seats = self.room_for_seats()?;
         for at in 0..self.windows.len() {
             let seat = seat_of(self.windows.at(at), &self.areas[at]);
             seats.push(seat).unwrap();
         }
         Ok(seats)
+    }
+
+    /// Room for the windows and one more, and no further.
+    fn room_for_seats(&self) -> Result<Vec<Seat<'_>>, AllocError>
+        requires { length self.now.areas.items ≡ length self.now.windows.records.items }
+        ensures none { IfOk result (λ seats. seats.items ≡ []) }
+        ensures length { IfOk result (λ seats. vec_len seats ≡ 0) }
+        ensures room { IfOk result (λ seats. vec_capacity seats ≡ length self.now.windows.records.items + 1) }
+    {
+        Vec::with_capacity(self.alloc, self.windows.len() + 1)
     }
 
     /// Puts one window anew, its size as it was, and its area in its place.

@@ -4,24 +4,26 @@ use Rattle.def_iface.specs.contracts.taken_window.TakenWindowDefined.TheImpl as 
 use Rattle.def_iface.specs.contracts.taken_control.TakenControlDefined.TheImpl as taken_control
 use Rattle.def_iface.specs.contracts.taken_list.TakenListDefined.TheImpl as taken_list
 use Rattle.def_iface.specs.contracts.taken_menu.TakenMenuDefined.TheImpl as taken_menu
-use Rattle.window_mgr.proofs.KeptLemmas.{kept}
 use Rattle.scratch_paint.proofs.FrontLemmas.{screen_painted}
 use Rattle.scratch_paint.proofs.painting.paint.Goals as goal
 
-pub paint_base-requires-clause-kept : goal.paint_base-requires-clause-kept
-paint_base-requires-clause-kept g c = rw c.windows-windows.ensures (kept _ _ _ c.requires.managers.windows)
+pub paint_base-requires-clause-sides : goal.paint_base-requires-clause-sides
+paint_base-requires-clause-sides g c = rw c.windows-windows.ensures c.requires.sides
+
+pub paint_base-requires-clause-settled : goal.paint_base-requires-clause-settled
+paint_base-requires-clause-settled g c = rw c.windows-windows.ensures c.requires.windows
 
 pub paint_base-requires-clause-layers : goal.paint_base-requires-clause-layers
-paint_base-requires-clause-layers g c = rw (c.contents.ensures.0, c.contents.ensures.1) (c.requires.managers.controls.settled, c.requires.managers.lists.settled)
+paint_base-requires-clause-layers g c = rw (c.contents.ensures.0, c.contents.ensures.1) (c.requires.controls, c.requires.lists)
 
 pub paint_front-requires-clause-live : goal.paint_front-requires-clause-live
-paint_front-requires-clause-live g c = rw c.menus.ensures c.requires.managers.menus.live
+paint_front-requires-clause-live g c = rw c.menus.ensures c.requires.menus
 
 pub paint_front-requires-clause-placed : goal.paint_front-requires-clause-placed
-paint_front-requires-clause-placed g c = rw c.activity.ensures c.requires.managers.menus.placed
+paint_front-requires-clause-placed g c = rw c.activity.ensures c.requires.placed
 
 pub paint_front-requires-clause-outline : goal.paint_front-requires-clause-outline
-paint_front-requires-clause-outline g c = rw c.activity.ensures c.requires.managers.front.kept
+paint_front-requires-clause-outline g c = rw c.activity.ensures c.requires.front.kept
 
 pub returns : goal.returns
 returns g c =

@@ -10,14 +10,14 @@ show_titles-requires-clause-few g c =
     let ended = simp to_z-of_z at c.in-Ok.ensures in
     few_ended _ (menu_index c.args.menu c.args.self.now.list.menus.items) c.in-Ok.reply _ _ _ _ c.requires.menus.few ended
 
-pub returns-in-Ok : goal.returns-in-Ok
-returns-in-Ok g c begun slots whole =
+pub returns-in-Ok-clause-step : goal.returns-in-Ok-clause-step
+returns-in-Ok-clause-step g c begun slots whole =
     let fits : SFits w32 c.args.menu = search rules in
     let ended = simp to_z-of_z at c.in-Ok.ensures in
-    ended_step _ _ slots c.args.windows.now c.show_titles.new.windows begun _ _ _ _ c.requires.menus (c.show_titles.ensures slots whole) c.args.menu (menu_index c.args.menu c.args.self.now.list.menus.items) c.in-Ok.reply refl ended
+    ended_step _ _ slots c.args.windows.now c.show_titles.new.windows begun _ _ _ _ c.requires.menus (c.show_titles.ensures.shown slots whole) c.args.menu (menu_index c.args.menu c.args.self.now.list.menus.items) c.in-Ok.reply refl ended
 
-pub returns-in-Err : goal.returns-in-Err
-returns-in-Err g c begun slots whole =
+pub returns-in-Err-clause-step : goal.returns-in-Err-clause-step
+returns-in-Err-clause-step g c begun slots whole =
     let fits : SFits w32 c.args.menu = search rules in
     let ended = simp to_z-of_z at c.in-Err.ensures in
     no_menu_step _ _ c.args.menu (menu_index c.args.menu c.args.self.now.list.menus.items) c.in-Err.refusal slots _ begun _ _ _ _ refl whole c.requires.menus ended

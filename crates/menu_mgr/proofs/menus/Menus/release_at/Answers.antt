@@ -19,9 +19,9 @@ returns-clause-step g c begun =
     released (window.loan-value g.dyn-2).it (definition.loan-value g.dyn-1).it c.args.windows.now c.show_titles.new.windows c.args.activity.now begun c.args.self.now c.dim_pulled.new.self c.dim_unless.new.self c.args.point c.args.pulled c.chosen-choice.result
     (sym c.is_in_range.ensures ∙ c.if-not-is_in_range.false) c.requires.pulling (c.chosen-choice.ensures ∙ ap (choice_of c.args.pulled) c.item_under.ensures)
     (record { told = told.told; highlighted = told.highlighted; room = told.room })
-    c.dim_unless.ensures.menus c.dim_unless.ensures.highlighted c.show_titles.ensures
+    c.dim_unless.ensures.menus c.dim_unless.ensures.highlighted c.show_titles.ensures.shown
 
 pub returns-clause-front : goal.returns-clause-front
 returns-clause-front g c =
     released_front (window.loan-value g.dyn-2).it (definition.loan-value g.dyn-1).it c.args.windows.now c.show_titles.new.windows c.args.activity.now c.args.self.now c.dim_unless.new.self _
-    c.requires.kept c.show_titles.ensures
+    c.requires.kept c.show_titles.ensures.shown

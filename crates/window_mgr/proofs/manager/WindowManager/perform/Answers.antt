@@ -17,7 +17,7 @@ pub returns-in-Select : goal.returns-in-Select
 returns-in-Select g c = let done = c.bring_to_front.ensures.step _ c.requires in record { whole = done.0; step = rw c.in-Select.is (done.1); sparing = rw c.in-Select.is (c.bring_to_front.ensures.sparing); quiet = c.bring_to_front.ensures.quiet }
 
 pub returns-in-BringToFront : goal.returns-in-BringToFront
-returns-in-BringToFront g c = let done = c.bring_to_front-in-BringToFront.ensures.step _ c.requires in record { whole = done.0; step = rw c.in-BringToFront.is (done.1); sparing = rw c.in-BringToFront.is (tt); quiet = c.bring_to_front-in-BringToFront.ensures.quiet }
+returns-in-BringToFront g c = let done = c.bring_to_front-in-BringToFront.ensures.step _ c.requires in record { whole = done.0; step = rw c.in-BringToFront.is (done.1); sparing = rw c.in-BringToFront.is (c.bring_to_front-in-BringToFront.ensures.sparing); quiet = c.bring_to_front-in-BringToFront.ensures.quiet }
 
 pub returns-in-SendBehind : goal.returns-in-SendBehind
 returns-in-SendBehind g c = let done = c.send_behind.ensures.step _ c.requires in record { whole = done.0; step = rw c.in-SendBehind.is (done.1); sparing = rw c.in-SendBehind.is (c.send_behind.ensures.sparing); quiet = c.send_behind.ensures.quiet }
