@@ -2,6 +2,7 @@
 
 from __future__ import annotations
 
+import functools
 import struct
 from typing import NamedTuple
 
@@ -35,6 +36,12 @@ class Rect(NamedTuple):
         return self.left, self.top, self.right, self.bottom
 
 
+@functools.lru_cache(maxsize=64)
+def layout(form: str) -> struct.Struct:
+    """Numbers of this form, big-endian."""
+    return struct.Struct(f">{form}")
+
+
 class Cursor:
     """A place in bytes. Each method reads what stands there, big-endian, and goes past it. The word of a part says what is
     read, for the sentence where the bytes end before that."""
@@ -57,13 +64,18 @@ class Cursor:
 
     def take(self, count: int, part: str) -> bytes:
         """So many bytes."""
-        self.need(count, part)
+        if count > len(self.data) - self.at:
+            self.need(count, part)
         self.at += count
         return self.data[self.at - count : self.at]
 
     def numbers(self, form: str, part: str) -> tuple[int, ...]:
         """Numbers of this form, as the module struct has it."""
-        return struct.unpack(f">{form}", self.take(struct.calcsize(f">{form}"), part))
+        found = layout(form)
+        if found.size > len(self.data) - self.at:
+            self.need(found.size, part)
+        self.at += found.size
+        return found.unpack_from(self.data, self.at - found.size)
 
     def number(self, form: str, part: str) -> int:
         """One number of this form: B and b of a byte, H and h of a word, I of a long, the capital ones unsigned."""

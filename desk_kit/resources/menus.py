@@ -45,17 +45,18 @@ class Menu(NamedTuple):
 
 def menu_of(resource: Resource) -> Menu:
     """A menu: its number, two words for its size, its definition, a word, a long of what is enabled, from the low bit on the
-    menu and its first 31 items, the title, the items, and a byte 0."""
+    menu and its first 31 items, the title, the items, and a byte 0. Of more items than a script has one is read."""
     read = resource.cursor()
     number, _, _, definition, _ = read.numbers("hhhhh", "its head")
     flags, title = read.number("I", "what is enabled"), read.pascal("its title")
     items: list[Item] = []
-    while True:
+    while len(items) <= MOST_ITEMS:
         part = f"item {len(items) + 1}"
         read.need(1, part)
         if read.data[read.at] == 0:
-            return Menu(number, definition, bool(flags & 1), title, items)
+            break
         items.append(item_of(read, part, len(items) + 1, flags))
+    return Menu(number, definition, bool(flags & 1), title, items)
 
 
 def item_of(read: Cursor, part: str, number: int, flags: int) -> Item:

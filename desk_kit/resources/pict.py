@@ -15,7 +15,7 @@ from desk_kit.resources.fork import Resource
 from desk_kit.resources.pict_bits import bits_of, parts_of
 from desk_kit.resources.pict_shapes import FILL, FRAME, PAINT, SOURCE_MODES, Drawn, Pen, in_range, spaced
 from desk_kit.resources.regions import box_of, moved, region_in
-from desk_kit.resources.script import Script, Window
+from desk_kit.resources.script import MOST_OPERATIONS, Script, Window
 from desk_kit.resources.words import digits, is_plain, text_word
 
 # Opcodes that end a picture, and those that change nothing that a script has, with the sizes of their data.
@@ -119,19 +119,20 @@ def write_in(script: Script, resource: Resource, picture: Picture, window: Windo
 
 
 def picture_of(resource: Resource) -> Picture:
-    """All that a picture draws."""
+    """All that a picture draws, up to one operation more than a window's picture holds."""
     picture = Picture(resource)
     # (the second version begins with the opcode 0011 and its version, 02FF)
     picture.of_words = picture.read.data[picture.read.at : picture.read.at + 4] == bytes.fromhex("001102FF")
-    while True:
+    while len(picture.drawn) <= MOST_OPERATIONS:
         at, opcode = picture.read.at, picture.opcode()
         if opcode == END:
-            return picture
+            break
         if picture.of_words and opcode == 0x11:
             picture.read.take(2, "its version")
         elif not take(picture, opcode):
             picture.lack(f"the opcode {opcode:0{4 if picture.of_words else 2}X} at byte {at}, behind which nothing is read,")
-            return picture
+            break
+    return picture
 
 
 def take(picture: Picture, opcode: int) -> bool:
