@@ -3,6 +3,7 @@ bytes, and IV, the same chapter, how HideDItem moves the rectangle of an item th
 
 from __future__ import annotations
 
+import re
 from typing import NamedTuple
 
 from desk_kit.answers import Fault
@@ -23,6 +24,8 @@ WIDENED = {"default": 4, "edit": 3}
 HIDDEN_BY, FIRST_HIDDEN = 16384, 8192
 ICON_SIDE, ICON_SIZE = 32, 128
 EMPTY = '""'
+# What a static text is filled at.
+PARAMETER = re.compile(rb"\^[0-3]")
 
 
 class Item(NamedTuple):
@@ -84,6 +87,8 @@ def write_item(script: Script, listed: Resource, window: Window, it: Item, ring:
         made, it = Made("user", Rect(0, 0, 1, 1), EMPTY), it._replace(hidden=True, kind=USER)
     rect = made.rect
     place = f"{rect.left} {rect.top} {rect.width} {rect.height}"
+    if made.kind == "static" and PARAMETER.search(it.data):
+        script.note(f"item {it.number} is filled with the texts that param has set before it")
     script.do(f"ditem {window.number} {made.kind} {place} {int(it.enabled)} {made.word}", 3)
     window.items += 1
     if made.kind in LAYERS:
@@ -162,6 +167,6 @@ def write_control(script: Script, listed: Resource, window: Window, it: Item) ->
 
 
 def write_ditl(script: Script, resource: Resource) -> None:
-    """A DITL that no dialog of the file names: how many items it has. Its items are written with the dialog that names it."""
+    """The items of a dialog, as a comment: they are written with the dialog that names them."""
     count = len(items_of(resource))
     script.head(resource, f"{count} items, of a 'DLOG' or an 'ALRT'")

@@ -8,13 +8,15 @@ from typing import NamedTuple
 from desk_kit.resources.cursor import Cursor
 from desk_kit.resources.fork import Resource
 from desk_kit.resources.script import Script
-from desk_kit.resources.words import is_plain, text_word
+from desk_kit.resources.words import text_word
 
 MOST_MENUS, MOST_ITEMS = 16, 31
 LARGEST_NUMBER = 32767
 # What a key says that is none: a submenu, another script of writing, and smaller icons.
 SUBMENU, FIRST_SPECIAL, LAST_SPECIAL = 0x1B, 0x1C, 0x1F
 CHECK, SPACE, LAST_PLAIN = 0x12, 0x20, 0x7E
+# The text of a dividing line, and what stands for another text of which a line would come.
+LINE, NO_LINE = b"-", '"?"'
 # The characters of an item that are signs where it is appended.
 SIGNS = ";^!</("
 # A byte that no text of an item can have behind a sign.
@@ -101,13 +103,13 @@ def why_no_menu(script: Script, menu: Menu) -> str:
 def write_item(script: Script, resource: Resource, menu: int, it: Item) -> None:
     """Writes an item of a menu. A text that would be read as signs is set after the item is appended."""
     tell_lacks(script, resource, it)
-    line = it.text == b"-"
-    by_itself = is_plain(it.text) and not any(sign in it.text.decode("ascii") for sign in SIGNS)
-    appended = it.text.decode("ascii") if by_itself else "x"
-    command = f'mappend {menu} "{"" if it.enabled else "("}{appended}{"" if line else signs_of(it)}"'
-    script.do(command)
-    if not by_itself:
-        script.do(f"mitem {menu} {it.number} {script.text(resource, f'item {it.number}', it.text)}")
+    line = it.text == LINE
+    word = script.text(resource, f"item {it.number}", it.text)
+    word = NO_LINE if word == text_word(LINE) and not line else word
+    is_set = any(sign in word for sign in SIGNS)
+    script.do(f'mappend {menu} "{"" if it.enabled else "("}{"x" if is_set else word[1:-1]}{"" if line else signs_of(it)}"')
+    if is_set:
+        script.do(f"mitem {menu} {it.number} {word}")
     if it.mark == CHECK and it.key != SUBMENU or told_mark(it):
         script.do(f"mcheck {menu} {it.number} 1")
 

@@ -159,9 +159,8 @@ def menus_are_made(_):
         "# 'MENU' 3: item 2: its style 01 has no counterpart",
         'mappend 5 "Bold"',
         "# 'MENU' 3: item 3: its key 3B has no counterpart",
-        'mappend 5 "x"',
         f"# 'MENU' 3: item 3 \"Open\u2026\" {texts}",
-        'mitem 5 3 "Open..."',
+        'mappend 5 "Open..."',
     ]
     is_written("what has no counterpart", b"MENU", special, lines)
 
