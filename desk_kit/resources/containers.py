@@ -1,5 +1,5 @@
-"""Files in which a resource fork comes: the fork alone, AppleDouble, AppleSingle, MacBinary I to III, BinHex 4.0, and the text of
-Rez and DeRez.
+"""Files in which a resource fork comes: the fork alone, AppleDouble, AppleSingle, MacBinary I to III, BinHex 4.0, and the text
+of Rez and DeRez.
 
 AppleSingle and AppleDouble are those of *AppleSingle/AppleDouble Formats for Foreign Files Developer's Note* (Apple, 1990),
 MacBinary those of the standards of 1985, 1987 and 1996.

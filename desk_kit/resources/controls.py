@@ -1,5 +1,5 @@
-"""CNTL as a command. *Inside Macintosh* I, chapter "The Control Manager", section "Control Definition Resources" before which
-the format of a control template stands, and *Macintosh Toolbox Essentials*, chapter "Control Manager", have its bytes."""
+"""CNTL as a command. *Inside Macintosh* I, chapter "The Control Manager", section "Formats of Resources for Controls", has its
+bytes; *Macintosh Toolbox Essentials*, chapter "Control Manager", has the figure."""
 
 from __future__ import annotations
 

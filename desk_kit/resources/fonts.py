@@ -1,5 +1,5 @@
-"""FONT and NFNT, the records that a desk draws its texts in, and FOND, which names them. *Inside Macintosh* I, chapter "The Font
-Manager", section "Format of a Font", and IV, the same chapter, "Format of a font family", have their bytes."""
+"""FONT and NFNT, the records that a desk draws its texts in, and FOND, which names them. *Inside Macintosh* I, chapter "The
+Font Manager", section "Format of a Font", has the bytes of a font, and IV, the same chapter, those of a family record."""
 
 from __future__ import annotations
 
@@ -72,7 +72,7 @@ def why_no_font(resource: Resource) -> str:
 
 
 def why_no_tables(data: bytes, head: Head) -> str:
-    """Why these are no tables of a font, or nothing: the place of each symbol in the image, and the offset and width of each."""
+    """Why these are no tables of a font, or nothing: the place of each symbol in the image, and its offset and width."""
     count, widths_at = head.missing + 2, 16 + 2 * head.widths_at
     for what, at in (("places", head.locations_at), ("widths", widths_at)):
         if at + 2 * count > len(data):

@@ -1,5 +1,5 @@
-"""ICON, ICN#, CURS, PAT and PAT# as images. *Inside Macintosh* I, chapters "Toolbox Utilities" (icons, patterns and their lists,
-cursors) and "The Finder Interface" (an icon and its mask), has their bytes: rows of pixels, the high bit left, 1 for black."""
+"""ICON, ICN#, CURS, PAT and PAT# as images. *Inside Macintosh* I, chapter "Toolbox Utilities", section "Formats of Miscellaneous
+Resources", has their bytes: rows of pixels, the high bit left, 1 for black."""
 
 from __future__ import annotations
 
@@ -87,7 +87,7 @@ def write_image(script: Script, resource: Resource) -> None:
     for number, image in enumerate(images, 1):
         shelf = script.shelf or new_shelf(script, resource)
         if shelf is None or not put(script, resource, shelf, image):
-            script.tell(resource, f"image {number} and those behind it are left out: the picture of the shelf's window is full")
+            script.tell(resource, f"image {number} and those behind it are left out: the window for images is full")
             return
 
 

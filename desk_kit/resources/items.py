@@ -1,5 +1,5 @@
-"""DITL as commands of version 3. *Inside Macintosh* I, chapter "The Dialog Manager", section "Format of an item list", has its
-bytes, and IV, the same chapter, how HideDItem moves the rectangle of an item that is hidden."""
+"""DITL as commands of version 3. *Inside Macintosh* I, chapter "The Dialog Manager", section "Formats of Resources for Dialogs and
+Alerts", has its bytes, and IV, the same chapter, how HideDItem moves the rectangle of an item that is hidden."""
 
 from __future__ import annotations
 

@@ -1,5 +1,5 @@
-"""MENU and MBAR as commands. *Inside Macintosh* I, chapter "The Menu Manager", sections "Menus in a Resource File" and "Menu Bars
-in a Resource File", has their bytes, and V, the same chapter, what key and mark say of a submenu."""
+"""MENU and MBAR as commands. *Inside Macintosh* I, chapter "The Menu Manager", section "Formats of Resources for Menus", has
+their bytes, and V, the same chapter, what key and mark say of a submenu."""
 
 from __future__ import annotations
 
@@ -68,7 +68,7 @@ def item_of(read: Cursor, part: str, number: int, flags: int) -> Item:
 
 
 def write_menu(script: Script, resource: Resource) -> bool:
-    """A menu with its items, not in the bar yet. It tells whether the menu is made; of a number that is taken it is the first."""
+    """A menu with its items, not in the bar yet. It tells whether the menu is made, now or before."""
     menu = menu_of(resource)
     if script.menus.get(menu.number) == resource.number:
         return True

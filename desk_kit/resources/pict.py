@@ -1,5 +1,5 @@
-"""PICT, as far as its opcodes are what a script draws. *Inside Macintosh* V, chapter "Color QuickDraw", section "PICT Opcodes", and
-*Imaging With QuickDraw*, appendix A, "Picture Opcodes", have the opcodes of both versions and the sizes of their data.
+"""PICT, as far as its opcodes are what a script draws. *Inside Macintosh* V, chapter "Color QuickDraw", and *Imaging With
+QuickDraw*, appendix A, "Picture Opcodes", have the opcodes of both versions and the sizes of their data.
 
 The picture's frame is moved to the window's 0 0. An opcode without a counterpart is told, once for each kind; behind one
 whose size is not known nothing is read."""
@@ -24,8 +24,8 @@ WITHOUT_EFFECT = {0x00: 0, 0x11: 1, 0x15: 2, 0x16: 2, 0x1C: 0, 0x1E: 0, 0xA0: 2}
 # Opcodes that a script has no counterpart of: what they are, and the sizes of their data.
 LACKING = {
     0x04: ("the style of a text", 1), 0x06: ("spaces of another width", 4), 0x0C: ("another origin", 4),
-    0x0E: ("a color", 4), 0x0F: ("a color", 4), 0x10: ("a text of another size", 8), 0x1A: ("a color", 6), 0x1B: ("a color", 6),
-    0x1D: ("a color", 6), 0x1F: ("a color", 6),
+    0x0E: ("a color", 4), 0x0F: ("a color", 4), 0x10: ("a text of another size", 8), 0x1A: ("a color", 6),
+    0x1B: ("a color", 6), 0x1D: ("a color", 6), 0x1F: ("a color", 6),
 }  # fmt: skip
 # The values of these that are what every picture begins with, and so lack nothing.
 AS_AT_FIRST = {
@@ -160,8 +160,8 @@ def take(picture: Picture, opcode: int) -> bool:
 
 
 def skip(picture: Picture, opcode: int, part: str) -> bool:
-    """Goes past an opcode whose data says its size, and tells whether it is such a one: a comment, the name of a font, the head
-    of the second version, and what is reserved for later ones."""
+    """Goes past an opcode whose size is known, and tells whether it is such a one: a comment, the name of a font and the like,
+    the head of the second version, and what that reserves for later ones, which is told."""
     if opcode == 0xA1:
         picture.read.take(2, part)
         picture.read.take(picture.read.number("H", part), part)
@@ -169,9 +169,20 @@ def skip(picture: Picture, opcode: int, part: str) -> bool:
         picture.read.take(picture.read.number("H", part), part)
     elif picture.of_words and opcode == 0x0C00:
         picture.read.take(24, part)
+    elif picture.of_words and opcode >= 0xB0:
+        reserved(picture, opcode, part)
+        picture.lack(f"the opcode {opcode:04X}")
     else:
         return False
     return True
+
+
+def reserved(picture: Picture, opcode: int, part: str) -> None:
+    """Goes past an opcode that is reserved: its high byte says its size, or a long of its data does, or it has none."""
+    if 0xD0 <= opcode <= 0xFE or opcode >= 0x8100:
+        picture.read.take(picture.read.number("I", part), part)
+    elif 0x0100 <= opcode <= 0x7FFF:
+        picture.read.take(2 * (opcode >> 8), part)
 
 
 def set_clip(picture: Picture, part: str) -> None:

@@ -1,5 +1,5 @@
-"""The images of a picture, and the parts in which a script draws them. *Inside Macintosh* I, chapter "QuickDraw", says what a bit
-map is, and *Macintosh Technical Note* 86, "MacPaint Document Format", how PackBits packs its rows."""
+"""The images of a picture, and the parts in which a script draws them. *Inside Macintosh* I has what a bit map is, in the
+chapter "QuickDraw", and how rows are packed, in "Toolbox Utilities" (PackBits)."""
 
 from __future__ import annotations
 
@@ -84,8 +84,8 @@ def unpacked(row: bytes, wanted: int) -> bytes:
 
 
 def parts_of(bits: Bits) -> list[Part] | None:
-    """The parts in which what is drawn of an image is drawn, or None where it is more than a window's picture holds, or than the
-    image has."""
+    """The parts in which an image is drawn, or None where what is drawn of it is more than a window's picture holds, or than
+    the image has."""
     source, bounds = bits.source, bits.bounds
     width, height = source.width, source.height
     inside = bounds.left <= source.left and source.right <= bounds.right

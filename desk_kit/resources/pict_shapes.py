@@ -1,5 +1,5 @@
-"""What the operations of a picture draw, as operations of a script: rectangles, lines and texts of version 1, round shapes, arcs,
-polygons and slanted lines of version 3."""
+"""What the operations of a picture draw, as operations of a script: rectangles, level lines and texts of version 1, round
+shapes, arcs, polygons and slanted lines of version 3."""
 
 from __future__ import annotations
 

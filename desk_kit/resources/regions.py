@@ -28,8 +28,8 @@ def box_of(region: bytes) -> Rect:
 
 
 def moved(region: bytes, right: int, down: int) -> bytes | None:
-    """The region, so far to the right and down, where its bytes are of the form that a script takes and it lies in the range of
-    coordinates then; else None."""
+    """The region, so far to the right and down, where its bytes have the form that a script takes and it lies in the range
+    of coordinates then; else None."""
     box = box_of(region)
     if len(region) == RECTANGLE:
         if box.width <= 0 or box.height <= 0:

@@ -118,7 +118,8 @@ class Fields:
         if self.left and self.values[self.place].kind == "string":
             found = self.take("string")
             if len(found.value) != 1:
-                raise self.fault(found.at, f"{self.what} has a string of {len(found.value)} bytes where one character has to be")
+                size = len(found.value)
+                raise self.fault(found.at, f"{self.what} has a string of {size} bytes where one character has to be")
             return bytes(found.value)
         return self.byte(names)
 

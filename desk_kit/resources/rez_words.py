@@ -1,5 +1,6 @@
 """The words of Rez text. *Building and Managing Programs in MPW*, chapter "Rez and DeRez", has the language: names, numbers,
-types in single quotes, strings with their escapes, strings of hexadecimal digits, signs, comments, and lines of the preprocessor.
+types in single quotes, strings with their escapes, strings of hexadecimal digits, signs, comments, and lines of the
+preprocessor.
 """
 
 from __future__ import annotations

@@ -1,5 +1,6 @@
-"""STR, STR# and vers as comments, and TEXT as a text record of version 3. *Inside Macintosh* I, chapter "Toolbox Utilities", has
-the bytes of strings and their lists; *Macintosh Toolbox Essentials*, chapter "Finder Interface", those of a version."""
+"""STR, STR# and vers as comments, and TEXT as a text record of version 3. *Inside Macintosh* I, chapter "Toolbox Utilities",
+section "Formats of Miscellaneous Resources", has the bytes of strings and their lists; *Macintosh Toolbox Essentials*, chapter
+"Finder Interface", those of a version."""
 
 from __future__ import annotations
 

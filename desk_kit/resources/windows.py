@@ -1,6 +1,6 @@
-"""WIND, DLOG and ALRT as commands. *Inside Macintosh* I, chapters "The Window Manager" (format of a window template) and "The
-Dialog Manager" (formats of a dialog and of an alert template), has their bytes; *Macintosh Toolbox Essentials*, chapters "Window
-Manager" and "Dialog Manager", has the word on the place behind them."""
+"""WIND, DLOG and ALRT as commands. *Inside Macintosh* I has their bytes: chapter "The Window Manager", section "Formats of
+Resources for Windows", and chapter "The Dialog Manager", section "Formats of Resources for Dialogs and Alerts". The word on the
+place behind them is that of *Macintosh Toolbox Essentials*, chapters "Window Manager" and "Dialog Manager"."""
 
 from __future__ import annotations
 
