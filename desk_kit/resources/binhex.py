@@ -1,6 +1,7 @@
 """BinHex 4.0: a file as text. Yves Lempereur's definition, "BinHex 4.0 Definition" by Peter N Lewis (1991), has the form: a
-line that says so, then between two colons characters of six bits each, runs of a byte behind 0x90, and in that the name, the
-head, the data fork and the resource fork, each of the last three with a sum of 16 bits (CRC-CCITT)."""
+line that says so, in one wording or another, and between two colons characters of six bits each, with runs of a byte behind
+0x90. In that stand the name, the head, the data fork and the resource fork, each of the last three with a sum of 16 bits
+(CRC-CCITT)."""
 
 from __future__ import annotations
 
@@ -10,7 +11,7 @@ import binascii
 from desk_kit.answers import Fault
 from desk_kit.resources.cursor import Cursor
 
-BEGIN = b"(This file must be converted with BinHex"
+BEGIN = b"(This file must be converted"
 # How far into a file that line may begin.
 LATEST_BEGIN = 8192
 LETTERS = b"!\"#$%&'()*+,-012345689@ABCDEFGHIJKLMNPQRSTUVXYZ[`abcdefhijklmpqr"

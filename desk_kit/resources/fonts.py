@@ -123,7 +123,7 @@ def write_fond(script: Script, resource: Resource) -> None:
     read.take(ASSOCIATIONS_AT - 4, "its head")
     count = (read.number("H", "the count of its fonts") + 1) & 0xFFFF
     read.need(6 * count, f"a list of {count} fonts")
-    script.head(resource, f"family {number}, {count} fonts")
+    script.head(resource, f"family {number}, of so many fonts: {count}")
     for _ in range(count):
         size, style, found = read.numbers("HHh", "a font")
         named = ", ".join(it for bit, it in enumerate(STYLES) if style >> bit & 1) or "plain"

@@ -55,6 +55,8 @@ def a_fork_may_lack_what_fills_its_last_block(_):
 def binhex_is_found_behind_other_text(_):
     made = binhex(FORK)
     same("behind a letter", found_in(b"Dear reader,\n" * 100 + made)[1], FOUND)
+    worded = made.replace(HEAD_OF_BINHEX.encode(), b"(This file must be converted; you knew that already.)")
+    same("in another wording", found_in(worded), ("BinHex", FOUND))
     same("with returns", found_in(made.replace(b"\n", b"\r"))[1], FOUND)
     # 0x90 in a run, by its own count, and a run of 0x90.
     same("runs", runs(b"\x90\x90\x90\x90\x90a"), of_hex("90 00 90 05 61"))

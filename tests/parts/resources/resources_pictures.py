@@ -109,6 +109,9 @@ def images_are_drawn_in_parts(_):
 
 def the_second_version_has_words(_):
     opcodes = f"001E 0001 000A 000A 0014 0046 0078 0031 {CIRCLE} 00A1 0064 0003 414243 00 0028 0014 001E 01 61 0003 0000"
+    later = f"0200 11112222 00B0 00D0 00000002 3333 8010 8200 00000003 444444 00 0031 {CIRCLE}"
+    told = [f"the opcode {it}" for it in ("0200", "00B0", "00D0", "8010", "8200")]
+    is_drawn("what is reserved", second_version(later), ["fill 50 40 60 50 patCopy black"], told)
     is_drawn("its opcodes", second_version(opcodes), ["fill 50 40 60 50 patCopy black", 'text 10 10 srcOr "a"'])
 
 

@@ -298,7 +298,7 @@ def fonts_are_told_by_their_measures(_):
     why = "its type 9004 is of a font with more than one bit for each pixel"
     is_written("colors", b"NFNT", deep, ["# 'NFNT' 3: of a family", f"# 'NFNT' 3: it is no font of a desk: {why}"])
     family = bytes(2) + of_hex("0014") + bytes(48) + of_hex("0001 000C 0000 0003 0018 0003 0063")
-    lines = ["# 'FOND' 9: family 20, 2 fonts", "# size 12, plain: 'NFNT' 3", "# size 24, bold, italic: 99, which is not in this file"]
+    lines = ["# 'FOND' 9: family 20, of so many fonts: 2", "# size 12, plain: 'NFNT' 3", "# size 24, bold, italic: 99, which is not in this file"]
     found = opened(fork(Made(b"FOND", 9, family), Made(b"NFNT", 3, FONT))).resources
     same("a family", script_of(found, [("FOND", 9)]).finished(), ["version 1", *lines])
 
