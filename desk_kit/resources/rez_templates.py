@@ -31,6 +31,13 @@ ITEMS = {
 }  # fmt: skip
 WITH_NUMBER = ("Control", "Icon", "Picture")
 STAGES = {"development": 0x20, "alpha": 0x40, "beta": 0x60, "final": 0x80, "release": 0x80}
+# Regions, as a version has them.
+REGIONS = {
+    "verUS": 0, "verFrance": 1, "verBritain": 2, "verGermany": 3, "verItaly": 4, "verNetherlands": 5, "verFrBelgiumLux": 6,
+    "verSweden": 7, "verSpain": 8, "verDenmark": 9, "verPortugal": 10, "verFrCanada": 11, "verNorway": 12, "verIsrael": 13,
+    "verJapan": 14, "verAustralia": 15, "verArabic": 16, "verFinland": 17, "verFrSwiss": 18, "verGrSwiss": 19,
+    "verGreece": 20, "verIceland": 21, "verMalta": 22, "verCyprus": 23, "verTurkey": 24,
+}  # fmt: skip
 LARGEST = {1: 0xFF, 2: 0xFFFF, 4: 0xFFFFFFFF}
 
 
@@ -216,7 +223,7 @@ def cntl(fields: Fields) -> bytes:
 def vers(fields: Fields) -> bytes:
     """The version of a file."""
     head = fields.byte() + fields.byte() + fields.byte(STAGES) + fields.byte()
-    return head + fields.short({"verUS": 0}) + fields.pascal() + fields.pascal()
+    return head + fields.short(REGIONS) + fields.pascal() + fields.pascal()
 
 
 def counted(each: Callable[[Fields], bytes]) -> Callable[[Fields], bytes]:
