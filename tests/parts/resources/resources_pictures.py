@@ -126,6 +126,38 @@ def what_is_not_known_ends_the_reading(_):
     is_drawn("a pattern", odd, ["fill 10 10 30 20 patCopy white"], stands)
 
 
+def what_is_as_at_first_is_not_told(_):
+    """Opcodes without a counterpart, with the values that every picture begins with, and with others."""
+    same_as = "04 00 06 00000000 0C 00000000 0E 00000021 0F 0000001E 10 00010001 00010001 1A 0000 0000 0000 1B FFFF FFFF FFFF"
+    none = f"00 11 01 15 0000 16 0000 1C 1E A0 0064 02 0000000000000000 {same_as}"
+    is_drawn("what is at first", first_version(f"{none} 31 {CIRCLE}"), ["fill 50 40 60 50 patCopy black"])
+    for opcode, data, what in [
+        ("06", "00010000", "spaces of another width"),
+        ("0C", "00010000", "another origin"),
+        ("0E", "000000CD", "a color"),
+        ("0F", "00000021", "a color"),
+        ("10", "00020001 00010001", "a text of another size"),
+        ("1B", "0000 0000 0000", "a color"),
+        ("1D", "0000 0000 0000", "a color"),
+        ("1F", "0000 0000 0000", "a color"),
+        ("02", "AA55AA55AA55AA55", "a background that is not white"),
+        ("07", "0401 0001", "a pen of 1 by 1025"),
+        ("08", "0010", "the mode 16 of a pen, for which patCopy stands,"),
+        ("05", "0000", "the mode 0 of a text, for which srcOr stands,"),
+    ]:
+        drawn = [] if opcode == "07" else ["frame 50 40 60 50 patCopy black"]
+        is_drawn(f"the opcode {opcode}", first_version(f"{opcode} {data} 30 {CIRCLE}"), drawn, [what])
+
+
+def modes_have_their_names(_):
+    for mode, name in enumerate("patCopy patOr patXor patBic notPatCopy notPatOr notPatXor notPatBic".split(), 8):
+        is_drawn(name, first_version(f"08 {mode:04X} 31 {CIRCLE}"), [f"fill 50 40 60 50 {name} black"])
+    one = "0000 0000 0001 0008"
+    for mode, name in enumerate("srcCopy srcOr srcXor srcBic notSrcCopy notSrcOr notSrcXor notSrcBic".split()):
+        image = first_version(f"90 0002 {one} {one} 000A 0014 000B 001C {mode:04X} A5FF")
+        is_drawn(name, image, [f"bits 0 0 8 1 {name} A5"])
+
+
 def a_picture_is_full_at_last(_):
     picture = of_hex(f"0000 {FRAME} 11 01 31 0014 001E 001E 0032") + b"\x39" * 2000 + b"\xff"
     script = script_of(opened(fork(Made(b"PICT", 3, picture))).resources)
@@ -166,6 +198,8 @@ TESTS = [
     images_are_drawn_in_parts,
     the_second_version_has_words,
     what_is_not_known_ends_the_reading,
+    what_is_as_at_first_is_not_told,
+    modes_have_their_names,
     a_picture_is_full_at_last,
     broken_pictures_are_faults,
 ]

@@ -49,6 +49,16 @@ TEXTS = [
         00000000 0020 0010 0040 0030 81 00""",
     ),
     (
+        """resource 'DITL' (1) { {
+                {0, 0, 1, 1}, CheckBox { enabled, "" }; {0, 0, 1, 1}, RadioButton { enabled, "" };
+                {0, 0, 1, 1}, EditText { disabled, "" }; {0, 0, 1, 1}, Picture { enabled, -2 };
+                {0, 0, 1, 1}, Control { enabled, 5 }
+            } };""",
+        """0004 00000000 0000 0000 0001 0001 05 00 00000000 0000 0000 0001 0001 06 00 00000000 0000 0000 0001 0001 90 00
+        00000000 0000 0000 0001 0001 40 02 FFFE 00000000 0000 0000 0001 0001 07 02 0005""",
+    ),
+    ("resource 'STR ' (2) { \"\\t\\b\\r\\n\\f\\v\\?\\'\\\\\\0b01000001\" };", "0A 09 08 0A 0D 0C 0B 7F 27 5C 41"),
+    (
         """resource 'MENU' (3) { 3, textMenuProc, 0x7FFFFFFC, enabled, "Edit", {
                 "Undo", noIcon, "Z", noMark, plain;
                 "-", noIcon, noKey, noMark, plain;

@@ -165,6 +165,26 @@ def menus_are_made(_):
     is_written("what has no counterpart", b"MENU", special, lines)
 
 
+def keys_that_are_none_are_told(_):
+    for key, icon, lacks in [
+        (0x1B, 0, ["its submenu 7"]),
+        (0x1C, 9, ["its key 1C"]),
+        (0x1D, 9, ["its key 1D", "its icon 9"]),
+        (0x1F, 0, ["its key 1F"]),
+        (0x07, 0, ["its key 07"]),
+        (0x80, 0, ["its key 80"]),
+        (0x22, 0, ["its key 22"]),
+        (0x20, 0, []),
+    ]:
+        mark = 7 if key == 0x1B else 0
+        data = of_hex("0005 0000 0000 0000 0000 FFFFFFFF 01 41") + pascal(b"i") + bytes([icon, key, mark, 0]) + b"\0"
+        told = [f"# 'MENU' 3: item 1: {it} has no counterpart" for it in lacks]
+        is_written(f"the key {key:02X}", b"MENU", data, ["# 'MENU' 3", 'menu 5 "A"', *told, 'mappend 5 "i"'])
+    for key in (0x21, 0x7E):
+        data = of_hex("0005 0000 0000 0000 0000 FFFFFFFF 01 41") + pascal(b"i") + bytes([0, key, 0x7E, 0]) + b"\0"
+        is_written(chr(key), b"MENU", data, ["# 'MENU' 3", 'menu 5 "A"', f'mappend 5 "i!~/{chr(key)}"'])
+
+
 def a_menu_of_more_items_than_a_script_has_is_cut(_):
     rows = b"".join(pascal(b"i") + bytes(4) for _ in range(33))
     data = of_hex("0005 0000 0000 0000 0000 FFFFFFFF 01 41") + rows + b"\0"
@@ -207,6 +227,44 @@ def alerts_have_their_ring(_):
     silent = of_hex(f"{SIDES} 0081 0000")
     stages = [f"# stage {it}: no sound, not drawn" for it in range(1, 5)]
     is_written("one that is never drawn", b"ALRT", silent, ["# 'ALRT' 3", *stages], Made(b"DITL", 0x81, items))
+
+
+def items_lie_within_their_ranges(_):
+    """An item of 1024 columns is one, and of 1025 is not. A left side of 8192 is that of a shown item, and one more of a hidden
+    one. An edited text has 3 pixels around it, and the ring of a button 4."""
+    dialog = of_hex("0014 0028 0050 00C8 0081 4444")
+    head = ["# 'ALRT' 3", *(f"# stage {it}: no sound, drawn, item 1 has the ring" for it in range(1, 5))]
+    head.append('window dialog 40 20 160 60 1 0 ""')
+    outside, large = "its rectangle lies outside of the desk's coordinates", "the sides of an item are 1024 at most"
+    for rect, kind, line, why in [
+        ("0000 0000 0400 0400", "88", 'static 0 0 1024 1024 0 ""', ""),
+        ("0000 0000 0400 0401", "88", "", large),
+        ("0000 2000 0010 2010", "88", 'static 8192 0 16 16 0 ""', ""),
+        ("0000 2001 0010 2011", "00", 'user -8191 0 16 16 1 ""', "hidden"),
+        ("C003 0000 C013 0010", "90", 'edit 0 -16381 16 16 0 ""', ""),
+        ("C002 0000 C012 0010", "90", "", outside),
+        ("C000 0000 C010 0010", "88", 'static 0 -16384 16 16 0 ""', ""),
+        ("3FDB 0000 3FEB 0010", "00", 'user 0 16347 16 16 1 ""', ""),
+        ("3FDC 0000 3FEC 0010", "00", "", outside),
+        ("C004 0000 C014 0010", "04", 'default 0 -16380 16 16 1 ""', ""),
+        ("C003 0000 C013 0010", "04", "", outside),
+        ("0000 0000 0010 03F8", "04", 'default 0 0 1016 16 1 ""', ""),
+        ("0000 0000 0010 03F9", "04", "", "its rectangle is 1025 by 24, and the sides of a control are 1 to 1024"),
+    ]:
+        found = [f"ditem 1 {line}"] if line else []
+        found += ["dhide 1 1"] if why == "hidden" else []
+        if not line:
+            enabled = int(int(kind, 16) < 0x80)
+            found = [f"# 'DITL' 129: item 1: {why}, {HIDDEN}", f'ditem 1 user 0 0 1 1 {enabled} ""', "dhide 1 1"]
+        items = of_hex(f"0000 00000000 {rect} {kind} 00")
+        is_written(rect, b"ALRT", dialog, [*head, *found, "update 1"], Made(b"DITL", 0x81, items), version=3)
+
+
+def texts_are_counted_with_those_of_dialogs(_):
+    dialog = of_hex(f"{SIDES} 0001 0100 0000 00000000 0081 00")
+    made = fork(Made(b"DLOG", 1, dialog), Made(b"DITL", 0x81, ITEMS), Made(b"TEXT", 2, b"x"), Made(b"TEXT", 3, b"y"))
+    lines = script_of(opened(made).resources, [("DLOG", 1), ("TEXT", 2), ("TEXT", 3)]).lines
+    same("their numbers", [it for it in lines if it.startswith("tset")], ['tset 2 3 "x"', 'tset 3 4 "y"'])
 
 
 def items_that_cannot_be_keep_their_numbers(_):
@@ -292,6 +350,9 @@ def a_text_is_a_record(_):
 def fonts_are_told_by_their_measures(_):
     said = "ascent 2, descent 1, leading 1, characters 65..66: 'desk-rez font' takes it out, for --font"
     is_written("a font", b"FONT", FONT, [f"# 'FONT' 3: font 0, size 3, {said}"])
+    found = opened(fork(Made(b"FONT", 268, FONT), Made(b"FONT", 256, b""))).resources
+    lines = ["version 1", "# 'FONT' 256: the name of font 2", f"# 'FONT' 268: font 2, size 12, {said}"]
+    same("by its number", script_of(found).finished(), lines)
     is_written("one of a family", b"NFNT", FONT, [f"# 'NFNT' 3: of a family, {said}"])
     is_written("a name", b"FONT", b"", ["# 'FONT' 3: the name of font 0"])
     deep = of_hex("9004") + FONT[2:]
@@ -332,9 +393,12 @@ TESTS = [
     windows_that_cannot_be_are_told,
     controls_are_made,
     menus_are_made,
+    keys_that_are_none_are_told,
     a_menu_of_more_items_than_a_script_has_is_cut,
     dialogs_are_windows_with_items,
     alerts_have_their_ring,
+    items_lie_within_their_ranges,
+    texts_are_counted_with_those_of_dialogs,
     items_that_cannot_be_keep_their_numbers,
     images_are_drawn_on_a_shelf,
     a_shelf_grows_by_rows,
