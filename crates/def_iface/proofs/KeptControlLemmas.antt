@@ -6,7 +6,7 @@ use Rattle.control_values.specs.declared.part.ControlPart.{ControlPart}
 use Rattle.def_iface.specs.declared.control_def.ControlChange.{ControlChange}
 use Rattle.def_iface.specs.declared.control_def.ControlChange.TheVariants.{Resized, Titled, Set, Highlighted}
 use Rattle.def_iface.specs.declared.control_keeping.KeptControl.{KeptControl}
-use Rattle.def_iface.specs.ControlNews.{ControlNews, told_control}
+use Rattle.def_iface.specs.ControlNews.{ControlNews, no_control_news, told_control}
 use Rattle.def_iface.specs.ControlMeaning.{ControlDefinition, ControlHears}
 use Rattle.def_iface.specs.ControlKeeping.{kept_after, kept_in, kept_control_picture, kept_control_hit, kept_thumb_value, kept_control_damage}
 use Rattle.def_iface.proofs.KeptLemmas.{later_title}
@@ -17,6 +17,13 @@ kept_then k (Resized s) n = refl
 kept_then k (Titled t) n = ap (λ x. record (kept_in n k) { title = x }) (later_title n.title t.now k.title)
 kept_then k (Set v) n = refl
 kept_then k (Highlighted h) n = refl
+
+-- what is kept once one thing was told
+pub kept_told : (change : ControlChange) (k : KeptControl) → kept_in (told_control change no_control_news) k ≡ kept_after change k
+kept_told (Resized s) k = refl
+kept_told (Titled t) k = refl
+kept_told (Set v) k = refl
+kept_told (Highlighted h) k = refl
 
 -- what was told is not forgotten, where the new definition keeps what the old one kept, after the change
 pub kept_control_hears : (look : KeptControl → List ℕ → PixelSet) (part : KeptControl → Point → Option ControlPart) (value : KeptControl → Point → Point → ℤ)
