@@ -198,14 +198,18 @@ module _ {V : Type 0} {H : V → Type 0} (loan : TakenBox V H → WindowLoan) wh
 
       -- ---- the screen
 
+      -- its pixels are the map's
+      of_map : (p : Point) → layers.on_screen was p ≡ on_map t.screen p
+      unfolding on_map
+      of_map p = λ i. between-is_below t.screen.width p.h i && between-is_below t.screen.height p.v i
+
       module _ (screen : Bits) (drawn : Draws (λ p. holds a.frame p && rect_holds damage (minus p x.place)) (λ p _. d.picture no_news t.font (minus p x.place)) t.screen screen)
           (near : (p : Point) → holds a.frame p ≡ true → in_plane (minus p x.place) ≡ true) (p : Point) (on : layers.on_screen was p ≡ true) where
         abbrev now : LayeredDesk
         now = layered_desk (desk_noted before whole.sound.distinct at w rest windows_were (notified_record change w) d T.regions)
 
         on_map_is : layers.on_screen was p ≡ on_map t.screen p
-        unfolding on_map
-        on_map_is = λ i. between-is_below t.screen.width p.h i && between-is_below t.screen.height p.v i
+        on_map_is = of_map p
 
         bit_is : bit screen p ≡ (if same_owner (owner was p) (Frame x.serial) && rect_holds damage (minus p x.place) then d.picture no_news t.font (minus p x.place) else bit t.screen p)
         bit_is =
@@ -381,10 +385,6 @@ module _ {V : Type 0} {H : V → Type 0} (loan : TakenBox V H → WindowLoan) wh
             → WritesFrame loan x.serial x.place ((loan x.taken).definition.damage (told_change change no_news)) t (with_frame screen)
         written_within written = written_in _ _ t.screen screen (λ p there out. by_tests p there out (rect_holds damage (minus p x.place)) refl) written
           where
-            on_there : (p : Point) → on_map t.screen p ≡ true → layers.on_screen was p ≡ true
-            unfolding on_map
-            on_there p there = (λ i. between-is_below t.screen.width p.h i && between-is_below t.screen.height p.v i) ∙ there
-
             last : (b : Bool) → (b && true) ≡ b
             last true = refl
             last false = refl
@@ -400,7 +400,7 @@ module _ {V : Type 0} {H : V → Type 0} (loan : TakenBox V H → WindowLoan) wh
             by_tests p there out true e =
                 last (holds a.frame p)
                 ∙ area_is.frame p
-                ∙ ap (λ b. b && same_owner (owner was p) (Frame x.serial)) (on_there p there)
+                ∙ ap (λ b. b && same_owner (owner was p) (Frame x.serial)) (of_map p ∙ there)
                 ∙ sym (last (same_owner (owner was p) (Frame x.serial)))
                 ∙ ap (λ b. same_owner (owner was p) (Frame x.serial) && b) (sym (T.answered (minus p x.place) e))
                 ∙ out
