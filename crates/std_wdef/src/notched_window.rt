@@ -7,7 +7,7 @@ ghost use Rattle.def_iface.specs.WindowMeaning.{SameLook, SameRegions, WindowHea
 ghost use Rattle.def_iface.specs.Sizes.{is_size};
 ghost use Rattle.looks.specs.Letters.{Lettering};
 ghost use Rattle.looks.specs.Marks.{box, neg, look_bit};
-ghost use Rattle.std_wdef.specs.Notched.{notch, notched_structure, notched_content, notched_look, notched_meaning};
+ghost use Rattle.std_wdef.specs.Notched.{notch, notched_structure, notched_content, notched_damage, notched_look, notched_meaning};
 ghost use Rattle.std_wdef.specs.Notched.{fresh_notched, told_notched, notched_at};
 
 use crate::rects::ring;
@@ -112,8 +112,9 @@ fn notched_look(size: Size) -> [Step; 1]
 /// coordinates. The old size may be none.
 fn notched_damage(old: Size, new: Size) -> Rect
     requires { is_size new ≡ true }
-    ensures { (t : Lettering) (p : Point) → in_plane p ≡ true → rect_holds result p ≡ false
+    ensures alike { (t : Lettering) (p : Point) → in_plane p ≡ true → rect_holds result p ≡ false
         → look_bit t (notched_look new) p ≡ look_bit t (notched_look old) p }
+    ensures small { (p : Point) → rect_holds result p ≡ true → notched_damage old new p ≡ true }
 {
     if old.is_in_range() {
         damage_between(&notched_look(old), &notched_look(new), true)
