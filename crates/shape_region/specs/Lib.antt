@@ -1,2 +1,3 @@
--- What the contracts speak of: the bounds of a strip, and how its rows differ.
+-- What the contracts speak of: the bounds of a strip, how its rows differ, and polygons by their points.
 pub mod Turns
+pub mod Polygons

@@ -12,10 +12,12 @@
 #![tactic(auto)]
 
 mod frame;
+mod polygon;
 mod round;
 mod strip;
 mod turns;
 
 pub use frame::{frame_oval_region, frame_rect_region, frame_round_rect_region, inside_region};
+pub use polygon::polygon_region;
 pub use round::{oval_region, round_rect_region};
 pub use strip::strip_region;
