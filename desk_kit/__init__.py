@@ -57,6 +57,10 @@ To drive a desk with a mouse and keys, for desk-view and desk-web:
   web_page.js     what it does
   view.desk       the script that desk-view and desk-web run where none is named
 
+To read resource files, for desk-rez:
+
+  resources       a package of its own, whose head names its modules
+
 manual, forms and lint read docs/SCRIPT.md, which lies in the tree and not in an installed package.
 """
 

@@ -28,12 +28,14 @@ class Version(argparse.Action):
 
 
 class Parser(argparse.ArgumentParser):
-    """The words of the command line. --help prints all of the text, and --version the version."""
+    """The words of the command line. --help prints all of the text, and --version the version. --program is a word of the
+    tools that run one."""
 
-    def __init__(self, tool, usage, text):
+    def __init__(self, tool, usage, text, runs_program=True):
         super().__init__(tool, usage=usage, allow_abbrev=False)
         self.all_text = text
-        self.add_argument("--program")
+        if runs_program:
+            self.add_argument("--program")
         self.add_argument("--version", action=Version, nargs=0)
 
     def error(self, message):

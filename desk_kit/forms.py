@@ -6,11 +6,13 @@ import re
 from typing import NamedTuple
 
 from desk_kit.answers import Fault
-from desk_kit.manual import PATH, read_manual
+from desk_kit.manual import DRAW, INNER, PATH, read_manual
 
 # The names of the refusals that lie in the line itself.
 OF_FORM = ("BadSyntax", "NoSuchName", "TooLong")
-DRAW, CLIP, ANY = "draw", "clip", "OPERATION"
+CLIP = "clip"
+# The version of what is of no later one.
+FIRST_VERSION = 1
 WORD = re.compile(r'"[^"]*"|[^ ]+')
 
 
@@ -19,8 +21,10 @@ class Reading(NamedTuple):
 
     # The form of the line, or the nearest one; None where none is near.
     form: str
-    # What is said of a word that names no command or operation, or None where there is no such word.
+    # What is said of a word that names no command or inner form, or None where there is no such word.
     unknown: str
+    # The version from which on a script has such a line.
+    version: int = FIRST_VERSION
 
 
 # What is made of a line without a manual.
@@ -52,27 +56,44 @@ def forms_if_any():
 
 
 class Forms:
-    """The forms of all commands and operations, by their names."""
+    """The forms of all commands, and the inner forms that some of them hold, by their names."""
 
     def __init__(self, manual):
         # Of the two forms of draw the one without clip comes first.
         self.commands = {name: its[0] for name, its in manual.forms.items()}
-        self.operations = manual.operations
-        self.clipped = next((it for it in manual.forms[DRAW] if CLIP in words_of(it)), ANY)
+        self.inner, self.versions = manual.inner, manual.versions
+        self.clipped = next((it for it in manual.forms[DRAW] if CLIP in words_of(it)), INNER[DRAW])
+
+    def latest(self):
+        """The latest version that a script may have."""
+        return max(self.versions.values(), default=FIRST_VERSION)
+
+    def version_of(self, *names):
+        """The version from which on a script has what these words name."""
+        return self.versions.get(" ".join(names), FIRST_VERSION)
 
     def reading(self, line):
-        """What a line is by its first word, and one of draw by its operation too."""
+        """What a line is by its first word, and by its inner form too where that word has some, as draw has operations."""
         words = words_of(line) or [line]
         command, unknown = known(words[0], self.commands, "command")
-        if command != DRAW:
-            return Reading(self.commands.get(command), unknown)
-        is_clipped = words[2:3] == [CLIP]
-        form = self.clipped if is_clipped else self.commands[DRAW]
-        place = words_of(form).index(ANY)
-        if len(words) <= place:
-            return Reading(form, unknown)
-        operation, other = known(words[place], self.operations, "operation")
-        return Reading(form.replace(ANY, self.operations.get(operation, ANY)), unknown or other)
+        if command is None:
+            return Reading(None, unknown)
+        form, version = self.commands[command], self.version_of(command)
+        if command == DRAW and words[2:3] == [CLIP]:
+            form = self.clipped
+        place = self.place_of_inner(command, form)
+        if place is None or len(words) <= place:
+            return Reading(form, unknown, version)
+        any_of_them, forms = INNER[command], self.inner[command]
+        name, other = known(words[place], forms, any_of_them.lower())
+        if name is None:
+            return Reading(form, unknown or other, version)
+        version = max(version, self.version_of(command, name))
+        return Reading(form.replace(any_of_them, forms[name]), unknown or other, version)
+
+    def place_of_inner(self, command, form):
+        """Where the inner form begins in this form of a command, from 0, or None where it has none."""
+        return words_of(form).index(INNER[command]) if command in self.inner else None
 
 
 def known(word, names, what):

@@ -5,10 +5,10 @@ import re
 from typing import NamedTuple
 
 from desk_kit.answers import LONGEST_LINE, commands_of, shown, split
-from desk_kit.forms import NOTHING_READ, OF_FORM, words_of
+from desk_kit.forms import FIRST_VERSION, NOTHING_READ, OF_FORM, words_of
 
-# The first command of a script that may have floating windows.
-VERSION_2 = re.compile(rb"version 0*2")
+# The first command of a script that says its version.
+VERSION = re.compile(rb"version 0{0,8}([1-9])")
 # What some editors put before the first line of a file, unseen.
 BYTE_ORDER_MARK = b"\xef\xbb\xbf"
 MARKED = "it begins with a byte order mark, the bytes EF BB BF, which no command has: save the script without one"
@@ -40,7 +40,7 @@ def refusal(command, answer, first, forms):
     """The refusal of a command that is answered so, in a script with this first command."""
     refused = answer.decode("latin-1").rstrip("\n")
     is_of_form = name_of(refused) in OF_FORM
-    said = refused + advice(command.text, misplaced(command, first), forms).said() if is_of_form else refused
+    said = refused + advice(command, first, forms).said() if is_of_form else refused
     return Refusal(command.line, f"line {command.line}, {shown(command.text)}: {said}", is_of_form)
 
 
@@ -63,12 +63,14 @@ class Advice(NamedTuple):
         return f"{f': {why}' if why else ''}{f'. The form is: {self.form}' if self.form else ''}"
 
 
-def advice(line, place, forms):
-    """The advice on a line, where this is wrong with its place, if anything is."""
+def advice(command, first, forms):
+    """The advice on a command, in a script with this first one."""
+    line = command.text
     text = line.removeprefix(BYTE_ORDER_MARK).decode("latin-1")
     reading = forms.reading(text) if forms else NOTHING_READ
     in_bytes = too_long(line) or byte_order_mark(line) or strange(line)
-    return Advice(in_bytes or reading.unknown or misformed(text, reading.form) or place, reading.form)
+    place = misplaced(command, first) or too_new(reading, first, forms)
+    return Advice(in_bytes or reading.unknown or place or misformed(text, reading.form), reading.form)
 
 
 def byte_order_mark(script):
@@ -83,12 +85,21 @@ def too_long(line):
 
 def misplaced(command, first):
     """What is wrong with the place of a command in the script that has this first one, or nothing."""
-    word = command.text.partition(b" ")[0]
-    if word == b"version" and command.line != first.line:
-        return "it stands before every other command"
-    if word == b"float" and not VERSION_2.fullmatch(first.text):
-        return "the script does not begin with 'version 2'"
-    return ""
+    is_version = command.text.partition(b" ")[0] == b"version"
+    return "it stands before every other command" if is_version and command.line != first.line else ""
+
+
+def too_new(reading, first, forms):
+    """What is wrong with the version of the script that has this first command, where a line is read so, or nothing."""
+    is_new = reading.version > FIRST_VERSION and reading.version > version_of(first, forms.latest())
+    return f"the script does not begin with 'version {reading.version}'" if is_new else ""
+
+
+def version_of(first, latest):
+    """The version of a script with this first command, where there are versions up to the latest."""
+    said = VERSION.fullmatch(first.text)
+    number = int(said[1]) if said else FIRST_VERSION
+    return number if number <= latest else FIRST_VERSION
 
 
 def strange(line):

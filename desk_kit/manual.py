@@ -9,6 +9,12 @@ from desk_kit.markdown import blocks_of, codes_in, plain
 
 PATH = os.path.join(os.path.dirname(os.path.dirname(os.path.realpath(__file__))), "docs", "SCRIPT.md")
 HEADING = re.compile(r"(?m)^(#{2,3}) +(.*)$")
+# The commands that hold one of several inner forms, each with the word of its form for which these stand: a table of its
+# section has them below that word.
+DRAW = "draw"
+INNER = {DRAW: "OPERATION", "region": "FORM"}
+# The command whose section has a table of the words that a script has from some version on.
+VERSION = "version"
 
 
 class Entry(NamedTuple):
@@ -31,10 +37,13 @@ class Manual:
         for entry in self.entries:
             for form in entry.forms:
                 self.forms.setdefault(form.split(" ")[0], []).append(form)
-        # Each operation of draw with its form.
-        operations = self.column("draw", "OPERATION")
-        self.operations = {form.split(" ")[0]: form for form in operations}
-        self.patterns = self.column("draw", "PATTERN")
+        # Of each command with inner forms these, by their names.
+        self.inner = {it: by_names(self.column(it, word)) for it, word in INNER.items() if it in self.forms}
+        self.operations = self.inner[DRAW]
+        self.patterns = self.column(DRAW, "PATTERN")
+        # The version from which on a script has a command, or an inner form, as the words that name it: 'float', 'draw oval'.
+        # What is not here is of version 1.
+        self.versions = dict(self.versioned()) if VERSION in self.forms else {}
         # What each refusal means, by its number and name.
         rows = blocks_of(self.sections["Refusals"])[0].rows()
         self.refusals = {row[0]: plain(row[1]) for row in rows[1:]}
@@ -60,6 +69,14 @@ class Manual:
                     return found
         return []
 
+    def versioned(self):
+        """Each command and each inner form of a later version, as the words that name it, with that version. In the table
+        inner forms stand below the name of their command, and commands below no name."""
+        head, *rows = next((it for it in self.tables_of(VERSION) if it[0][0] == "Version"), [[""]])
+        for number, *cells in rows:
+            for title, cell in zip(head[1:], cells):
+                yield from ((" ".join([*codes_in(title), name]), int(number)) for name in codes_in(cell))
+
     def kinds_of(self, command):
         """The kinds that a command may name, or none."""
         for rows in self.tables_of(command):
@@ -72,6 +89,11 @@ class Manual:
         """The modes in which an operation may draw."""
         head = f"In {operation}" if operation in ("bits", "text") else "With PATTERN"
         return self.column("draw", head)
+
+
+def by_names(forms):
+    """These forms, by their first words."""
+    return {form.split(" ")[0]: form for form in forms}
 
 
 def sections_of(text):

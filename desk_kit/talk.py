@@ -9,7 +9,8 @@ from desk_kit.braille import ACROSS, braille, shrunk, side_for
 from desk_kit.driven import is_answered, rows_of
 from desk_kit.forms import OF_FORM, Forms
 from desk_kit.half_blocks import half_blocks
-from desk_kit.lint import advice, misplaced, name_of
+from desk_kit.lint import advice, name_of
+from desk_kit.manual import DRAW, INNER
 from desk_kit.markdown import blocks_of, plain
 from desk_kit.pictures import png_of
 from desk_kit.shown_desk import lines_of
@@ -137,7 +138,7 @@ class Talk:
         """Why a command is refused, in words, behind the answer."""
         meaning = self.manual.refusals.get(answer.partition(" ")[2], "")
         if name_of(answer) in OF_FORM:
-            return advice(command.text, misplaced(command, self.first), self.forms).said(meaning)
+            return advice(command, self.first, self.forms).said(meaning)
         return f": {meaning}" if meaning else ""
 
     def quit(self, line):
@@ -257,11 +258,12 @@ def next_words(manual, words):
         return [*manual.forms, *OWN]
     if words == ["help"]:
         return [*manual.forms, *OWN]
-    if words[0] == "draw":
+    if words[0] == DRAW:
         return next_of_draw(manual, words[2:]) if len(words) > 1 else []
-    if words[0] in manual.forms and placeholder(manual.forms[words[0]][0], len(words)) == "KIND":
+    place = placeholder(manual.forms[words[0]][0], len(words)) if words[0] in manual.forms else None
+    if place == "KIND":
         return manual.kinds_of(words[0])
-    return []
+    return [*manual.inner[words[0]]] if place and place == INNER.get(words[0]) else []
 
 
 def next_of_draw(manual, words):

@@ -12,7 +12,7 @@ from desk_kit.called import Parser
 from desk_kit.driven import Driven, sides_of
 from desk_kit.ends import AT_FAULT, give_up, say
 from desk_kit.forms import forms_if_any
-from desk_kit.lint import OF_FORM, advice, misplaced, name_of
+from desk_kit.lint import OF_FORM, advice, name_of
 
 TOOL = "desk"
 USAGE = "desk --trace [--bail] [--font FILE] [SCRIPT]"
@@ -65,7 +65,7 @@ class Trace:
         self.is_refused = said.startswith("refused ")
         if not self.is_refused or name_of(said) not in OF_FORM:
             return said
-        return said + advice(command.text, misplaced(command, self.first), forms_if_any()).said()
+        return said + advice(command, self.first, forms_if_any()).said()
 
 
 def trace(desk, script, bails):

@@ -1,4 +1,4 @@
-"""The manual page of desk, in the macros of man(7), made of the manual of scripts."""
+"""The manual pages of desk and of desk-rez, in the macros of man(7), made of the manual of scripts and of the page of resources."""
 
 from desk_kit.markdown import NUMBERED, blocks_of, plain
 from desk_kit.manual import sections_of
@@ -12,6 +12,15 @@ HEAD = """.\\" Made by docs/make-manual of docs/SCRIPT.md.
 .SH NAME
 desk \\- runs a script of Toolbox calls on the desktop of the classic Macintosh
 .SH SYNOPSIS
+"""
+TOOL_HEAD = """.\\" Made by docs/make-manual of docs/RESOURCES.md.
+.TH {upper} 1 "" "desk" "User Commands"
+.SH NAME
+{name} \\- {does}
+.SH SYNOPSIS
+"""
+TOOL_FOOT = """.SH SEE ALSO
+docs/RESOURCES.md in the sources is the whole page, with examples. docs/SCRIPT.md is the manual of scripts.
 """
 FOOT = """.SH SEE ALSO
 docs/SCRIPT.md in the sources is the whole manual, with the words, answers and refusals of each command.
@@ -67,6 +76,16 @@ def commands_of(manual):
 def refusals_of(manual):
     """The section of refusals."""
     return ".SH REFUSALS\n" + "".join(tagged(name, meaning) for name, meaning in manual.refusals.items())
+
+
+def tool_page(text, name, does, sections):
+    """The page of a tool, from the text of its own page: how it is called, the first words of the first of these sections, and
+    all of them."""
+    found = sections_of(text)
+    called, _, described = found[sections[0]].removeprefix("`").partition("` ")
+    head = TOOL_HEAD.format(upper=name.upper(), name=escaped(name), does=escaped(does))
+    first = section("Description", f"It {described}")
+    return "".join([head, f".B {escaped(called)}\n", first, *(section(it, found[it]) for it in sections[1:]), TOOL_FOOT])
 
 
 def man_page(text, manual):

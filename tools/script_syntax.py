@@ -3,6 +3,8 @@
 import json
 from typing import NamedTuple
 
+from desk_kit.manual import DRAW
+
 # The classes of words, with what vim and TextMate call them.
 CLASSES = {
     "Command": ("Statement", "keyword.control"),
@@ -46,6 +48,7 @@ def places_of(manual):
     """The words of the manual beside commands, by their places. A clip may stand before an operation."""
     operations = [*manual.operations]
     found = [Words("Operation", [*operations, "clip"], "draw", 1), Words("Operation", operations, "draw clip", 1)]
+    found += [Words("Operation", [*forms], command) for command, forms in manual.inner.items() if command != DRAW]
     for command, forms in manual.forms.items():
         if kinds := manual.kinds_of(command):
             found.append(Words("Kind", kinds, command, forms[0].split(" ").index("KIND") - 1))

@@ -1,6 +1,7 @@
 # Completion of fish for the commands at the top of the repository: source this file, or link it into
 # ~/.config/fish/completions under the name of each command. The options and what follows them are those that the command itself
-# names in its --help; every other word is a script or a folder.
+# names in its --help; every other word is a script or a folder. The first word of desk-rez is one of its verbs, and its others
+# are files.
 
 # The lines of options in the help of the command that is typed, from the option on.
 function __desk_help
@@ -46,6 +47,26 @@ function __desk_scripts
     __fish_complete_path (commandline -ct) | string match -r '^[^\t]*(?:/|\.desk)(?:\t.*)?$'
 end
 
+# The verbs that the help of the command has that is typed.
+function __desk_verbs
+    set -l words (commandline -opc)
+    set -l command (string replace -r '^~/' "$HOME/" -- $words[1])
+    type -q -- $command; or return
+    $command --help 2>/dev/null </dev/null | string replace -r -f '^  ([a-z]+) FILE.*' '$1'
+end
+
+# The verbs of desk-rez, or behind one files of whatever name.
+function __desk_rez
+    set -l verbs (__desk_verbs)
+    for word in (commandline -opc)[2..-1]
+        if contains -- $word $verbs
+            __fish_complete_path (commandline -ct)
+            return
+        end
+    end
+    printf '%s\n' $verbs
+end
+
 function __desk_complete
     set -l words (commandline -opc)
     set -l value
@@ -62,12 +83,14 @@ function __desk_complete
         case ''
             if string match -q -- '-*' (commandline -ct)
                 __desk_options
+            else if string match -q -r '(^|/)desk-rez$' -- $words[1]
+                __desk_rez
             else
                 __desk_scripts
             end
     end
 end
 
-for command in desk desk-png desk-talk desk-test desk-view desk-web
+for command in desk desk-png desk-rez desk-talk desk-test desk-view desk-web
     complete -c $command -f -k -a '(__desk_complete)'
 end

@@ -1,2 +1,4 @@
+mod FormLemmas
 mod NameLemmas
+pub mod NamedLemmas
 mod VerbLemmas

@@ -1,5 +1,5 @@
 -- The words of `draw`: a window, perhaps a clip, and an operation with the words that follow its name.
-use Rattle.std.specs.Prelude.{ℕ, List, [], ◌∷◌, Option, Some, None, option_map, codes, if◌then◌else◌}
+use Rattle.std.specs.Prelude.{ℕ, ℤ, pos, int_le, List, [], ◌∷◌, ◌++◌, map, Option, Some, None, option_map, codes, if◌then◌else◌}
 use Rattle.std.specs.Str.{bytes_eq}
 use Rattle.tb_geom.specs.declared.rect.Rect.{Rect}
 use Rattle.tb_geom.specs.LentBytes.{are_rows}
@@ -8,12 +8,14 @@ use Rattle.lent_ops.specs.declared.op_ref.LineRef.{LineRef}
 use Rattle.lent_ops.specs.declared.op_ref.TextRef.{TextRef}
 use Rattle.lent_ops.specs.declared.op_ref.BitsRef.{BitsRef}
 use Rattle.lent_ops.specs.declared.op_ref.ShapeRef.{ShapeRef}
-use Rattle.lent_ops.specs.declared.op_ref.ShapeRef.TheVariants.{Erase, Invert, Fill, Frame, HLine, VLine, Text, Bits, FillRgn}
+use Rattle.lent_ops.specs.declared.op_ref.ShapeRef.TheVariants.{Erase, Invert, Fill, Frame, HLine, VLine, Text, Bits, FillRgn, Form}
 use Rattle.desk_call.specs.declared.window.Drawing.{Drawing}
 use Rattle.line_words.specs.Shapes.{Shape, ends, says, never, number, name, text, hex, serial, point, rect, mapped}
 use Rattle.line_words.specs.Tables.{named}
+use Rattle.command_words.specs.declared.forms.FormWord.{FormWord}
 use Rattle.command_words.specs.declared.operation.Operation.{Operation}
 use Rattle.command_words.specs.declared.operation.Operation.TheVariants as words
+use Rattle.command_words.specs.Forms.{drawn_forms, form_shape}
 use Rattle.command_words.specs.Names.{shade_of, source_mode_of, text_mode_of}
 
 -- MODE PAT
@@ -43,7 +45,11 @@ bits_shape = point (λ place. number (λ width. number (λ height. name (λ mode
 unfoldable pub region_shape : Shape (List ℕ × Shade)
 region_shape = hex (λ bytes. mapped (λ shade. (bytes, shade)) shade_shape)
 
--- the names of operations
+-- a form's numbers, MODE PAT
+abbrev pub shaded_form_shape : FormWord → Shape ShapeRef
+shaded_form_shape word = form_shape word (λ form. mapped (λ shade. Form form shade) shade_shape)
+
+-- the names of operations that every version has
 abbrev pub operations : List (List ℕ × Operation)
 operations =
     (codes "erase", words.Erase)
@@ -57,6 +63,14 @@ operations =
     ∷ (codes "rgn", words.Rgn)
     ∷ []
 
+-- and of those that are forms: version 3 brought them
+abbrev pub form_operations : ℤ → List (List ℕ × Operation)
+form_operations version = if int_le (pos 3) version then map (λ form. (form.0, words.Form form.1)) drawn_forms else []
+
+-- the names of operations in a script of this version
+unfoldable pub operations_of : ℤ → List (List ℕ × Operation)
+operations_of version = operations ++ form_operations version
+
 -- the words that follow a name, if an operation has it
 abbrev pub operation_shape : Option Operation → Shape ShapeRef
 operation_shape None = never
@@ -69,16 +83,18 @@ operation_shape (Some words.VLine) = mapped (λ p. VLine p.0 p.1) line_shape
 operation_shape (Some words.Text) = mapped Text run_shape
 operation_shape (Some words.Bits) = mapped Bits bits_shape
 operation_shape (Some words.Rgn) = mapped (λ p. FillRgn p.0 p.1) region_shape
+operation_shape (Some (words.Form word)) = shaded_form_shape word
 
--- an operation with its words, in a window with this clip
-unfoldable pub clipped_shape : ℕ → Option (List ℕ) → List ℕ → Shape Drawing
-clipped_shape window clip word =
-    mapped (λ shape. record { window = window; operation = record { clip = clip; shape = shape } }) (operation_shape (named word operations))
+-- an operation with its words, in a window with this clip, in a script of this version
+unfoldable pub clipped_shape : ℤ → ℕ → Option (List ℕ) → List ℕ → Shape Drawing
+clipped_shape version window clip word =
+    mapped (λ shape. record { window = window; operation = record { clip = clip; shape = shape } }) (operation_shape (named word (operations_of version)))
 
 -- HEX OP
-unfoldable pub clip_shape : ℕ → Shape Drawing
-clip_shape window = hex (λ clip. name (λ word. clipped_shape window (Some clip) word))
+unfoldable pub clip_shape : ℤ → ℕ → Shape Drawing
+clip_shape version window = hex (λ clip. name (λ word. clipped_shape version window (Some clip) word))
 
 -- W [clip HEX] OP
-unfoldable pub drawing_shape : Shape Drawing
-drawing_shape = serial (λ window. name (λ word. if bytes_eq word (codes "clip") then clip_shape window else clipped_shape window None word))
+unfoldable pub drawing_shape : ℤ → Shape Drawing
+drawing_shape version = serial (λ window. name (λ word.
+    if bytes_eq word (codes "clip") then clip_shape version window else clipped_shape version window None word))

@@ -3,6 +3,7 @@ pub mod ControlWords
 pub mod Drawings
 pub mod EventLines
 pub mod EventWords
+pub mod Forms
 pub mod FrameWords
 pub mod ListLines
 pub mod ListWords

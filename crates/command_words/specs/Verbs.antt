@@ -1,5 +1,5 @@
 -- The first words of commands.
-use Rattle.std.specs.Prelude.{ℕ, List, [], ◌∷◌, codes}
+use Rattle.std.specs.Prelude.{ℕ, ℤ, pos, int_le, List, [], ◌∷◌, ◌++◌, codes, if◌then◌else◌}
 use Rattle.command_words.specs.declared.controls.ControlVerb.TheVariants as controls
 use Rattle.command_words.specs.declared.events.EventVerb.TheVariants as events
 use Rattle.command_words.specs.declared.frames.FrameVerb.TheVariants as frames
@@ -11,14 +11,13 @@ use Rattle.command_words.specs.declared.windows.WindowVerb.TheVariants as window
 use Rattle.command_words.specs.declared.verb.Verb.{Verb}
 use Rattle.command_words.specs.declared.verb.Verb.TheVariants as words
 
--- each first word, and what it stands for; no word stands twice in it, so that its order says nothing
+-- each first word that every version has, and what it stands for
 unfoldable pub verbs : List (List ℕ × Verb)
 verbs =
     (codes "image", words.Image)
     ∷ (codes "move", words.Window windows.Move)
     ∷ (codes "draw", words.Window windows.Draw)
     ∷ (codes "window", words.Window windows.New)
-    ∷ (codes "float", words.Window windows.Float)
     ∷ (codes "close", words.Window windows.Close)
     ∷ (codes "show", words.Window windows.Show)
     ∷ (codes "hide", words.Window windows.Hide)
@@ -112,3 +111,19 @@ verbs =
     ∷ (codes "desk", words.Desk)
     ∷ (codes "version", words.Version)
     ∷ []
+
+-- the one that version 2 brought, where this version has it
+abbrev pub verbs_since_2 : ℤ → List (List ℕ × Verb)
+verbs_since_2 version = if int_le (pos 2) version then (codes "float", words.Window windows.Float) ∷ [] else []
+
+-- and the one that version 3 brought
+abbrev pub verbs_since_3 : ℤ → List (List ℕ × Verb)
+verbs_since_3 version = if int_le (pos 3) version then (codes "region", words.Window windows.Region) ∷ [] else []
+
+-- those of later versions
+abbrev pub later_verbs : ℤ → List (List ℕ × Verb)
+later_verbs version = verbs_since_2 version ++ verbs_since_3 version
+
+-- the first words of a script of this version; no word stands twice among them, so that their order says nothing
+unfoldable pub verbs_of : ℤ → List (List ℕ × Verb)
+verbs_of version = verbs ++ later_verbs version

@@ -10,6 +10,7 @@ use Rattle.line_words.specs.Shapes.{Shape, says, number, flag, name, text, seria
 use Rattle.command_words.specs.declared.windows.WindowVerb.{WindowVerb}
 use Rattle.command_words.specs.declared.windows.WindowVerb.TheVariants as verbs
 use Rattle.command_words.specs.Drawings.{drawing_shape}
+use Rattle.command_words.specs.Forms.{asked_shape}
 
 -- KIND h v width height SHOWN GOAWAY "title"
 abbrev pub new_shape : Shape NewWindow
@@ -50,25 +51,26 @@ no_picture window = record { window = window; picture = []; origin = record { h 
 abbrev pub scroll_shape : Shape WindowCall
 scroll_shape = serial (λ window. point (λ by. says (calls.Scroll (record { window = window; by = by }))))
 
--- the words that follow a first word, and what they ask
-unfoldable pub window_shape : WindowVerb → Shape WindowCall
-window_shape verbs.New = mapped calls.New new_shape
-window_shape verbs.Float = mapped calls.NewFloating new_shape
-window_shape verbs.Close = serial (λ window. says (calls.Dispose window))
-window_shape verbs.Show = serial (λ window. says (calls.Show window))
-window_shape verbs.Hide = serial (λ window. says (calls.Hide window))
-window_shape verbs.ShowHide = show_hide_shape
-window_shape verbs.Select = serial (λ window. says (calls.Select window))
-window_shape verbs.BringToFront = serial (λ window. says (calls.BringToFront window))
-window_shape verbs.SendBehind = behind_shape
-window_shape verbs.Move = move_shape
-window_shape verbs.Size = size_shape
-window_shape verbs.Zoom = zoom_shape
-window_shape verbs.Clear = serial (λ window. says (calls.SetPicture (no_picture window)))
-window_shape verbs.Draw = mapped calls.Draw drawing_shape
-window_shape verbs.Scroll = scroll_shape
-window_shape verbs.Find = point (λ place. says (calls.Find place))
-window_shape verbs.Front = says calls.Front
-window_shape verbs.Info = serial (λ window. says (calls.Info window))
-window_shape verbs.UpdateRegion = serial (λ window. says (calls.UpdateRegion window))
-window_shape verbs.VisibleRegion = serial (λ window. says (calls.VisibleRegion window))
+-- the words that follow a first word in a script of this version, and what they ask
+unfoldable pub window_shape : ℤ → WindowVerb → Shape WindowCall
+window_shape version verbs.New = mapped calls.New new_shape
+window_shape version verbs.Float = mapped calls.NewFloating new_shape
+window_shape version verbs.Close = serial (λ window. says (calls.Dispose window))
+window_shape version verbs.Show = serial (λ window. says (calls.Show window))
+window_shape version verbs.Hide = serial (λ window. says (calls.Hide window))
+window_shape version verbs.ShowHide = show_hide_shape
+window_shape version verbs.Select = serial (λ window. says (calls.Select window))
+window_shape version verbs.BringToFront = serial (λ window. says (calls.BringToFront window))
+window_shape version verbs.SendBehind = behind_shape
+window_shape version verbs.Move = move_shape
+window_shape version verbs.Size = size_shape
+window_shape version verbs.Zoom = zoom_shape
+window_shape version verbs.Clear = serial (λ window. says (calls.SetPicture (no_picture window)))
+window_shape version verbs.Draw = mapped calls.Draw (drawing_shape version)
+window_shape version verbs.Scroll = scroll_shape
+window_shape version verbs.Find = point (λ place. says (calls.Find place))
+window_shape version verbs.Front = says calls.Front
+window_shape version verbs.Info = serial (λ window. says (calls.Info window))
+window_shape version verbs.UpdateRegion = serial (λ window. says (calls.UpdateRegion window))
+window_shape version verbs.VisibleRegion = serial (λ window. says (calls.VisibleRegion window))
+window_shape version verbs.Region = mapped calls.Region asked_shape

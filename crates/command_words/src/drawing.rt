@@ -6,9 +6,10 @@ ghost use Rattle.std.specs.Prelude.{◌≡◌, Option};
 ghost use Rattle.line_words.specs.Shapes.{reading};
 ghost use Rattle.line_words.specs.Tables.{named};
 ghost use Rattle.command_words.specs.Drawings.{shade_shape, shaded_rect_shape, line_shape, run_shape};
-ghost use Rattle.command_words.specs.Drawings.{bits_shape, region_shape, operation_shape, operations};
-ghost use Rattle.command_words.specs.Drawings.{clipped_shape, clip_shape, drawing_shape};
+ghost use Rattle.command_words.specs.Drawings.{bits_shape, region_shape, shaded_form_shape, operation_shape};
+ghost use Rattle.command_words.specs.Drawings.{operations_of, clipped_shape, clip_shape, drawing_shape};
 
+use crate::forms::FormWord;
 use crate::names::{shade_of, source_mode_of, text_mode_of};
 use crate::operation::{Operation, operation_of};
 use desk_call::Drawing;
@@ -17,49 +18,54 @@ use lent_ops::{BitsRef, LineRef, OpRef, ShapeRef, TextRef};
 use line_words::Words;
 use tb_geom::{BytesRef, Rect, Refusal};
 
-/// The words after `draw`: a window, perhaps the word `clip` and a region, and an operation.
+/// The words after `draw` in a script of this version: a window, perhaps the word `clip` and a region, and an operation.
 #[tactic(auto, unfolding(crate::specs::Drawings::drawing_shape))]
-pub fn drawing<'a>(words: Words<'a>) -> Result<Drawing<'a>, Refusal>
-    ensures { result ≡ reading drawing_shape words.entry }
+pub fn drawing<'a>(version: i32, words: Words<'a>) -> Result<Drawing<'a>, Refusal>
+    ensures { result ≡ reading (drawing_shape version) words.entry }
 {
     let (window, words) = words.serial()?;
     let (name, words) = words.name()?;
     if name.as_slice() == b"clip".as_slice() {
-        clip(window, words)
+        clip(version, window, words)
     } else {
-        clipped(window, None, &name, words)
+        clipped(version, window, None, &name, words)
     }
 }
 
 /// The words after `clip`: the bytes of a region, and an operation.
 #[tactic(auto, unfolding(crate::specs::Drawings::clip_shape))]
-fn clip<'a>(window: u64, words: Words<'a>) -> Result<Drawing<'a>, Refusal>
-    ensures { result ≡ reading (clip_shape window) words.entry }
+fn clip<'a>(version: i32, window: u64, words: Words<'a>) -> Result<Drawing<'a>, Refusal>
+    ensures { result ≡ reading (clip_shape version window) words.entry }
 {
     let (clip, words) = words.hex()?;
     let (name, words) = words.name()?;
-    clipped(window, Some(clip), &name, words)
+    clipped(version, window, Some(clip), &name, words)
 }
 
 /// An operation with its words, for a window and with a clip.
 fn clipped<'a>(
+    version: i32,
     window: u64,
     clip: Option<BytesRef<'a>>,
     name: &BytesRef<'a>,
     words: Words<'a>,
 ) -> Result<Drawing<'a>, Refusal>
-    ensures { result ≡ reading (clipped_shape window clip.entry name.now) words.entry }
+    ensures { result ≡ reading (clipped_shape version window clip.entry name.now) words.entry }
 {
-    let shape = operation(name, words)?;
+    let shape = operation(version, name, words)?;
     let operation = OpRef { clip, shape };
     Ok(Drawing { window, operation })
 }
 
 /// The words after an operation's name.
-fn operation<'a>(name: &BytesRef<'a>, words: Words<'a>) -> Result<ShapeRef<'a>, Refusal>
-    ensures { result ≡ reading (operation_shape (named name.now operations)) words.entry }
+fn operation<'a>(
+    version: i32,
+    name: &BytesRef<'a>,
+    words: Words<'a>,
+) -> Result<ShapeRef<'a>, Refusal>
+    ensures { result ≡ reading (operation_shape (named name.now (operations_of version))) words.entry }
 {
-    match operation_of(name.as_slice()) {
+    match operation_of(version, name.as_slice()) {
         None => Err(Refusal::BadSyntax),
         Some(operation) => shape(operation, words),
     }
@@ -95,6 +101,7 @@ fn shape<'a>(operation: Operation, words: Words<'a>) -> Result<ShapeRef<'a>, Ref
             let (region, shade) = region(words)?;
             Ok(ShapeRef::FillRgn(region, shade))
         }
+        Operation::Form(word) => shaded_form(word, words),
     }
 }
 
@@ -174,4 +181,14 @@ fn region<'a>(words: Words<'a>) -> Result<(BytesRef<'a>, Shade), Refusal>
     let (region, words) = words.hex()?;
     let shade = shade(words)?;
     Ok((region, shade))
+}
+
+/// The numbers of a form, a mode and a pattern.
+#[tactic(auto, using(crate::proofs::FormLemmas::form_then, line_words::proofs::Mapped::reading_mapped))]
+fn shaded_form<'a>(word: FormWord, words: Words<'a>) -> Result<ShapeRef<'a>, Refusal>
+    ensures { result ≡ reading (shaded_form_shape word) words.entry }
+{
+    let (form, words) = word.form(words)?;
+    let shade = shade(words)?;
+    Ok(ShapeRef::Form(form, shade))
 }

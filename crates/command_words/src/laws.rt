@@ -1,15 +1,16 @@
 //! What the definitions of verbs and names say, in the words of their subject.
-ghost use Rattle.std.specs.Prelude.{◌≡◌, ◌↔◌, ℕ, List, Some, None, Contains};
+ghost use Rattle.std.specs.Prelude.{◌≡◌, ◌↔◌, ℕ, ℤ, List, Some, None, Contains};
 ghost use Rattle.bit_map.specs.declared.mode.Mode.{Mode};
 ghost use Rattle.bit_map.specs.Modes.{pattern_name, source_name};
 ghost use Rattle.line_words.specs.Tables.{named};
 ghost use Rattle.command_words.specs.Names.{pattern_modes, source_modes};
-ghost use Rattle.command_words.specs.Verbs.{verbs};
+ghost use Rattle.command_words.specs.Verbs.{verbs_of};
 ghost use Rattle.command_words.specs.declared.verb.Verb.{Verb};
 
-/// A first word stands for a verb exactly where the table has the two.
+/// In a script of any version a first word stands for a verb exactly where the table of that version has the two.
 pub fn a_verb_is_one_of_the_table()
-    ensures { (word : List ℕ) (verb : Verb) → named word verbs ≡ Some verb ↔ Contains verbs (word, verb) }
+    ensures { (version : ℤ) (word : List ℕ) (verb : Verb) → named word (verbs_of version) ≡ Some verb
+        ↔ Contains (verbs_of version) (word, verb) }
 {}
 
 /// Each mode is read by its name for a pattern where a pattern is put down, by its name for an image where

@@ -2,9 +2,10 @@
 //!
 //! The first word of a line is a `Verb`, by what it is about: a `WindowVerb`, an `UpdateVerb`, a `FrameVerb`, an `OutlineVerb`,
 //! a `ControlVerb`, a `ListVerb`, a `MenuVerb` or an `EventVerb`, or a command about the whole desk or the whole script.
-//! `verb_of` finds it in the one table of all (`specs/Verbs.antt`). The method `call` of each of the eight reads the words that
-//! follow. Which these are, and what they ask, `specs/WindowWords.antt` states and its likes, and for what is drawn
-//! `Drawings.antt`. A cell is its column and then its row.
+//! `verb_of` finds it in the one table of all (`specs/Verbs.antt`), with the verbs of later versions up to the script's. The
+//! method `call` of each of the eight reads the words that follow. Which these are, and what they ask, `specs/WindowWords.antt`
+//! states and its likes, and for what is drawn `Drawings.antt`, with the `Forms.antt` of version 3. A cell is its column and
+//! then its row.
 //!
 //! `write_window_reply` and its likes write the line of a reply (`specs/WindowLines.antt` and its likes). `laws` says that
 //! verbs are those of the table, and that modes are read by their names.
@@ -18,6 +19,7 @@ mod controls;
 mod drawing;
 mod event_lines;
 mod events;
+mod forms;
 mod frames;
 pub mod laws;
 mod list_lines;

@@ -1,8 +1,9 @@
 //! The names of operations.
 ghost use Rattle.std.specs.Prelude.{◌≡◌};
 ghost use Rattle.line_words.specs.Tables.{named};
-ghost use Rattle.command_words.specs.Drawings.{operations};
+ghost use Rattle.command_words.specs.Drawings.{operations_of, form_operations};
 
+use crate::forms::{FormWord, drawn_form_of};
 use line_words::named;
 
 /// What `draw` does. It says which words follow.
@@ -17,9 +18,10 @@ pub enum Operation {
     Text,
     Bits,
     Rgn,
+    Form(FormWord),
 }
 
-/// Each name, and what it stands for.
+/// Each name that every version has, and what it stands for.
 static OPERATIONS: [(&[u8], Operation); 9] = [
     (b"erase", Operation::Erase),
     (b"invert", Operation::Invert),
@@ -32,9 +34,25 @@ static OPERATIONS: [(&[u8], Operation); 9] = [
     (b"rgn", Operation::Rgn),
 ];
 
-/// The operation with this name, byte by byte; None of a word that names none.
-pub fn operation_of(word: &[u8]) -> Option<Operation>
-    ensures { result ≡ named word.now operations }
+/// The version that brought the forms.
+const VERSION_OF_FORMS: i32 = 3;
+
+/// The operation with this name in a script of this version, byte by byte; None of a word that names none.
+pub fn operation_of(version: i32, word: &[u8]) -> Option<Operation>
+    ensures { result ≡ named word.now (operations_of version) }
 {
-    named(&OPERATIONS, word)
+    match named(&OPERATIONS, word) {
+        Some(operation) => Some(operation),
+        None => form_operation_of(version, word),
+    }
+}
+
+/// The same of the operations that are forms.
+fn form_operation_of(version: i32, word: &[u8]) -> Option<Operation>
+    ensures { result ≡ named word.now (form_operations version) }
+{
+    if version < VERSION_OF_FORMS {
+        return None;
+    }
+    drawn_form_of(word).map(Operation::Form)
 }

@@ -1,7 +1,7 @@
 //! The first words of commands.
 ghost use Rattle.std.specs.Prelude.{◌≡◌};
 ghost use Rattle.line_words.specs.Tables.{named};
-ghost use Rattle.command_words.specs.Verbs.{verbs};
+ghost use Rattle.command_words.specs.Verbs.{verbs, verbs_since_2, verbs_since_3, later_verbs, verbs_of};
 
 use crate::controls::ControlVerb;
 use crate::events::EventVerb;
@@ -29,14 +29,13 @@ pub enum Verb {
     Event(EventVerb),
 }
 
-/// Each first word, and what it stands for. Words that scripts have most often stand in front, since they are looked up from
+/// Each first word that every version has, and what it stands for. Words that scripts have most often stand in front, since they are looked up from
 /// there on.
-static VERBS: [(&[u8], Verb); 97] = [
+static VERBS: [(&[u8], Verb); 96] = [
     (b"image", Verb::Image),
     (b"move", Verb::Window(WindowVerb::Move)),
     (b"draw", Verb::Window(WindowVerb::Draw)),
     (b"window", Verb::Window(WindowVerb::New)),
-    (b"float", Verb::Window(WindowVerb::Float)),
     (b"close", Verb::Window(WindowVerb::Close)),
     (b"show", Verb::Window(WindowVerb::Show)),
     (b"hide", Verb::Window(WindowVerb::Hide)),
@@ -131,10 +130,52 @@ static VERBS: [(&[u8], Verb); 97] = [
     (b"version", Verb::Version),
 ];
 
-/// The verb that this word is, byte by byte; None of a word that is no verb.
+/// The verb that this word is in a script of this version, byte by byte; None of a word that is no verb there.
+pub fn verb_of(version: i32, word: &[u8]) -> Option<Verb>
+    ensures { result ≡ named word.now (verbs_of version) }
+{
+    match common_verb_of(word) {
+        Some(verb) => Some(verb),
+        None => later_verb_of(version, word),
+    }
+}
+
+/// The same of the verbs that every version has.
 #[tactic(auto, unfolding(crate::specs::Verbs::verbs))]
-pub fn verb_of(word: &[u8]) -> Option<Verb>
+fn common_verb_of(word: &[u8]) -> Option<Verb>
     ensures { result ≡ named word.now verbs }
 {
     named(&VERBS, word)
+}
+
+/// The same of the verbs that later versions brought.
+fn later_verb_of(version: i32, word: &[u8]) -> Option<Verb>
+    ensures { result ≡ named word.now (later_verbs version) }
+{
+    match verb_since_2(version, word) {
+        Some(verb) => Some(verb),
+        None => verb_since_3(version, word),
+    }
+}
+
+/// The same of `float`, which version 2 brought.
+fn verb_since_2(version: i32, word: &[u8]) -> Option<Verb>
+    ensures { result ≡ named word.now (verbs_since_2 version) }
+{
+    if version >= 2 && word == b"float".as_slice() {
+        Some(Verb::Window(WindowVerb::Float))
+    } else {
+        None
+    }
+}
+
+/// The same of `region`, which version 3 brought.
+fn verb_since_3(version: i32, word: &[u8]) -> Option<Verb>
+    ensures { result ≡ named word.now (verbs_since_3 version) }
+{
+    if version >= 3 && word == b"region".as_slice() {
+        Some(Verb::Window(WindowVerb::Region))
+    } else {
+        None
+    }
 }

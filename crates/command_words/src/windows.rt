@@ -5,6 +5,7 @@ ghost use Rattle.command_words.specs.WindowWords.{new_shape, behind_shape, move_
 ghost use Rattle.command_words.specs.WindowWords.{show_hide_shape, scroll_shape, other_window, no_picture, window_shape};
 
 use crate::drawing::drawing;
+use crate::forms::asked_form;
 use def_iface::Size;
 use desk_call::{
     MoveWindow, NewPicture, NewWindow, PictureRef, ScrollPicture, SendBehind, ShowHide, SizeWindow,
@@ -36,13 +37,14 @@ pub enum WindowVerb {
     Info,
     UpdateRegion,
     VisibleRegion,
+    Region,
 }
 
 impl WindowVerb {
-    /// What is asked by the words that follow.
+    /// What is asked by the words that follow, in a script of this version.
     #[tactic(auto, using(line_words::proofs::Mapped::reading_mapped), unfolding(crate::specs::WindowWords::window_shape))]
-    pub fn call<'a>(self, words: Words<'a>) -> Result<WindowCall<'a>, Refusal>
-        ensures { result ≡ reading (window_shape self) words.entry }
+    pub fn call<'a>(self, version: i32, words: Words<'a>) -> Result<WindowCall<'a>, Refusal>
+        ensures { result ≡ reading (window_shape version self) words.entry }
     {
         match self {
             WindowVerb::New => Ok(WindowCall::New(new_window(words)?)),
@@ -58,13 +60,14 @@ impl WindowVerb {
             WindowVerb::Size => resize(words),
             WindowVerb::Zoom => zoom(words),
             WindowVerb::Clear => Ok(WindowCall::SetPicture(no_picture(words.last_serial()?))),
-            WindowVerb::Draw => Ok(WindowCall::Draw(drawing(words)?)),
+            WindowVerb::Draw => Ok(WindowCall::Draw(drawing(version, words)?)),
             WindowVerb::Scroll => scroll(words),
             WindowVerb::Find => Ok(WindowCall::Find(words.last_point()?)),
             WindowVerb::Front => words.end().map(|_| WindowCall::Front),
             WindowVerb::Info => Ok(WindowCall::Info(words.last_serial()?)),
             WindowVerb::UpdateRegion => Ok(WindowCall::UpdateRegion(words.last_serial()?)),
             WindowVerb::VisibleRegion => Ok(WindowCall::VisibleRegion(words.last_serial()?)),
+            WindowVerb::Region => Ok(WindowCall::Region(asked_form(words)?)),
         }
     }
 }

@@ -21,7 +21,7 @@ use Rattle.desk_call.specs.declared.outline.OutlineCall.TheVariants.{StepDrag, E
 use Rattle.desk_call.specs.declared.update.UpdateCall.{UpdateCall}
 use Rattle.desk_call.specs.declared.update.UpdateCall.TheVariants.{Draw as DrawLayers, End}
 use Rattle.desk_call.specs.declared.window.WindowCall.{WindowCall}
-use Rattle.desk_call.specs.declared.window.WindowCall.TheVariants.{Find, Front, Info, VisibleRegion, UpdateRegion}
+use Rattle.desk_call.specs.declared.window.WindowCall.TheVariants.{Find, Front, Info, VisibleRegion, UpdateRegion, Region}
 
 -- the calls on windows that ask may come at any time
 abbrev pub window_standing : WindowCall → Standing
@@ -30,6 +30,7 @@ window_standing Front = Asks
 window_standing (Info s) = Asks
 window_standing (VisibleRegion s) = Asks
 window_standing (UpdateRegion s) = Asks
+window_standing (Region f) = Asks
 window_standing _ = Changes
 
 -- layer draws and the end belong to the update of their window

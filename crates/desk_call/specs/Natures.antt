@@ -1,5 +1,5 @@
 -- What kind of call it is, as far as the desk asks before or after a manager performs it.
-use Rattle.std.specs.Prelude.{ℕ, Bool, true, false, Option, None, Some}
+use Rattle.std.specs.Prelude.{ℕ, Option, None, Some}
 use Rattle.desk_call.specs.declared.activity.Standing.{Standing}
 use Rattle.desk_call.specs.declared.call.Call.{Call}
 use Rattle.desk_call.specs.declared.call.Call.TheVariants.{Window, Control}
@@ -10,7 +10,7 @@ use Rattle.desk_call.specs.declared.nature.Asked.TheVariants.{Nothing, WindowAt,
 use Rattle.desk_call.specs.declared.nature.Asked.TheVariants as asked
 use Rattle.desk_call.specs.declared.nature.Nature.{Nature}
 use Rattle.desk_call.specs.declared.window.WindowCall.{WindowCall}
-use Rattle.desk_call.specs.declared.window.WindowCall.TheVariants.{Dispose, Find, NewFloating, VisibleRegion, UpdateRegion}
+use Rattle.desk_call.specs.declared.window.WindowCall.TheVariants.{Dispose, Find, VisibleRegion, UpdateRegion}
 use Rattle.desk_call.specs.Gates.{control_standing, standing_of, window_standing}
 
 -- the window that is gone once the call was done
@@ -29,17 +29,12 @@ abbrev pub control_asks : ControlCall → Asked
 control_asks (controls.Find p) = ControlAt p
 control_asks _ = Nothing
 
--- floating windows are of version 2
-abbrev pub is_floating : WindowCall → Bool
-is_floating (NewFloating w) = true
-is_floating _ = false
-
 -- a call of this standing, and no more than that
 abbrev pub plain : Standing → Nature
-plain standing = record { standing = standing; ends = None; asks = Nothing; is_version_2 = false }
+plain standing = record { standing = standing; ends = None; asks = Nothing }
 
 abbrev pub window_nature : WindowCall → Nature
-window_nature call = record { standing = window_standing call; ends = window_ends call; asks = window_asks call; is_version_2 = is_floating call }
+window_nature call = record { standing = window_standing call; ends = window_ends call; asks = window_asks call }
 
 abbrev pub control_nature : ControlCall → Nature
 control_nature call = record (plain (control_standing call)) { asks = control_asks call }
@@ -54,9 +49,5 @@ asked_of (Window call) = window_asks call
 asked_of (Control call) = control_asks call
 asked_of _ = Nothing
 
-abbrev pub is_of_version_2 : Call → Bool
-is_of_version_2 (Window call) = is_floating call
-is_of_version_2 _ = false
-
 abbrev pub nature_of : Call → Nature
-nature_of call = record { standing = standing_of call; ends = ends_of call; asks = asked_of call; is_version_2 = is_of_version_2 call }
+nature_of call = record { standing = standing_of call; ends = ends_of call; asks = asked_of call }

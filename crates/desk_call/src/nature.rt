@@ -18,8 +18,6 @@ pub struct Nature {
     pub ends: Option<u64>,
     /// What it asks for that something in front of the windows may answer.
     pub asks: Asked,
-    /// Whether a script needs version 2 for it.
-    pub is_version_2: bool,
 }
 
 /// What a call asks for that a pulled menu or an open update may answer in the place of the windows.
@@ -46,7 +44,6 @@ impl Nature {
             standing,
             ends: None,
             asks: Asked::Nothing,
-            is_version_2: false,
         }
     }
 
@@ -89,13 +86,11 @@ impl WindowCall<'_> {
             WindowCall::Find(point) => Nature::asking(Asked::WindowAt(*point)),
             WindowCall::VisibleRegion(window) => Nature::asking(Asked::VisibleRegion(*window)),
             WindowCall::UpdateRegion(window) => Nature::asking(Asked::UpdateRegion(*window)),
-            WindowCall::Front | WindowCall::Info(_) => Nature::plain(Standing::Asks),
+            WindowCall::Front | WindowCall::Info(_) | WindowCall::Region(_) => {
+                Nature::plain(Standing::Asks)
+            }
             WindowCall::Dispose(window) => Nature {
                 ends: Some(*window),
-                ..changes
-            },
-            WindowCall::NewFloating(_) => Nature {
-                is_version_2: true,
                 ..changes
             },
             _ => changes,

@@ -11,6 +11,7 @@ use Rattle.draw_port.specs.declared.shapes.Shape.TheVariants.{Erase, Invert, Fil
 use Rattle.lent_ops.specs.declared.op_ref.OpRef.{OpRef}
 use Rattle.lent_ops.specs.declared.op_ref.ShapeRef.{ShapeRef}
 use Rattle.lent_ops.specs.declared.op_ref.ShapeRef.TheVariants as lent
+use Rattle.lent_ops.specs.Forms.{form_pixels}
 use Rattle.lent_ops.specs.OpRefs.{line_of}
 use Rattle.desk_call.specs.declared.update.AreaRef.{AreaRef}
 use Rattle.desk_call.specs.declared.update.AreaRef.TheVariants as areas
@@ -37,6 +38,7 @@ shape_of (lent.Bits b) = Bits (record {
   rows = b.rows;
 })
 shape_of (lent.FillRgn bytes shade) = FillRgn (pixels_of bytes) shade
+shape_of (lent.Form form shade) = FillRgn (form_pixels form) shade
 
 -- its operation: the shape, cut to its clip, if it has one
 abbrev pub operation_of : OpRef → Op

@@ -29,7 +29,8 @@ pub fn desk_after(
     ensures headline { IfOk result (λ r. (first : ToolboxState) × IsJustBegun first
         × IsHeadline first calls.now r.1.items (⟦<Toolbox as Desk>⟧.state r.0 stock.new)) }
     ensures asked { IfOk result (λ r. IsDeskOf width height bar font (⟦<Toolbox as Desk>⟧.state r.0 stock.new)) }
-    ensures refused { IfErr result (λ e. e ≡ (if screens.is_screen width height bar then Refusal.NoMemory else Refusal.OutOfRange)) }
+    ensures refused { IfErr result
+        (λ e. e ≡ (if screens.is_screen width height bar then Refusal.NoMemory else Refusal.OutOfRange)) }
     ensures full { OnErr result (AreAllFull (⟦<Stock as StockedAll>⟧.all_slots stock.new)) }
 {
     let mut desk = match Toolbox::new(alloc, width, height, bar, font) {

@@ -24,6 +24,7 @@ window_asks asks.Front a busy may = refl
 window_asks (asks.Info s) a busy may = refl
 window_asks (asks.VisibleRegion s) a busy may = refl
 window_asks (asks.UpdateRegion s) a busy may = refl
+window_asks (asks.Region f) a busy may = refl
 window_asks _ a busy may = absurd (cc)
 
 -- a call that asks changes nothing
@@ -33,6 +34,7 @@ asking_changes_nothing asks.Front answer before after done e = done.1
 asking_changes_nothing (asks.Info s) answer before after done e = done.1
 asking_changes_nothing (asks.VisibleRegion s) answer before after done e = done.1
 asking_changes_nothing (asks.UpdateRegion s) answer before after done e = done.1
+asking_changes_nothing (asks.Region f) answer before after done e = done.1
 asking_changes_nothing _ answer before after done e = absurd (cc)
 
 pub asked_changes_nothing : (call : WindowCall) (answer : Result WindowReply Refusal) (before after : FullState) → IsWindowStep call answer before after → window_standing call ≡ Asks → IsUnchanged before after

@@ -1,2 +1,3 @@
--- Why operations are refused.
+-- Why operations are refused, and bytes of forms.
 pub mod JudgeLemmas
+pub mod FormLemmas

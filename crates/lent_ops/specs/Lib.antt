@@ -1,2 +1,4 @@
--- What operations are that calls carry.
+-- What operations are that calls carry, and shapes that they paint or frame.
 pub mod OpRefs
+pub mod Forms
+pub mod Judged

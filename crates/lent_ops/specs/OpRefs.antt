@@ -14,7 +14,8 @@ use Rattle.draw_port.specs.declared.shapes.Shape.TheVariants.{Erase, Invert, Fil
 use Rattle.lent_ops.specs.declared.op_ref.LineRef.{LineRef}
 use Rattle.lent_ops.specs.declared.op_ref.OpRef.{OpRef}
 use Rattle.lent_ops.specs.declared.op_ref.ShapeRef.{ShapeRef}
-use Rattle.lent_ops.specs.declared.op_ref.ShapeRef.TheVariants.{Erase as EraseRef, Invert as InvertRef, Fill as FillRef, Frame as FrameRef, HLine as HLineRef, VLine as VLineRef, Text as RunRef, Bits as ImageRef, FillRgn as FillRgnRef}
+use Rattle.lent_ops.specs.declared.op_ref.ShapeRef.TheVariants.{Erase as EraseRef, Invert as InvertRef, Fill as FillRef, Frame as FrameRef, HLine as HLineRef, VLine as VLineRef, Text as RunRef, Bits as ImageRef, FillRgn as FillRgnRef, Form as FormShapeRef}
+use Rattle.lent_ops.specs.Forms.{is_form_in_range, form_pixels}
 
 -- whether the image of a shape has rows and columns, and its bytes are those of its rows; of a shape without one, true
 abbrev pub has_rows : ShapeRef → Bool
@@ -25,8 +26,8 @@ has_rows s = true
 abbrev pub is_line : LineRef → Bool
 is_line l = in_plane l.start && (int_le (pos 0) l.count && int_le l.count (pos 1024))
 
--- each number of a shape lies in its range: a coordinate in -16384..16383, the count of a line in 0..1024, and the sides
--- of an image are 256 at most
+-- each number of a shape lies in its range: a coordinate in -16384..16383, the count of a line in 0..1024, those of a form
+-- in theirs, and the sides of an image are 256 at most
 abbrev pub is_shape_in_range : ShapeRef → Bool
 is_shape_in_range (EraseRef r) = is_in_range r
 is_shape_in_range (InvertRef r) = is_in_range r
@@ -37,6 +38,7 @@ is_shape_in_range (VLineRef l k) = is_line l
 is_shape_in_range (RunRef t) = in_plane t.pen
 is_shape_in_range (ImageRef b) = in_plane b.place && (int_le b.width (pos 256) && int_le b.height (pos 256))
 is_shape_in_range (FillRgnRef bytes k) = true
+is_shape_in_range (FormShapeRef f k) = is_form_in_range f
 
 -- whether a text has more than 255 characters
 abbrev pub is_long : ShapeRef → Bool
@@ -126,6 +128,7 @@ MeansShape (VLineRef l k) s = s ≡ VLine (line_of l) k
 MeansShape (RunRef t) s = s ≡ Text (record { pen = t.pen; mode = t.mode; text = t.text })
 MeansShape (ImageRef b) s = s ≡ Bits (record { place = b.place; width = nat_abs b.width; height = nat_abs b.height; mode = b.mode; rows = b.rows })
 MeansShape (FillRgnRef bytes k) s = (g : Pixels) × IsRegionBytes bytes g × (s ≡ FillRgn g k)
+MeansShape (FormShapeRef f k) s = s ≡ FillRgn (form_pixels f) k
 
 -- the clip is the one whose bytes are given, where they are
 abbrev pub MeansClip : Option (List ℕ) → Option Pixels → Type 0

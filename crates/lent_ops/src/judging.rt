@@ -18,7 +18,8 @@ impl OpRef<'_> {
     /// where an image is without rows or columns, or its bytes are not `(width + 7) / 8` for each row;
     /// BadRegion where the bytes of the clip or of the shape's region have not the form of a region's;
     /// OutOfRange where a coordinate of the shape or of a region lies outside -16384..=16383, the count
-    /// of a line outside 0..=1024, or an image is wider or higher than 256; TooLong where a text has more than 255 characters.
+    /// of a line outside 0..=1024, a side of a form's corner outside 0..=32767 or of its pen outside 0..=1024, or an
+    /// image is wider or higher than 256; TooLong where a text has more than 255 characters.
     pub fn judge(&self) -> Result<(), Refusal>
         ensures { MatchResult result (λ _. IsGood self.now) (IsRefused self.now) }
     {
@@ -97,6 +98,7 @@ impl ShapeRef<'_> {
             ShapeRef::Text(run) => run.pen.is_in_range(),
             ShapeRef::Bits(bits) => bits.is_near(),
             ShapeRef::FillRgn(..) => true,
+            ShapeRef::Form(form, _) => form.is_near(),
         }
     }
 

@@ -4,10 +4,17 @@
 //! memory either, why the operation is refused (`IsRefused`), and `OpRef::to_op` makes the `Op` of
 //! `draw_port` that it means (`IsMeant`), with bytes and regions of its own. The bytes are the `BytesRef` of
 //! `tb_geom`, which contracts see as the list of them.
+//!
+//! A `FormRef` is a shape of `shape_region`, painted or framed, whose numbers nobody has judged. Once `FormRef::is_near`
+//! says that each lies in its range, `to_region` gives the region of its pixels, and `to_bytes` the bytes of that
+//! region. An operation with a form is a fill of that region.
 #![tactic(auto)]
 
+mod form_ref;
+mod forms;
 mod judging;
 mod op_ref;
 mod owning;
 
+pub use form_ref::{CornerRef, FormRef, PenRef};
 pub use op_ref::{BitsRef, LineRef, OpRef, ShapeRef, TextRef};

@@ -1,4 +1,5 @@
 //! Operations as calls carry them.
+use crate::form_ref::FormRef;
 use bit_map::Mode;
 use draw_port::{Shade, TextMode};
 use tb_geom::{BytesRef, Point, Rect};
@@ -40,6 +41,8 @@ pub enum ShapeRef<'a> {
     Text(TextRef<'a>),
     Bits(BitsRef<'a>),
     FillRgn(BytesRef<'a>, Shade),
+    /// A shape that is painted or framed, as the fill of its region.
+    Form(FormRef, Shade),
 }
 
 /// A drawing operation as a call carries it: `Op`, with borrowed bytes that nobody has judged.

@@ -61,6 +61,7 @@ impl ShapeRef<'_> {
             ShapeRef::Text(run) => Ok(Shape::Text(run.to_run())),
             ShapeRef::Bits(bits) => Ok(Shape::Bits(bits.to_rows(alloc)?)),
             ShapeRef::FillRgn(bytes, shade) => Ok(Shape::FillRgn(to_region(bytes, alloc)?, *shade)),
+            ShapeRef::Form(form, shade) => Ok(Shape::FillRgn(form.to_region(alloc)?, *shade)),
         }
     }
 }

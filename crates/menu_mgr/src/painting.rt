@@ -19,7 +19,8 @@ impl Menus {
         requires live { AreLive (⟦<Self as MenusOnStock>⟧.menus self.now) }
         requires place { is_menu_place pulled.place ≡ true }
         requires size { is_menu_size pulled.size ≡ true }
-        ensures { IsShown font.now (pulled_of (Pulling pulled) (⟦<Self as MenusOnStock>⟧.menus self.now)) map.old map.new }
+        ensures { IsShown font.now (pulled_of (Pulling pulled) (⟦<Self as MenusOnStock>⟧.menus self.now))
+            map.old map.new }
     {
         if let Some(at) = self.list.find(i32::from(pulled.menu)) {
             let listed = &self.list.menus[at];

@@ -2,10 +2,10 @@
 
 use bit_map::{Mode, Pattern};
 use draw_port::{Picture, TextMode};
-use lent_ops::{BitsRef, LineRef, OpRef, ShapeRef, TextRef};
+use lent_ops::{BitsRef, CornerRef, FormRef, LineRef, OpRef, PenRef, ShapeRef, TextRef};
 use std::test::Fail;
 use strike_font::Font;
-use tb_geom::{BytesRef, Refusal};
+use tb_geom::{BytesRef, Rect, Refusal};
 use test_pixels::images::{drawn, shade, shows};
 use test_pixels::small::SMALL;
 use test_pixels::{point, rect};
@@ -95,6 +95,86 @@ fn given_operations_are_drawn(rt: HostRuntime) -> Result<(), Fail> {
         shows(
             &shown,
             "10010001 01010010 00000000 00000000 00000000 00000000 00000000 00000000 "
+        )
+    );
+    Ok(())
+}
+
+/// A form that is filled.
+fn filled(form: FormRef) -> ShapeRef<'static> {
+    ShapeRef::Form(form, shade(Pattern::BLACK, Mode::Xor))
+}
+
+/// The sides of most forms.
+const EIGHT: Rect = rect!(0, 0, 8, 8);
+
+/// Why a round rectangle with this corner is refused.
+fn corner_refusal(width: i32, height: i32) -> Option<Refusal> {
+    let corner = CornerRef { width, height };
+    refusal(None, filled(FormRef::Round(EIGHT, corner)))
+}
+
+/// Why the frame of an oval by this pen is refused.
+fn pen_refusal(width: i32, height: i32) -> Option<Refusal> {
+    let pen = PenRef { width, height };
+    refusal(None, filled(FormRef::FrameOval(EIGHT, pen)))
+}
+
+#[test]
+fn forms_are_refused_out_of_range(rt: HostRuntime) {
+    let far = rect!(0, 0, 16384, 1);
+    let out = Some(Refusal::OutOfRange);
+    assert!(rt; refusal(None, filled(FormRef::Oval(EIGHT))) == None);
+    assert!(rt; refusal(None, filled(FormRef::Oval(far))) == out);
+    assert!(rt; refusal(None, filled(FormRef::Rect(far))) == out);
+    assert!(rt; corner_refusal(0, 32767) == None);
+    assert!(rt; corner_refusal(-1, 0) == out);
+    assert!(rt; corner_refusal(0, -1) == out);
+    assert!(rt; corner_refusal(32768, 1) == out);
+    assert!(rt; corner_refusal(1, 32768) == out);
+    assert!(rt; pen_refusal(1024, 0) == None);
+    assert!(rt; pen_refusal(1025, 1) == out);
+    assert!(rt; pen_refusal(1, 1025) == out);
+    assert!(rt; pen_refusal(-1, 1) == out);
+    assert!(rt; pen_refusal(1, -1) == out);
+    assert!(rt; refusal(Some(&[1]), filled(FormRef::Oval(far))) == Some(Refusal::BadRegion));
+}
+
+#[test]
+fn forms_are_drawn(rt: HostRuntime) -> Result<(), Fail> {
+    let alloc = rt.alloc();
+    let font = Font::from_bytes(alloc, &SMALL)?;
+    let mut picture = Picture::new(alloc);
+    let corner = CornerRef {
+        width: 5,
+        height: 5,
+    };
+    let pen = PenRef {
+        width: 2,
+        height: 1,
+    };
+    let frame = OpRef {
+        clip: None,
+        shape: filled(FormRef::FrameRound(EIGHT, corner, pen)),
+    };
+    picture.push(frame.to_op(alloc)?)?;
+    let shown = drawn(alloc, &font, &picture)?;
+    assert!(rt;
+        shows(
+            &shown,
+            "01111110 11000011 11000011 11000011 11000011 11000011 11000011 01111110 "
+        )
+    );
+    let round = OpRef {
+        clip: None,
+        shape: filled(FormRef::Round(EIGHT, corner)),
+    };
+    picture.push(round.to_op(alloc)?)?;
+    let shown = drawn(alloc, &font, &picture)?;
+    assert!(rt;
+        shows(
+            &shown,
+            "00000000 00111100 00111100 00111100 00111100 00111100 00111100 00000000 "
         )
     );
     Ok(())

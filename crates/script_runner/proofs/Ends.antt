@@ -22,9 +22,9 @@ use Rattle.watched_io.proofs.Written.{Sent-nil, Sent-trans, BrokeOff-after}
 
 -- one more line at the end
 pub written-more : (raw : Bool) (old : ScriptState) (lines : List (List ℕ)) (text : List ℕ) (middle : ScriptState) (line more : List ℕ) (new : ScriptState)
-    → Written raw old lines text middle → SaidAnswers raw middle (said line) more new → Written raw old (lines ++ line ∷ []) (text ++ more) new
+    → Written raw old lines text middle → SaidAnswers raw middle (said middle.version line) more new → Written raw old (lines ++ line ∷ []) (text ++ more) new
 written-more raw old [] text middle line more new (none, same) answered =
-    (new, more, [], subst (λ s. SaidAnswers raw s (said line) more new) same answered, (refl, refl), ap (λ l. l ++ more) none ∙ sym (append-nil more))
+    (new, more, [], subst (λ s. SaidAnswers raw s (said s.version line) more new) same answered, (refl, refl), ap (λ l. l ++ more) none ∙ sym (append-nil more))
 written-more raw old (first ∷ lines) text middle line more new (s, front, others, one, rest, whole) answered =
     (s, front, others ++ more, one, written-more raw s lines others middle line more new rest answered, ap (λ l. l ++ more) whole ∙ append_assoc front others more)
 
@@ -66,16 +66,16 @@ module _ (raw : Bool) (first : ScriptState) (input : Input) (old : Output) where
 
     -- the line that a newline ends here was answered
     module _ (b : ℕ) (ahead : List ℕ) (so_far : SoFar raw first input old rest new state part (b ∷ ahead)) (state' : ScriptState) (new' : Output) where
-      ended : (ten : b ≡ 10) (more : List ℕ) → SaidAnswers raw state (said_held part) more state' → Written raw first (whole_lines (so_far.seen ++ b ∷ [])) (so_far.text ++ more) state'
+      ended : (ten : b ≡ 10) (more : List ℕ) → SaidAnswers raw state (said_held state.version part) more state' → Written raw first (whole_lines (so_far.seen ++ b ∷ [])) (so_far.text ++ more) state'
       ended ten more answered =
           let line = strip_carriage_return (last_part so_far.seen) in
-          let says : said_held part ≡ said line = ap said_held so_far.held ∙ said_held-held_of (last_part so_far.seen) in
+          let says : said_held state.version part ≡ said state.version line = ap (said_held state.version) so_far.held ∙ said_held-held_of state.version (last_part so_far.seen) in
           rw ten (subst (λ ls. Written raw first ls (so_far.text ++ more) state') (sym (whole_lines-newline so_far.seen))
           (written-more raw first (whole_lines so_far.seen) so_far.text state line more state' so_far.answered (subst (λ s. SaidAnswers raw state s more state') says answered)))
 
       -- the byte is taken, and the run goes on
       pub taken : {X : Type 0} (part' : Option (List ℕ)) (x : X)
-          → (b ≡ 10 → LineEnds raw state (said_held part) state' new new' (Ok x)) → (b ≡ 10 → part' ≡ Some [])
+          → (b ≡ 10 → LineEnds raw state (said_held state.version part) state' new new' (Ok x)) → (b ≡ 10 → part' ≡ Some [])
           → (b ≢ 10 → (part' ≡ pushed part b) × (state' ≡ state) × (new' ≡ new))
           → SoFar raw first input old rest new' state' part' ahead
       taken part' x newline cleared other =
@@ -106,7 +106,7 @@ module _ (raw : Bool) (first : ScriptState) (input : Input) (old : Output) where
           ]
 
       -- the byte is taken, and the run stops
-      pub taken_last : (X : Type 0) (e : Refusal) → (b ≡ 10 → LineEnds {X = X} raw state (said_held part) state' new new' (Err e)) → (b ≢ 10 → ⊥) → Stops raw first input rest old new' state' e
+      pub taken_last : (X : Type 0) (e : Refusal) → (b ≡ 10 → LineEnds {X = X} raw state (said_held state.version part) state' new new' (Err e)) → (b ≢ 10 → ⊥) → Stops raw first input rest old new' state' e
       taken_last X e newline other =
           elim (cases_eq b 10) [
             | inl ten ↦ elim (newline ten) [
@@ -131,7 +131,7 @@ module _ (raw : Bool) (first : ScriptState) (input : Input) (old : Output) where
                 read = one_more _ _ so_far.seen b ahead so_far.read;
                 quiet = so_far.going.unfailed;
                 taken = inl (rw ten (sym (whole_lines-newline so_far.seen)));
-                says = sym (ap said_held so_far.held ∙ said_held-held_of (last_part so_far.seen)) ∙ none.1;
+                says = sym (ap (said_held state.version) so_far.held ∙ said_held-held_of state.version (last_part so_far.seen)) ∙ none.1;
                 middle = state;
                 makes = none.2.makes;
                 same = none.2.same;
@@ -174,24 +174,24 @@ module _ (raw : Bool) (first : ScriptState) (input : Input) (old : Output) where
       unfailed = gave.quiet ∙ so_far.going.unfailed
 
       -- the last line, if there is one, was answered
-      answered_last : (left : List ℕ) → (more : List ℕ) → SaidAnswers raw state (said_last (held_of left)) more state' → Written raw first (whole_lines so_far.seen ++ if_any left) (so_far.text ++ more) state'
+      answered_last : (left : List ℕ) → (more : List ℕ) → SaidAnswers raw state (said_last state.version (held_of left)) more state' → Written raw first (whole_lines so_far.seen ++ if_any left) (so_far.text ++ more) state'
       unfolding held_of
       answered_last [] more (silent, same) =
           let t : so_far.text ++ more ≡ so_far.text = ap (λ l. so_far.text ++ l) silent ∙ append-nil so_far.text in
           rw (append-nil (whole_lines so_far.seen), t, same) so_far.answered
       answered_last (b ∷ bs) more answered =
-          written-more raw first (whole_lines so_far.seen) so_far.text state (b ∷ bs) more state' so_far.answered (subst (λ s. SaidAnswers raw state s more state') (said_last-held_of b bs) answered)
+          written-more raw first (whole_lines so_far.seen) so_far.text state (b ∷ bs) more state' so_far.answered (subst (λ s. SaidAnswers raw state s more state') (said_last-held_of state.version b bs) answered)
 
-      at_last : (more : List ℕ) → SaidAnswers raw state (said_last part) more state' → Written raw first (lines_of so_far.seen) (so_far.text ++ more) state'
-      at_last more answered = answered_last (last_part so_far.seen) more (subst (λ p. SaidAnswers raw state (said_last p) more state') so_far.held answered)
+      at_last : (more : List ℕ) → SaidAnswers raw state (said_last state.version part) more state' → Written raw first (lines_of so_far.seen) (so_far.text ++ more) state'
+      at_last more answered = answered_last (last_part so_far.seen) more (subst (λ p. SaidAnswers raw state (said_last state.version p) more state') so_far.held answered)
 
       -- the last line is a command
-      last_command : (left : List ℕ) (command : Command) → said_last (held_of left) ≡ Some (Ok command) → (whole_lines so_far.seen ++ if_any left ≡ whole_lines so_far.seen ++ left ∷ []) × (said left ≡ Some (Ok command))
+      last_command : (left : List ℕ) (command : Command) → said_last state.version (held_of left) ≡ Some (Ok command) → (whole_lines so_far.seen ++ if_any left ≡ whole_lines so_far.seen ++ left ∷ []) × (said state.version left ≡ Some (Ok command))
       unfolding held_of
       last_command [] command says = absurd (cc)
-      last_command (b ∷ bs) command says = (refl, sym (said_last-held_of b bs) ∙ says)
+      last_command (b ∷ bs) command says = (refl, sym (said_last-held_of state.version b bs) ∙ says)
 
-      finished_with : {X : Type 0} (r : Result X Refusal) → LineEnds raw state (said_last part) state' new new' r → ScriptEnds raw first input rest' old new' state' r
+      finished_with : {X : Type 0} (r : Result X Refusal) → LineEnds raw state (said_last state.version part) state' new new' r → ScriptEnds raw first input rest' old new' state' r
       finished_with (Ok x) ends =
           elim ends [
             | inl done ↦ record {
@@ -219,7 +219,7 @@ module _ (raw : Bool) (first : ScriptState) (input : Input) (old : Output) where
             })
             | inr none ↦
                 let left = last_part so_far.seen in
-                let last = last_command left none.0 (sym (ap said_last so_far.held) ∙ none.1) in
+                let last = last_command left none.0 (sym (ap (said_last state.version) so_far.held) ∙ none.1) in
                 subst (Stops raw first input rest' old new' state') (sym none.2.memory) (record {
                   seen = so_far.seen;
                   ahead = [];
@@ -239,5 +239,5 @@ module _ (raw : Bool) (first : ScriptState) (input : Input) (old : Output) where
                 })
           ]
 
-      pub finished : {X : Type 0} (r : Result X Refusal) (said : Option (Result Command Refusal)) → said ≡ said_last part → LineEnds raw state said state' new new' r → ScriptEnds raw first input rest' old new' state' r
+      pub finished : {X : Type 0} (r : Result X Refusal) (said : Option (Result Command Refusal)) → said ≡ said_last state.version part → LineEnds raw state said state' new new' r → ScriptEnds raw first input rest' old new' state' r
       finished r said says ends = finished_with r (subst (λ s. LineEnds raw state s state' new new' r) says ends)

@@ -9,5 +9,5 @@ mod StockKinds
 mod RawRuns
 mod RepliesOut
 mod RightSessions
-mod FirstVersions
+mod OlderRuns
 mod Taken

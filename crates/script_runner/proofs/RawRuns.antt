@@ -1,5 +1,5 @@
 -- A raw run writes the images that its lines ask for.
-use Rattle.std.proofs.Common.{◌≡◌, ℕ, ◌+◌, true, cond, List, [], ◌∷◌, ◌++◌, Option, None, Some, Result, Ok, Err, refl, sym, ◌∙◌, subst, append-nil, count_by}
+use Rattle.std.proofs.Common.{◌≡◌, ℕ, ℤ, false, ◌+◌, true, cond, List, [], ◌∷◌, ◌++◌, Option, None, Some, Result, Ok, Err, refl, sym, ◌∙◌, subst, append-nil, count_by}
 use Rattle.std.proofs.lemmas.List.{length-append}
 use Rattle.std.proofs.lemmas.List.Concat.{flat_map-append}
 use Rattle.std.proofs.lemmas.List.Sums.{sum_by-cons}
@@ -9,6 +9,7 @@ use Rattle.desk_toolbox.specs.ToolboxStates.{ToolboxState}
 use Rattle.script_text.specs.declared.command.Command.{Command}
 use Rattle.script_text.specs.declared.command.Command.TheVariants.{Version, Desk, Image, Call}
 use Rattle.script_text.specs.Lines.{said}
+use Rattle.script_text.proofs.AlikeVersions.{said_alike}
 use Rattle.script_runner.specs.RawText.{asks_image, AreImages}
 use Rattle.script_runner.specs.Script.{ScriptState, Takes, SaidAnswers, Written, why_unread}
 use Rattle.script_runner.specs.Session.{SessionState, unmade, made, image_text, Answers, FirstAnswers, Obeys, Opens, why_unmade}
@@ -54,7 +55,7 @@ obeys_images (made s) command text new (after, answered, is) = answers_images s 
 
 -- `image` is of every version, and is not refused
 takes_images : (why : Option Refusal) (old : ScriptState) (command : Command) (text : List ℕ) (new : ScriptState)
-    → why_unread old.is_begun old.version command ≡ why → Takes true why old command text new → AreImages (asked command) text
+    → why_unread old.is_begun command ≡ why → Takes true why old command text new → AreImages (asked command) text
 takes_images None old (Version number) text new is taken = subst (AreImages 0) (sym taken.0) none
 takes_images None old command text new is (after, obeyed, then) = obeys_images old.session command text after obeyed
 takes_images (Some e) old Image text new is taken =
@@ -65,14 +66,24 @@ takes_images (Some e) old command text new is taken = subst (AreImages 0) (sym t
 said_images : (old : ScriptState) (says : Option (Result Command Refusal)) (text : List ℕ) (new : ScriptState) → SaidAnswers true old says text new → AreImages (cond (asks_image says) 1 0) text
 said_images old None text new answered = subst (AreImages 0) (sym answered.0) none
 said_images old (Some (Err e)) text new answered = subst (AreImages 0) (sym answered.0) none
-said_images old (Some (Ok command)) text new taken = takes_images (why_unread old.is_begun old.version command) old command text new refl taken
+said_images old (Some (Ok command)) text new taken = takes_images (why_unread old.is_begun command) old command text new refl taken
 
-pub written_images : (old : ScriptState) (lines : List (List ℕ)) (text : List ℕ) (new : ScriptState) → Written true old lines text new
-    → AreImages (count_by (λ line. asks_image (said line)) lines) text
-written_images old [] text new written = subst (AreImages 0) (sym written.0) none
-written_images old (line ∷ lines) text new (middle, first, others, answered, rest, whole) =
-    let count = sum_by-cons (λ line. cond (asks_image (said line)) 1 0) line lines in
-    let both = joined (cond (asks_image (said line)) 1 0) (count_by (λ line. asks_image (said line)) lines) first others
-    (said_images old (said line) first middle answered) (written_images middle lines others new rest) in
-    subst (AreImages (count_by (λ line. asks_image (said line)) (line ∷ lines))) (sym whole)
-    (subst (λ n. AreImages n (first ++ others)) (sym count) both)
+-- `image` is said alike in every version
+image_alike : (one another : ℤ) (line : List ℕ) → asks_image (said one line) ≡ asks_image (said another line)
+image_alike one another line = said_alike asks_image false (λ call. refl) (λ e. refl) one another line
+
+module _ (version : ℤ) where
+  written_in : (old : ScriptState) (lines : List (List ℕ)) (text : List ℕ) (new : ScriptState) → Written true old lines text new
+      → AreImages (count_by (λ line. asks_image (said version line)) lines) text
+  written_in old [] text new written = subst (AreImages 0) (sym written.0) none
+  written_in old (line ∷ lines) text new (middle, first, others, answered, rest, whole) =
+      let count = sum_by-cons (λ line. cond (asks_image (said version line)) 1 0) line lines in
+      let here = subst (λ b. AreImages (cond b 1 0) first) (image_alike old.version version line) (said_images old (said old.version line) first middle answered) in
+      let both = joined (cond (asks_image (said version line)) 1 0) (count_by (λ line. asks_image (said version line)) lines) first others
+      here (written_in middle lines others new rest) in
+      subst (AreImages (count_by (λ line. asks_image (said version line)) (line ∷ lines))) (sym whole)
+      (subst (λ n. AreImages n (first ++ others)) (sym count) both)
+
+pub written_images : (old : ScriptState) (lines : List (List ℕ)) (text : List ℕ) (new : ScriptState) (version : ℤ) → Written true old lines text new
+    → AreImages (count_by (λ line. asks_image (said version line)) lines) text
+written_images old lines text new version written = written_in version old lines text new written

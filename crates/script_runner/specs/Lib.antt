@@ -6,7 +6,7 @@ pub mod Kinds
 pub mod Progress
 pub mod RawText
 pub mod Runs
-pub mod FirstVersion
+pub mod OlderVersions
 pub mod Script
 pub mod Session
 pub mod SessionViews

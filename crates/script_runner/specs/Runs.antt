@@ -64,7 +64,7 @@ module _ (raw : Bool) (first : ScriptState) (input rest : Input) (old new : Outp
     pub read : Consumes input.remaining rest.remaining (seen ++ ahead)
     pub quiet : rest.has_failed ≡ false
     pub taken : AreTaken input rest seen ahead (before ++ line ∷ [])
-    pub says : said line ≡ Some (Ok command)
+    pub says : said middle.version line ≡ Some (Ok command)
     pub makes : makes_desk_of middle command ≡ true
     pub same : state ≡ begun middle
     pub answered : Written raw first before text middle

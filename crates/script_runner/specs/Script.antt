@@ -1,12 +1,10 @@
 -- What the lines of a script do, and what they answer: some are about the script itself, and the others about its desk.
-use Rattle.std.specs.Prelude.{◌≡◌, ℕ, ℤ, pos, Bool, true, false, is_none, ◌&&◌, ◌||◌, List, [], ◌∷◌, ◌++◌, Option, None, Some, Result, Ok, Err, if◌then◌else◌}
-use Rattle.std.specs.Ordering.{int_eq}
+use Rattle.std.specs.Prelude.{◌≡◌, ℕ, ℤ, pos, int_le, Bool, true, false, ◌&&◌, List, [], ◌∷◌, ◌++◌, Option, None, Some, Result, Ok, Err, if◌then◌else◌}
 use Rattle.tb_geom.specs.declared.refusal.Refusal.{Refusal}
 use Rattle.tb_geom.specs.declared.refusal.Refusal.TheVariants.{BadSyntax, OutOfRange}
 use Rattle.def_iface.specs.Stocks.{AllSlots}
-use Rattle.desk_call.specs.Natures.{is_of_version_2}
 use Rattle.script_text.specs.declared.command.Command.{Command}
-use Rattle.script_text.specs.declared.command.Command.TheVariants.{Version, Call}
+use Rattle.script_text.specs.declared.command.Command.TheVariants.{Version}
 use Rattle.script_text.specs.Lines.{said}
 use Rattle.script_text.specs.Replies.{refused_text}
 use Rattle.line_words.specs.Replies.{done_text}
@@ -26,23 +24,20 @@ first_state font stocks = record { session = unmade font stocks; version = pos 1
 abbrev pub begun : ScriptState → ScriptState
 begun s = record s { is_begun = true }
 
--- why a call that may be of version 2 is refused in a script of this version
-abbrev pub why_no_call : ℤ → Bool → Option Refusal
-why_no_call version false = None
-why_no_call version true = if int_eq version (pos 2) then None else Some BadSyntax
+-- whether the commands have a version of this number
+abbrev pub is_version : ℤ → Bool
+is_version number = int_le (pos 1) number && int_le number (pos 3)
 
--- why a command is refused whatever desk there is, where a line was answered or not, in a script of this version: a version
--- stands first and is 1 or 2, and a call may be of version 2
-abbrev pub why_unread : Bool → ℤ → Command → Option Refusal
-why_unread is_begun version (Version number) =
-    if is_begun then Some BadSyntax else (if int_eq number (pos 1) || int_eq number (pos 2) then None else Some OutOfRange)
-why_unread is_begun version (Call call) = why_no_call version (is_of_version_2 call)
-why_unread is_begun version _ = None
+-- why a command is refused whatever desk there is, where a line was answered or not: a version stands first, and there is one
+-- of its number
+abbrev pub why_unread : Bool → Command → Option Refusal
+why_unread is_begun (Version number) = if is_begun then Some BadSyntax else (if is_version number then None else Some OutOfRange)
+why_unread is_begun _ = None
 
 -- whether the command is the one that makes the script's desk
 abbrev pub makes_desk_of : ScriptState → Command → Bool
 makes_desk_of s (Version number) = false
-makes_desk_of s command = is_none (why_unread s.is_begun s.version command) && makes_desk s.session command
+makes_desk_of s command = makes_desk s.session command
 
 -- `raw` says whether a run is raw: whether it shows images alone
 module _ (raw : Bool) where
@@ -57,10 +52,11 @@ module _ (raw : Bool) where
   abbrev pub SaidAnswers : ScriptState → Option (Result Command Refusal) → List ℕ → ScriptState → Type 0
   SaidAnswers old None text new = (text ≡ []) × (new ≡ old)
   SaidAnswers old (Some (Err e)) text new = (text ≡ reply_shown raw (refused_text e)) × (new ≡ begun old)
-  SaidAnswers old (Some (Ok command)) text new = Takes (why_unread old.is_begun old.version command) old command text new
+  SaidAnswers old (Some (Ok command)) text new = Takes (why_unread old.is_begun command) old command text new
 
-  -- the lines, one after another, may be answered by this text, and leave this
+  -- the lines, one after another, may be answered by this text, and leave this: each is read in the version that the script
+  -- has by then
   abbrev pub Written : ScriptState → List (List ℕ) → List ℕ → ScriptState → Type 0
   Written old [] text new = (text ≡ []) × (new ≡ old)
   Written old (line ∷ lines) text new = (middle : ScriptState) × (first : List ℕ) × (others : List ℕ)
-      × SaidAnswers old (said line) first middle × Written middle lines others new × (text ≡ first ++ others)
+      × SaidAnswers old (said old.version line) first middle × Written middle lines others new × (text ≡ first ++ others)

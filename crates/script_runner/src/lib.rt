@@ -2,8 +2,8 @@
 //!
 //! `run` makes the font of the desk's texts first. Then it reads bytes from a `Source`, cuts them into lines,
 //! and has each answered on a `Sink` before it reads on. A line is a command, a comment or nothing, as
-//! `script_text` says. A `Script` knows of which version the script is, which its first line may say, and which commands
-//! are of that version. Its `Session` holds the script's desk, which the first other command makes, and answers one
+//! `script_text` says. A `Script` knows of which version the script is, which its first line may say, and each line is
+//! read in that version. Its `Session` holds the script's desk, which the first other command makes, and answers one
 //! command: a call of the Toolbox by the line of its reply, and `image` by the bytes that `screen_pbm` writes. Both answer
 //! by an `AnswerWriter`, which alone knows whether the run is raw: whether it shows images alone, in the format P4.
 //!

@@ -122,7 +122,8 @@ fn answer_all<R: Source, W: Sink>(
     for read in 0..MOST_READS {
         let count = source.read_some(&mut buffer)?;
         if count == 0 {
-            return script.answer(line.said_last(), stock, writer);
+            let version = script.version();
+            return script.answer(line.said_last(version), stock, writer);
         }
         take_all(script, &mut line, &buffer[..count], stock, writer)?;
     }
@@ -168,7 +169,7 @@ fn take<W: Sink>(
     ensures same { IsSameWriter writer.old writer.new }
     ensures quiet { OnOk result ((W.output writer.new.sink.now).has_failed ≡ false) }
     ensures newline { byte ≡ 10 → LineEnds writer.old.raw
-        (⟦<Script as ScriptOnStock>⟧.script script.old stock.old) (said_held line.old)
+        (⟦<Script as ScriptOnStock>⟧.script script.old stock.old) (said_held script.old.version line.old)
         (⟦<Script as ScriptOnStock>⟧.script script.new stock.new)
         (W.output writer.old.sink.now) (W.output writer.new.sink.now) result }
     ensures cleared { byte ≡ 10 → OnOk result (line.new ≡ Some []) }
@@ -181,7 +182,8 @@ fn take<W: Sink>(
         line.push(byte);
         return Ok(());
     }
-    script.answer(line.said(), stock, writer)?;
+    let version = script.version();
+    script.answer(line.said(version), stock, writer)?;
     line.clear();
     Ok(())
 }

@@ -3,7 +3,7 @@ ghost use Rattle.std.specs.Prelude.{◌≡◌, pos, Some, None, OnOk, false};
 ghost use Rattle.def_iface.specs.Stocks.{AllSlots, AreAllFull};
 ghost use Rattle.script_runner.specs.Checks.{IsCheckLine};
 ghost use Rattle.script_runner.specs.Endings.{LineEnds, TakeEnds};
-ghost use Rattle.script_runner.specs.Script.{why_no_call, why_unread};
+ghost use Rattle.script_runner.specs.Script.{is_version, why_unread};
 ghost use Rattle.script_runner.specs.Session.{LeavesStock};
 ghost use Rattle.script_runner.specs.Writers.{IsSameWriter, SendsSome};
 
@@ -18,12 +18,15 @@ use strike_font::Font;
 use tb_geom::Refusal;
 use watched_io::Sink;
 
+/// The newest version of the commands.
+const NEWEST_VERSION: i32 = 3;
+
 /// A script at work.
 #[derive(Drop)]
 pub struct Script {
     /// The script's desk, or the font that waits for it.
     session: Session,
-    /// The version of the commands: 1, or 2 where the script says so.
+    /// The version of the commands: 1, or another where the script says so.
     version: i32,
     /// Whether a line was answered: the first that is may say the version, and no other.
     is_begun: bool,
@@ -42,6 +45,13 @@ impl Script {
             version: 1,
             is_begun: false,
         }
+    }
+
+    /// The version of the script's commands, in which its next line is to be read.
+    pub fn version(&self) -> i32
+        ensures { result ≡ self.now.version }
+    {
+        self.version
     }
 
     /// Answers what a line says, by a reply line or an image, and a line that says nothing by nothing. The first line that is
@@ -90,7 +100,7 @@ impl Script {
             (⟦<Self as ScriptOnStock>⟧.script self.new stock.new)
             (S.output writer.old.sink.now) (S.output writer.new.sink.now) result }
     {
-        let refusal = why_unread(self.is_begun, self.version, command);
+        let refusal = why_unread(self.is_begun, command);
         self.is_begun = true;
         if let Some(refusal) = refusal {
             return writer.reply(&Err(refusal));
@@ -127,38 +137,33 @@ impl Script {
     }
 }
 
-/// Why a command is refused whatever desk there is, where a line was answered or not, in a script of this version.
-fn why_unread(is_begun: bool, version: i32, command: &Command<'_>) -> Option<Refusal>
-    ensures { result ≡ why_unread is_begun version command.now }
+/// Why a command is refused whatever desk there is, where a line was answered or not.
+fn why_unread(is_begun: bool, command: &Command<'_>) -> Option<Refusal>
+    ensures { result ≡ why_unread is_begun command.now }
 {
     match command {
         Command::Version(number) => why_no_version(is_begun, *number),
-        Command::Call(call) => why_no_call(version, call.nature().is_version_2),
         _ => None,
     }
 }
 
-/// Why a version is refused: it stands first, and is 1 or 2.
+/// Why a version is refused: it stands first, and is 1 to 3.
 fn why_no_version(is_begun: bool, number: i32) -> Option<Refusal>
-    ensures { result ≡ why_unread is_begun (pos 1) (Command.Version number) }
+    ensures { result ≡ why_unread is_begun (Command.Version number) }
 {
     if is_begun {
         return Some(Refusal::BadSyntax);
     }
-    if number == 1 || number == 2 {
+    if is_version(number) {
         None
     } else {
         Some(Refusal::OutOfRange)
     }
 }
 
-/// Why a call that may be of version 2 is refused in a script of this version.
-fn why_no_call(version: i32, is_version_2: bool) -> Option<Refusal>
-    ensures { result ≡ why_no_call version is_version_2 }
+/// Whether the commands have a version of this number.
+fn is_version(number: i32) -> bool
+    ensures { result ≡ is_version number }
 {
-    if is_version_2 && version != 2 {
-        Some(Refusal::BadSyntax)
-    } else {
-        None
-    }
+    1 <= number && number <= NEWEST_VERSION
 }

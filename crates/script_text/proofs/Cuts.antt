@@ -1,5 +1,5 @@
 -- Lines, from a script that grows at its end: the definition goes from the front, and the bytes come one by one behind.
-use Rattle.std.proofs.Common.{◌≡◌, ℕ, ◌+◌, ◌-◌, ◌≤◌, true, false, cond, eqb, List, [], ◌∷◌, ◌++◌, length, map, take, get_or, refl, ap, ◌∙◌, arith, inl, inr}
+use Rattle.std.proofs.Common.{◌≡◌, ℕ, ℤ, ◌+◌, ◌-◌, ◌≤◌, true, false, cond, eqb, List, [], ◌∷◌, ◌++◌, length, map, take, get_or, refl, ap, ◌∙◌, arith, inl, inr}
 use Rattle.std.proofs.lemmas.List.{map-append, length-append, length-take}
 use Rattle.std.proofs.lemmas.Bool.{ne_eqb, cases_lt, cases_eq, cond_both}
 use Rattle.std.proofs.lemmas.Bool.Decides.{nat_tests}
@@ -71,12 +71,12 @@ length-strip : (part : List ℕ) → length part ≤ length (strip_carriage_retu
 length-strip part = cond_both (eqb (get_or part (length part - 1) 0) 13) (take (length part - 1) part) part (λ l. length part ≤ length l + 1)
     (λ e. omega (arith, length-take (length part - 1) part)) (λ e. omega arith)
 
-pub said_held-held_of : (part : List ℕ) → said_held (held_of part) ≡ said (strip_carriage_return part)
+pub said_held-held_of : (version : ℤ) (part : List ℕ) → said_held version (held_of part) ≡ said version (strip_carriage_return part)
 unfolding held_of said
-said_held-held_of part =
+said_held-held_of version part =
     let n : length part ≤ length (strip_carriage_return part) + 1 = length-strip part in
     grind (arith, nat_tests)
 
-pub said_last-held_of : (b : ℕ) (bs : List ℕ) → said_last (held_of (b ∷ bs)) ≡ said (b ∷ bs)
+pub said_last-held_of : (version : ℤ) (b : ℕ) (bs : List ℕ) → said_last version (held_of (b ∷ bs)) ≡ said version (b ∷ bs)
 unfolding held_of said
-said_last-held_of b bs = grind (arith, nat_tests)
+said_last-held_of version b bs = grind (arith, nat_tests)

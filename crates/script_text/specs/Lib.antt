@@ -3,3 +3,4 @@ pub mod Held
 pub mod Lines
 pub mod Replies
 pub mod Spelling
+pub mod Versions

@@ -1,5 +1,5 @@
 -- The lines of a script, and what each says.
-use Rattle.std.specs.Prelude.{ℕ, Bool, true, List, [], ◌∷◌, ◌++◌, length, map, Option, Some, None, Result, Err, nat_lt, ◌==◌, if◌then◌else◌}
+use Rattle.std.specs.Prelude.{ℕ, ℤ, Bool, true, List, [], ◌∷◌, ◌++◌, length, map, Option, Some, None, Result, Err, nat_lt, ◌==◌, if◌then◌else◌}
 use Rattle.std.specs.List.{list_all}
 use Rattle.std.specs.Str.Lines.{strip_carriage_return}
 use Rattle.tb_geom.specs.declared.refusal.Refusal.{Refusal}
@@ -38,10 +38,10 @@ abbrev pub is_skipped : List ℕ → Bool
 is_skipped [] = true
 is_skipped (b ∷ bs) = b == 35
 
--- what a line says, nothing where it is skipped: the first that applies of too long, skipped, other bytes than plain ones,
+-- what a line says in a script of this version, nothing where it is skipped: the first that applies of too long, skipped, other bytes than plain ones,
 -- and what its words say
-unfoldable pub said : List ℕ → Option (Result Command Refusal)
-said line =
+unfoldable pub said : ℤ → List ℕ → Option (Result Command Refusal)
+said version line =
     if nat_lt 1024 (length line) then Some (Err TooLong)
     else (if is_skipped line then None
-    else (if list_all is_plain line then Some (command_of line) else Some (Err BadSyntax)))
+    else (if list_all is_plain line then Some (command_of version line) else Some (Err BadSyntax)))

@@ -71,26 +71,26 @@ impl LineBuffer {
         }
     }
 
-    /// What the line says that a newline ends here; None where it is skipped. A return before the
+    /// What the line says that a newline ends here, in a script of this version; None where it is skipped. A return before the
     /// newline belongs to the ending. The bytes are used up: what is held then is forgotten by `clear`
     /// alone.
-    pub fn said(&mut self) -> Option<Result<Command<'_>, Refusal>>
-        ensures { result ≡ said_held self.old }
+    pub fn said(&mut self, version: i32) -> Option<Result<Command<'_>, Refusal>>
+        ensures { result ≡ said_held version self.old }
     {
         match self.bytes() {
-            Some(bytes) => line_says(without_return(bytes)),
+            Some(bytes) => line_says(version, without_return(bytes)),
             None => Some(Err(Refusal::TooLong)),
         }
     }
 
-    /// What the last line says, which the input's end ends; None where it is skipped, or there is
+    /// What the last line says in a script of this version, which the input's end ends; None where it is skipped, or there is
     /// none. A return is one of its bytes. The bytes are used up.
     #[tactic(auto, using(crate::proofs::Ends::said_at_end))]
-    pub fn said_last(&mut self) -> Option<Result<Command<'_>, Refusal>>
-        ensures { result ≡ said_last self.old }
+    pub fn said_last(&mut self, version: i32) -> Option<Result<Command<'_>, Refusal>>
+        ensures { result ≡ said_last version self.old }
     {
         match self.bytes() {
-            Some(bytes) => line_says(bytes),
+            Some(bytes) => line_says(version, bytes),
             None => Some(Err(Refusal::TooLong)),
         }
     }
@@ -106,17 +106,17 @@ fn without_return(line: &mut [u8]) -> &mut [u8]
     &mut line[..length]
 }
 
-/// What a line says; None where it is skipped.
+/// What a line says in a script of this version; None where it is skipped.
 #[tactic(auto, unfolding(crate::specs::Lines::said))]
-fn line_says(line: &mut [u8]) -> Option<Result<Command<'_>, Refusal>>
-    ensures { result ≡ said line.old }
+fn line_says(version: i32, line: &mut [u8]) -> Option<Result<Command<'_>, Refusal>>
+    ensures { result ≡ said version line.old }
 {
     if line.len() > LONGEST_LINE {
         Some(Err(Refusal::TooLong))
     } else if is_skipped(line) {
         None
     } else if is_plain(line) {
-        Some(parse(line))
+        Some(parse(version, line))
     } else {
         Some(Err(Refusal::BadSyntax))
     }

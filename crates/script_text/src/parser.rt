@@ -4,7 +4,7 @@
 //! `specs/Commands.antt` how it is read. The words of each verb are read in `command_words`.
 //! The form of a whole line is judged here, and then the names of modes and patterns; no range of a number, no kind
 //! of a window and no region.
-ghost use Rattle.std.specs.Prelude.{◌≡◌, ◌⊎◌, Result, Err};
+ghost use Rattle.std.specs.Prelude.{◌≡◌, ◌⊎◌, ℤ, Result, Err};
 ghost use Rattle.tb_geom.specs.declared.refusal.Refusal.{Refusal};
 ghost use Rattle.tb_geom.specs.declared.refusal.Refusal.TheVariants.{BadSyntax};
 ghost use Rattle.line_words.specs.Shapes.{reading, says};
@@ -42,25 +42,29 @@ fn image<'a>(words: Words<'a>) -> Result<Command<'a>, Refusal>
 }
 
 /// The word after `version`: a number.
-fn version<'a>(words: Words<'a>) -> Result<Command<'a>, Refusal>
+fn new_version<'a>(words: Words<'a>) -> Result<Command<'a>, Refusal>
     ensures { result ≡ reading version_shape words.entry }
 {
     Ok(Command::Version(words.last_number()?))
 }
 
-/// The words after a verb for windows.
+/// The words after a verb for windows, in a script of this version.
 #[tactic(auto, using(line_words::proofs::Mapped::reading_mapped))]
-fn window<'a>(verb: WindowVerb, words: Words<'a>) -> Result<Command<'a>, Refusal>
-    ensures { result ≡ reading (shape_of (verbs.Window verb)) words.entry }
+fn window<'a>(
+    version: i32,
+    verb: WindowVerb,
+    words: Words<'a>,
+) -> Result<Command<'a>, Refusal>
+    ensures { result ≡ reading (shape_of version (verbs.Window verb)) words.entry }
 {
-    let call = verb.call(words)?;
+    let call = verb.call(version, words)?;
     Ok(Command::Call(Call::Window(call)))
 }
 
 /// The words after a verb for updates.
 #[tactic(auto, using(line_words::proofs::Mapped::reading_mapped))]
 fn update<'a>(verb: UpdateVerb, words: Words<'a>) -> Result<Command<'a>, Refusal>
-    ensures { result ≡ reading (shape_of (verbs.Update verb)) words.entry }
+    ensures { (version : ℤ) → result ≡ reading (shape_of version (verbs.Update verb)) words.entry }
 {
     let call = verb.call(words)?;
     Ok(Command::Call(Call::Update(call)))
@@ -69,7 +73,7 @@ fn update<'a>(verb: UpdateVerb, words: Words<'a>) -> Result<Command<'a>, Refusal
 /// The words after a verb for the frame of a window.
 #[tactic(auto, using(line_words::proofs::Mapped::reading_mapped))]
 fn frame<'a>(verb: FrameVerb, words: Words<'a>) -> Result<Command<'a>, Refusal>
-    ensures { result ≡ reading (shape_of (verbs.Frame verb)) words.entry }
+    ensures { (version : ℤ) → result ≡ reading (shape_of version (verbs.Frame verb)) words.entry }
 {
     let call = verb.call(words)?;
     Ok(Command::Call(Call::Frame(call)))
@@ -78,7 +82,7 @@ fn frame<'a>(verb: FrameVerb, words: Words<'a>) -> Result<Command<'a>, Refusal>
 /// The words after a verb for the outline of a window.
 #[tactic(auto, using(line_words::proofs::Mapped::reading_mapped))]
 fn outline<'a>(verb: OutlineVerb, words: Words<'a>) -> Result<Command<'a>, Refusal>
-    ensures { result ≡ reading (shape_of (verbs.Outline verb)) words.entry }
+    ensures { (version : ℤ) → result ≡ reading (shape_of version (verbs.Outline verb)) words.entry }
 {
     let call = verb.call(words)?;
     Ok(Command::Call(Call::Outline(call)))
@@ -87,7 +91,7 @@ fn outline<'a>(verb: OutlineVerb, words: Words<'a>) -> Result<Command<'a>, Refus
 /// The words after a verb for controls.
 #[tactic(auto, using(line_words::proofs::Mapped::reading_mapped))]
 fn control<'a>(verb: ControlVerb, words: Words<'a>) -> Result<Command<'a>, Refusal>
-    ensures { result ≡ reading (shape_of (verbs.Control verb)) words.entry }
+    ensures { (version : ℤ) → result ≡ reading (shape_of version (verbs.Control verb)) words.entry }
 {
     let call = verb.call(words)?;
     Ok(Command::Call(Call::Control(call)))
@@ -96,7 +100,7 @@ fn control<'a>(verb: ControlVerb, words: Words<'a>) -> Result<Command<'a>, Refus
 /// The words after a verb for lists.
 #[tactic(auto, using(line_words::proofs::Mapped::reading_mapped))]
 fn list<'a>(verb: ListVerb, words: Words<'a>) -> Result<Command<'a>, Refusal>
-    ensures { result ≡ reading (shape_of (verbs.List verb)) words.entry }
+    ensures { (version : ℤ) → result ≡ reading (shape_of version (verbs.List verb)) words.entry }
 {
     let call = verb.call(words)?;
     Ok(Command::Call(Call::List(call)))
@@ -105,7 +109,7 @@ fn list<'a>(verb: ListVerb, words: Words<'a>) -> Result<Command<'a>, Refusal>
 /// The words after a verb for menus.
 #[tactic(auto, using(line_words::proofs::Mapped::reading_mapped))]
 fn menu<'a>(verb: MenuVerb, words: Words<'a>) -> Result<Command<'a>, Refusal>
-    ensures { result ≡ reading (shape_of (verbs.Menu verb)) words.entry }
+    ensures { (version : ℤ) → result ≡ reading (shape_of version (verbs.Menu verb)) words.entry }
 {
     let call = verb.call(words)?;
     Ok(Command::Call(Call::Menu(call)))
@@ -114,21 +118,21 @@ fn menu<'a>(verb: MenuVerb, words: Words<'a>) -> Result<Command<'a>, Refusal>
 /// The words after a verb for events.
 #[tactic(auto, using(line_words::proofs::Mapped::reading_mapped))]
 fn event<'a>(verb: EventVerb, words: Words<'a>) -> Result<Command<'a>, Refusal>
-    ensures { result ≡ reading (shape_of (verbs.Event verb)) words.entry }
+    ensures { (version : ℤ) → result ≡ reading (shape_of version (verbs.Event verb)) words.entry }
 {
     let call = verb.call(words)?;
     Ok(Command::Call(Call::Event(call)))
 }
 
-/// The words after a verb.
-fn command<'a>(verb: Verb, words: Words<'a>) -> Result<Command<'a>, Refusal>
-    ensures { result ≡ reading (shape_of verb) words.entry }
+/// The words after a verb, in a script of this version.
+fn command<'a>(version: i32, verb: Verb, words: Words<'a>) -> Result<Command<'a>, Refusal>
+    ensures { result ≡ reading (shape_of version verb) words.entry }
 {
     match verb {
         Verb::Desk => desk(words),
         Verb::Image => image(words),
-        Verb::Version => version(words),
-        Verb::Window(verb) => window(verb, words),
+        Verb::Version => new_version(words),
+        Verb::Window(verb) => window(version, verb, words),
         Verb::Update(verb) => update(verb, words),
         Verb::Frame(verb) => frame(verb, words),
         Verb::Outline(verb) => outline(verb, words),
@@ -141,25 +145,25 @@ fn command<'a>(verb: Verb, words: Words<'a>) -> Result<Command<'a>, Refusal>
 
 /// The verb of a line, and the words after it.
 #[tactic(auto, unfolding(crate::specs::Commands::command_of))]
-fn read<'a>(line: &'a mut [u8]) -> Result<Command<'a>, Refusal>
-    ensures { result ≡ command_of line.old }
+fn read<'a>(version: i32, line: &'a mut [u8]) -> Result<Command<'a>, Refusal>
+    ensures { result ≡ command_of version line.old }
 {
     let (name, words) = Words::new(line).word()?;
-    match verb_of(name.as_slice()) {
-        Some(verb) => command(verb, words),
+    match verb_of(version, name.as_slice()) {
+        Some(verb) => command(version, verb, words),
         None => Err(Refusal::BadSyntax),
     }
 }
 
-/// The command that a line says: a line without its ending, neither empty nor a comment. A line that says none is
-/// BadSyntax.
-pub fn parse<'a>(line: &'a mut [u8]) -> Result<Command<'a>, Refusal>
+/// The command that a line says in a script of this version: a line without its ending, neither empty nor a comment. A line
+/// that says none is BadSyntax, and so is one with a word that only a later version has, whatever else is wrong in it.
+pub fn parse<'a>(version: i32, line: &'a mut [u8]) -> Result<Command<'a>, Refusal>
     // The line says what is answered, or the answer is BadSyntax.
-    ensures found { IsLine line.old result ⊎ (result ≡ Err BadSyntax) }
+    ensures found { IsLine version line.old result ⊎ (result ≡ Err BadSyntax) }
     // What a line says is what is answered: a line says one thing at most, and a line that says something is not BadSyntax.
-    ensures only { (said : Result Command Refusal) → IsLine line.old said → result ≡ said }
+    ensures only { (said : Result Command Refusal) → IsLine version line.old said → result ≡ said }
     // The answer as a function of the line.
-    ensures exact { result ≡ command_of line.old }
+    ensures exact { result ≡ command_of version line.old }
 {
-    read(line)
+    read(version, line)
 }

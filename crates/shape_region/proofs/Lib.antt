@@ -1,3 +1,5 @@
--- Lemmas on the rows of strips: where two of them differ, and how far they are made.
+-- Lemmas on the rows of shapes: their runs, how far they are made, and how they are written.
+pub mod RunLemmas
+pub mod MadeLemmas
 pub mod TurnLemmas
-pub mod StripLemmas
+pub mod WrittenLemmas

@@ -1,39 +1,32 @@
--- The columns of one of two runs.
-use Rattle.std.proofs.Common.{◌≡◌, ◌&&◌, ◌||◌, Bool, true, false, ℤ, ◌≤ℤ◌, ◌<ℤ◌, ◌∷◌, [], refl, ap, ◌∙◌, arith}
-use Rattle.std.specs.Int.{int_min, int_max}
-use Rattle.std.proofs.lemmas.Int.{ints, clamps}
-use Rattle.tb_geom.specs.Rects.{between}
-use Rattle.region_rows.specs.Edges.{differ, inside}
-use Rattle.shape_strips.specs.declared.run.Run.{Run}
-use Rattle.shape_region.specs.Turns.{turns, IsPlaced}
+-- The inversion points of a row below another one.
+use Rattle.std.proofs.Common.{◌≡◌, List, [], length, ℤ, pos, negsuc, sym, ap, ◌∙◌, subst, arith}
+use Rattle.std.proofs.lemmas.Int.{ints}
+use Rattle.std.proofs.lemmas.List.{get_or_default}
+use Rattle.region_bytes.specs.Points.{IsInRange}
+use Rattle.region_bytes.proofs.Edges.{IsRow-nil}
+use Rattle.region_rows.specs.Edges.{differ, inside, is_odd, IsCoordinate, IsEdges, IsRow}
+use Rattle.region_rows.specs.Rows.{EdgeRow, with_row, IsPushed}
+use Rattle.region_rows.proofs.Climbs.{edges_of, inside_above, row_of}
+use Rattle.region_rows.proofs.Turnings.{IsTurned}
+use Rattle.shape_region.specs.Rows.{turns}
 
--- between equal numbers there is none
-pub between_same : (x h y : ℤ) → x ≡ y → between x h y ≡ false
-between_same x h y e = grind (arith, ints)
+-- the columns at which one row turns into another are even in number: right of all of them neither has a pixel
+pub turned_row : (above row points : List ℤ) → IsRow above → IsRow row → IsTurned above row points → IsRow points
+turned_row above row points a b t =
+    row_of points t.edges
+    (sym (last points t.edges) ∙ t.pixels (pos 16383) ∙ (λ i. differ ((last above (edges_of above a) ∙ a.even) i) ((last row (edges_of row b) ∙ b.even) i)))
+  where
+    last : (xs : List ℤ) → IsEdges xs → inside xs (pos 16383) ≡ is_odd (length xs)
+    last xs e = inside_above (negsuc 16384) xs (pos 16383) (pos 16383) e (omega (arith, ints))
 
-pub first_none : (x y h : ℤ) (b : Bool) → x ≡ y → (between x h y || b) ≡ b
-first_none x y h b e = λ i. between_same x h y e i || b
+-- no points are no row
+pub none_pushed : (rows : List EdgeRow) (v : ℤ) (above row points : List ℤ) → points ≡ [] → ((h : ℤ) → inside points h ≡ turns above row h) → IsPushed rows rows v (turns above row)
+none_pushed rows v above row points e pixels =
+    record { points = []; pixels = λ h. ap (λ xs. inside xs h) (sym e) ∙ pixels h; row = IsRow-nil; pushed = refl_rows }
+  where
+    refl_rows : rows ≡ with_row rows v []
+    refl_rows = λ i. rows
 
-pub last_none : (x y h : ℤ) (b : Bool) → x ≡ y → (b || between x h y) ≡ b
-last_none x y h true e = refl
-last_none x y h false e = between_same x h y e
-
--- what follows without a gap
-pub in_one : (x y z w h : ℤ) → x ≤ℤ y → y ≡ z → z ≤ℤ w → between x h w ≡ (between x h y || between z h w)
-in_one x y z w h l e m = grind (arith, ints)
-
-pub inside_both : (x y z w h : ℤ) → x <ℤ y → y <ℤ z → z <ℤ w → inside (x ∷ y ∷ z ∷ w ∷ []) h ≡ (between x h y || between z h w)
-unfolding inside
-inside_both x y z w h l m n = grind (arith, ints)
-
--- the columns of one of two runs lie between the first two of their four ends, and between the last two
-pub turn_columns : (a b c d h : ℤ) → a ≤ℤ b → c ≤ℤ d
-    → (between (int_min a c) h (int_min (int_max a c) (int_min b d)) || between (int_max (int_max a c) (int_min b d)) h (int_max b d))
-    ≡ differ (between a h b) (between c h d)
-turn_columns a b c d h l m = grind (arith, ints, clamps)
-
-pub run_turns : (a b : Run) (l r x y z w h : ℤ) → IsPlaced a → IsPlaced b → l ≡ int_max a.left b.left → r ≡ int_min a.right b.right
-    → x ≡ int_min a.left b.left → y ≡ int_min l r → z ≡ int_max l r → w ≡ int_max a.right b.right → (between x h y || between z h w) ≡ turns a b h
-run_turns a b l r x y z w h p q el er ex ey ez ew =
-    (λ i. between (ex i) h ((ey ∙ (λ j. int_min (el j) (er j))) i) || between ((ez ∙ (λ j. int_max (el j) (er j))) i) h (ew i))
-    ∙ turn_columns a.left a.right b.left b.right h p.order q.order
+-- a row in range
+pub row_in_range : (v : ℤ) (xs : List ℤ) → IsCoordinate v → IsRow xs → IsInRange (v, xs)
+row_in_range v xs top r = (top, λ k d m. subst IsCoordinate (get_or_default xs k (pos 0) d m) (r.in_range k m))

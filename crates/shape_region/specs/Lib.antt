@@ -1,2 +1,4 @@
--- What the contracts speak of: the bounds of a strip, and how its rows differ.
-pub mod Turns
+-- What the contracts speak of: the rows of shapes and how they differ, the bytes of regions that are told, and how far they are written.
+pub mod Rows
+pub mod Told
+pub mod Written

@@ -1,21 +1,36 @@
-//! Regions of round shapes, of their frames, and of the insides that these leave.
+//! Regions of round shapes, of their frames, and of the insides that these leave, and the bytes of such regions.
 //!
-//! `strip_region` makes the region of any `Strip` of `shape_strips` in one pass over its rows, from the top down. It
-//! keeps the run of the row above. Where the run of a row differs from that one, it adds the row's inversion points:
-//! the columns at which the difference turns, four at most, which lie in the row without memory of their own
-//! (`turns`). So no pixel is looked at. Rectangles with rounded corners, ovals and insides are strips. A frame is the
-//! region of the shape less that of its inside.
+//! `Rows` is a set of pixels with two runs in a row at most (`TwoRuns`). A strip of `shape_strips` has one (`Solid`); a
+//! `Frame` has the run of its shape less that of its inside. `form_region` makes the region of such a set in one pass
+//! over its rows, from the top down. It keeps the edges of the row above, four at most. Where a row differs from that
+//! one, it adds the row's inversion points: the columns that are an edge of one of the two alone, eight at most, which
+//! are found without memory (`turns`). So no pixel is looked at.
 //!
-//! Rectangles are in the coordinate space of the call that uses the region. Every call but `strip_region` refuses a
-//! rectangle with a side outside -16384..=16383 as OutOfRange, as `Region::from_rect` does; nothing else refuses but
-//! want of memory. The words of the contracts stand in `shape_strips`.
+//! `form_bytes` goes the same way, and writes the points into a `RegionWriter` of `region_bytes`, which counts on where
+//! memory is refused. So bytes that would be too many are known as that, whatever memory there is, and the region
+//! itself is never made.
+//!
+//! Rectangles are in the coordinate space of the call that uses the region. Each call that takes a rectangle refuses one
+//! with a side outside -16384..=16383 as OutOfRange, as `Region::from_rect` does; those that take a shape refuse for
+//! want of memory alone, and `form_bytes` as TooLong before that. The words of the contracts stand in `shape_strips`,
+//! and those on bytes in `specs::Told`.
 #![tactic(auto)]
 
 mod frame;
+mod making;
 mod round;
+mod rows;
 mod strip;
 mod turns;
+mod two_runs;
+mod writing;
 
-pub use frame::{frame_oval_region, frame_rect_region, frame_round_rect_region, inside_region};
+pub use frame::{
+    Frame, frame_oval_region, frame_rect_region, frame_round_rect_region, inside_region,
+};
+pub use making::form_region;
 pub use round::{oval_region, round_rect_region};
+pub use rows::{Rows, Solid};
 pub use strip::strip_region;
+pub use two_runs::{Edges, TwoRuns};
+pub use writing::form_bytes;

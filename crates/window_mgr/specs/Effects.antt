@@ -4,6 +4,7 @@ use Rattle.tb_geom.specs.declared.point.Point.{Point}
 use Rattle.tb_geom.specs.Points.{PixelSet, plus, minus}
 use Rattle.draw_port.specs.declared.shapes.Op.{Op}
 use Rattle.draw_port.specs.Ops.{op_value}
+use Rattle.lent_ops.specs.Forms.{form_holds}
 use Rattle.lent_ops.specs.OpRefs.{IsMeant}
 use Rattle.std.specs.Option.{is_some}
 use Rattle.def_iface.specs.WindowNews.{WindowNews, AllWindowNews, told_placed, new_window_news}
@@ -22,7 +23,7 @@ use Rattle.vis_update.specs.Records.{WindowRecord, is_floating}
 use Rattle.vis_update.specs.Touches.{moving}
 use Rattle.vis_update.specs.Contents.{scroll_change}
 use Rattle.desk_call.specs.declared.window.WindowCall.{WindowCall}
-use Rattle.desk_call.specs.declared.window.WindowCall.TheVariants.{New, NewFloating, Dispose, Show, Hide, ShowHide, Select, BringToFront, SendBehind, Move, Size, Zoom, Draw, SetPicture, Scroll, Find, Front, Info, VisibleRegion, UpdateRegion}
+use Rattle.desk_call.specs.declared.window.WindowCall.TheVariants.{New, NewFloating, Dispose, Show, Hide, ShowHide, Select, BringToFront, SendBehind, Move, Size, Zoom, Draw, SetPicture, Scroll, Find, Front, Info, VisibleRegion, UpdateRegion, Region}
 use Rattle.desk_call.specs.declared.window.Drawing.{Drawing}
 use Rattle.desk_call.specs.declared.window.NewPicture.{NewPicture}
 use Rattle.desk_call.specs.declared.window.NewWindow.{NewWindow}
@@ -206,6 +207,7 @@ effect_of Front desk = Tells (reply.Front (front_of desk.windows))
 effect_of (Info s) desk = Tells (info_of (record_with s desk.windows))
 effect_of (VisibleRegion s) desk = Describes (visible_of s)
 effect_of (UpdateRegion s) desk = Describes (update_of s)
+effect_of (Region f) desk = Describes (λ state. form_holds f)
 
 -- what a call of such an effect answers and leaves: a call that tells something, or describes a region, changes nothing
 abbrev pub IsEffect : Effect → WindowReply → FullState → FullState → Type 0

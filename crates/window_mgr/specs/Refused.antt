@@ -1,5 +1,5 @@
 -- Why a call refuses: the first refusal of the written order whose condition holds.
-use Rattle.std.specs.Prelude.{◌≡◌, ℕ, Bool, if◌then◌else◌, true, false, not, ◌==◌, ◌&&◌, ◌||◌, List, [], ◌∷◌, ◌++◌, length, Option, None, Some, is_none, nat_le, nat_lt}
+use Rattle.std.specs.Prelude.{◌≡◌, ◌⊎◌, ℕ, Bool, if◌then◌else◌, true, false, not, ◌==◌, ◌&&◌, ◌||◌, List, [], ◌∷◌, ◌++◌, length, Option, None, Some, is_none, nat_le, nat_lt}
 use Rattle.std.specs.List.{list_all}
 use Rattle.tb_geom.specs.declared.point.Point.{Point}
 use Rattle.tb_geom.specs.declared.refusal.Refusal.{Refusal}
@@ -8,7 +8,9 @@ use Rattle.tb_geom.specs.declared.refusal.Refusal.TheVariants.{NoSuchName, NoSuc
 use Rattle.tb_geom.specs.Refusals.{first_refusal, number_of}
 use Rattle.tb_geom.specs.Rects.{in_plane}
 use Rattle.draw_port.specs.declared.shapes.Op.{Op}
+use Rattle.lent_ops.specs.declared.form_ref.FormRef.{FormRef}
 use Rattle.lent_ops.specs.declared.op_ref.OpRef.{OpRef}
+use Rattle.lent_ops.specs.Forms.{form_holds, is_form_in_range}
 use Rattle.lent_ops.specs.OpRefs.{IsGood, IsRefused}
 use Rattle.def_iface.specs.declared.size.Size as sizes
 use Rattle.def_iface.specs.WindowSlots.{has_kind, offered}
@@ -17,7 +19,7 @@ use Rattle.vis_update.specs.Records.{WindowRecord}
 use Rattle.vis_update.specs.Places.{is_placed}
 use Rattle.vis_update.specs.Touches.{is_this}
 use Rattle.desk_call.specs.declared.window.WindowCall.{WindowCall}
-use Rattle.desk_call.specs.declared.window.WindowCall.TheVariants.{New, NewFloating, Dispose, Show, Hide, ShowHide, Select, BringToFront, SendBehind, Move, Size, Zoom, Draw, SetPicture, Scroll, Find, Front, Info, VisibleRegion, UpdateRegion}
+use Rattle.desk_call.specs.declared.window.WindowCall.TheVariants.{New, NewFloating, Dispose, Show, Hide, ShowHide, Select, BringToFront, SendBehind, Move, Size, Zoom, Draw, SetPicture, Scroll, Find, Front, Info, VisibleRegion, UpdateRegion, Region}
 use Rattle.desk_call.specs.declared.window.MoveWindow.{MoveWindow}
 use Rattle.desk_call.specs.declared.window.NewPicture.{NewPicture}
 use Rattle.desk_call.specs.declared.window.NewWindow.{NewWindow}
@@ -182,6 +184,12 @@ abbrev pub IsUntold : ℕ → PixelSet → FullDesk → Option Refusal → Type 
 IsUntold s set desk why = (long : Bool) × IsMeasured set long
     × (first_refusal ((is_missing s desk.windows, NoSuchWindow) ∷ (long, TooLong) ∷ []) ≡ why)
 
+-- why the region of a shape may not be told: a number leaves its range, or the bytes would be too long
+abbrev pub IsFormUntold : FormRef → Option Refusal → Type 0
+IsFormUntold f why =
+    ((is_form_in_range f ≡ false) × (Some OutOfRange ≡ why))
+    ⊎ ((is_form_in_range f ≡ true) × ((long : Bool) × IsMeasured (form_holds f) long × (first_refusal ((long, TooLong) ∷ []) ≡ why)))
+
 -- why the call refuses, want of memory aside
 abbrev pub IsRefusal : WindowCall → FullState → Option Refusal → Type 0
 IsRefusal (New w) state why = first_refusal (new_window_refusals w state.desk) ≡ why
@@ -198,6 +206,7 @@ IsRefusal (Find p) state why = first_refusal ((not (in_plane p), OutOfRange) ∷
 IsRefusal Front state why = None ≡ why
 IsRefusal (VisibleRegion s) state why = IsUntold s (visible_of s state) state.desk why
 IsRefusal (UpdateRegion s) state why = IsUntold s (update_of s state) state.desk why
+IsRefusal (Region f) state why = IsFormUntold f why
 IsRefusal (Dispose s) state why = first_refusal (window_refusals s state.desk) ≡ why
 IsRefusal (Show s) state why = first_refusal (window_refusals s state.desk) ≡ why
 IsRefusal (Hide s) state why = first_refusal (window_refusals s state.desk) ≡ why
@@ -233,4 +242,5 @@ may_grow (SetPicture c) = true
 may_grow (Scroll c) = true
 may_grow (VisibleRegion s) = true
 may_grow (UpdateRegion s) = true
+may_grow (Region f) = true
 may_grow _ = false

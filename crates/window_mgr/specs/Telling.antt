@@ -1,11 +1,8 @@
 -- The regions of a window, as they are told: in its own coordinates, as bytes.
-use Rattle.std.specs.Prelude.{◌≡◌, ◌⊎◌, ℕ, Bool, true, false, ◌&&◌, List, Option, None, Some}
-use Rattle.tb_geom.specs.declared.point.Point.{Point}
-use Rattle.tb_geom.specs.declared.refusal.Refusal.{Refusal}
-use Rattle.tb_geom.specs.declared.refusal.Refusal.TheVariants.{NoMemory, TooLong}
+use Rattle.std.specs.Prelude.{ℕ, false, ◌&&◌, Option, None, Some}
 use Rattle.tb_geom.specs.Points.{PixelSet, plus}
-use Rattle.tb_geom.specs.Pixels.{Pixels, holds}
-use Rattle.region_bytes.specs.Bytes.{IsRegionBytes, IsTooLong}
+use Rattle.tb_geom.specs.Pixels.{Pixels}
+pub use Rattle.shape_region.specs.Told.{IsRegionOf, IsLong, IsMeasured, AreRegionBytes, IsNotTold}
 use Rattle.desk_layers.specs.Desk.{on_screen}
 use Rattle.desk_layers.specs.Owner.{owner}
 use Rattle.desk_call.specs.declared.window.WindowCall.{WindowCall}
@@ -52,27 +49,6 @@ kept_region Visible area = area.visible
 kept_region Update area = area.update
 
 -- ---- its bytes
-
--- the region has these pixels
-abbrev pub IsRegionOf : PixelSet → Pixels → Type 0
-IsRegionOf set region = (p : Point) → holds region p ≡ set p
-
--- whether the bytes of the region would be too long
-abbrev pub IsLong : Bool → Pixels → Type 0
-IsLong true region = IsTooLong region
-IsLong false region = (bytes : List ℕ) × IsRegionBytes bytes region
-
--- whether the bytes of the region of these pixels would be too long
-abbrev pub IsMeasured : PixelSet → Bool → Type 0
-IsMeasured set long = (region : Pixels) × IsRegionOf set region × IsLong long region
-
--- these bytes are told: those of the region of these pixels
-abbrev pub AreRegionBytes : PixelSet → List ℕ → Type 0
-AreRegionBytes set bytes = (region : Pixels) × IsRegionOf set region × IsRegionBytes bytes region
-
--- why the region of these pixels is not told: its bytes would be too long, or they would not and memory is refused
-abbrev pub IsNotTold : PixelSet → Refusal → Type 0
-IsNotTold set e = ((e ≡ TooLong) × IsMeasured set true) ⊎ ((e ≡ NoMemory) × IsMeasured set false)
 
 -- the answer is the region of these pixels
 abbrev pub IsRegionTold : PixelSet → WindowReply → Type 0

@@ -1,14 +1,16 @@
-//! The calls that tell a window's regions.
+//! The calls that tell regions: a window's, and that of a shape.
 ghost use Rattle.std.specs.Prelude.{◌≡◌, true, MatchResult};
 ghost use Rattle.tb_geom.specs.declared.point.Point.{Point};
 ghost use Rattle.tb_geom.specs.Points.{plus};
 ghost use Rattle.tb_geom.specs.Rects.{in_plane};
 ghost use Rattle.tb_geom.specs.Pixels.{holds};
 ghost use Rattle.scan_region.specs.Moves.{is_pixel_in_range};
+ghost use Rattle.desk_call.specs.declared.window.WindowCall.TheVariants as asks;
 ghost use Rattle.window_mgr.specs.Telling.{AreRegionBytes, IsNotTold, kept_region, asking};
 ghost use Rattle.window_mgr.specs.Step.{IsWindowStep};
 
 use crate::{DeskWindows, WindowManager, WindowReply};
+use lent_ops::FormRef;
 use scan_region::Region;
 use std::alloc::Global;
 use tb_geom::{Point, Refusal};
@@ -40,6 +42,20 @@ impl WindowManager {
         };
         let place = self.windows.at(at).place;
         match area_bytes(&mut self.areas[at], told, self.alloc, place) {
+            Ok(bytes) => Ok(WindowReply::Region(bytes)),
+            Err(refusal) => Err(refusal),
+        }
+    }
+
+    /// Tells the region of a shape.
+    pub(crate) fn answer_form(&self, form: &FormRef) -> Result<WindowReply, Refusal>
+        requires { ⟦<Self as DeskWindows>⟧.IsKept self.now }
+        ensures { ⟦<Self as DeskWindows>⟧.LeavesState (IsWindowStep (asks.Region form.now) result) self.now self.now }
+    {
+        if !form.is_near() {
+            return Err(Refusal::OutOfRange);
+        }
+        match form.to_bytes(self.alloc) {
             Ok(bytes) => Ok(WindowReply::Region(bytes)),
             Err(refusal) => Err(refusal),
         }

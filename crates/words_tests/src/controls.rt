@@ -15,7 +15,7 @@ fn asked<'a>(room: &'a mut [u8; 100], line: &[u8]) -> Result<ControlCall<'a>, Re
     };
     bytes.copy_from_slice(line);
     let (word, words) = Words::new(bytes).word()?;
-    match verb_of(word.as_slice()) {
+    match verb_of(1, word.as_slice()) {
         Some(Verb::Control(verb)) => verb.call(words),
         _ => Err(Refusal::NoSuchName),
     }

@@ -33,8 +33,11 @@ def tree_over(place):
 def its_text_names_what_it_has(_):
     text = read("desk_kit/__init__.py").split('"""')[1]
     files = [os.path.basename(path) for path in glob.glob(os.path.join(TOP, "desk_kit", "*.*"))]
-    modules = {name.removesuffix(".py") for name in files} - {"__init__"}
+    modules = {name.removesuffix(".py") for name in files} - {"__init__"} | {"resources"}
     same("the modules", sorted(NAMED.findall(text)), sorted(modules))
+    text = read("desk_kit/resources/__init__.py").split('"""')[1].partition("The modules:")[2]
+    files = [os.path.basename(path) for path in glob.glob(os.path.join(TOP, "desk_kit", "resources", "*.py"))]
+    same("those of resources", sorted(NAMED.findall(text)), sorted({it.removesuffix(".py") for it in files} - {"__init__"}))
 
 
 def the_program_of_the_page_prints_what_it_has_to(place):

@@ -7,8 +7,9 @@ SPAN = re.compile(r"`([^`]+)`")
 # How a command begins, in a block of code or between backquotes.
 PROGRAMS = r"(?:cc|c\+\+|cargo|make|man|parallel|pip|python3|rt|sha256sum|source|tar) "
 BEGIN = re.compile(rf"(?:\$ )?(?:\.\.?/|tests/|tools/|docs/[\w-]+(?: |$)|desk-\d|{PROGRAMS})")
-# A word that stands for another, as SCRIPT, and an option that may be left out, as [--raw].
-FORM = re.compile(r"\b[A-Z]{2,}\b|\[")
+# A word that stands for another, as SCRIPT, and an option that may be left out, as [--raw]. Types of resources are no such words.
+TYPES = "ALRT|CNTL|DLOG|ICON|MBAR|MENU|WIND"
+FORM = re.compile(rf"\b(?!(?:{TYPES})\b)[A-Z]{{2,}}\b|\[")
 # How a paragraph ends that is followed by a file of this name, or by what the command that was named last prints.
 IS_FILE = re.compile(r"`([\w./-]+)` is$|(?:of|by) (?:a|this) (script|Makefile):?$", re.I)
 PRINTS = re.compile(r"(?:says|prints|shows|now|begin to differ|with status \d|begins with):?$")

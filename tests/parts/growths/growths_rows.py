@@ -37,7 +37,7 @@ WITHOUT_MEMORY = set(
 # Those that may be so only while the drawing of their list is off.
 WITH_MEMORY_UNDRAWN = set(b"ldelrow ldelcol lclear lsetsel lclick lscroll".split())
 # Those that may want memory and change nothing.
-ASKING = set(b"visrgn updatergn lget".split())
+ASKING = set(b"visrgn updatergn region lget".split())
 # The commands that name a cell of a list, each with the places of its column and its row among its words.
 CELLS = {
     **dict.fromkeys((b"lset", b"ladd", b"lclear", b"lget", b"lsearch"), (3, 4)),

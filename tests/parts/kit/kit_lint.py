@@ -47,11 +47,19 @@ LINES = [
 ]  # fmt: skip
 
 
-# Lines of a script that does not say its version, and of one that does.
+# Lines of a script that does not say its version, of some that do, and of one whose version there is not.
 FLOAT = 'float plain 2 2 9 6 1 0 "x"'
 FLOAT_FORM = "float KIND LEFT TOP WIDTH HEIGHT SHOWN GOAWAY \"TITLE\""
+OVAL = "draw 1 oval 0 0 8 8 nomode black"
+OVAL_FORM = "draw WINDOW oval LEFT TOP RIGHT BOTTOM MODE PATTERN"
+CLIPPED = "draw 1 clip 000A0000000000040004 foval 0 0 8 8 1 patCopy black"
+CLIPPED_FORM = "draw WINDOW clip HEX foval LEFT TOP RIGHT BOTTOM PENWIDTH PENHEIGHT MODE PATTERN"
+REGION = "region rect 0 0 8"
+REGION_FORM = "region rect LEFT TOP RIGHT BOTTOM"
 UNVERSIONED = [DESK.rstrip("\n"), FLOAT, "version 2"]
-VERSIONED = ["version 2", DESK.rstrip("\n"), FLOAT, "version 2", 'float plain 2 2 9 6 1 0 x']
+VERSIONED = ["version 2", DESK.rstrip("\n"), FLOAT, "version 2", 'float plain 2 2 9 6 1 0 x', OVAL, REGION]
+THIRD = ["version 003", DESK.rstrip("\n"), FLOAT, "region oval 0 0 8 8", OVAL, CLIPPED, REGION, "region fill 0 0 8 8", "region"]
+NO_VERSION = ["version 4", DESK.rstrip("\n"), OVAL, CLIPPED]
 
 
 def text_of(line):
@@ -70,16 +78,28 @@ def lines_that_are_refused_are_told_with_their_forms(place):
 def lines_of_another_version_are_told(place):
     place.write("screens/one.desk", "".join(line + "\n" for line in UNVERSIONED))
     place.write("screens/two.desk", "".join(line + "\n" for line in VERSIONED))
+    place.write("screens/x3.desk", "".join(line + "\n" for line in THIRD))
+    place.write("screens/x4.desk", "".join(line + "\n" for line in NO_VERSION))
     bad = "refused 15 BadSyntax"
+    third = f"{bad}: the script does not begin with 'version 3'. The form is"
     version = f"{bad}: it stands before every other command. The form is: version NUMBER"
     told = [
         ("one", 2, FLOAT, f"{bad}: the script does not begin with 'version 2'. The form is: {FLOAT_FORM}"),
         ("one", 3, "version 2", version),
         ("two", 4, "version 2", version),
-        ("two", 5, VERSIONED[-1], f"{bad}. The form is: {FLOAT_FORM}"),
+        ("two", 5, VERSIONED[4], f"{bad}. The form is: {FLOAT_FORM}"),
+        ("two", 6, OVAL, f"{third}: {OVAL_FORM}"),
+        ("two", 7, REGION, f"{third}: {REGION_FORM}"),
+        ("x3", 5, OVAL, f"refused 20 NoSuchName. The form is: {OVAL_FORM}"),
+        ("x3", 6, CLIPPED, f"{bad}: 12 words in place of 13. The form is: {CLIPPED_FORM}"),
+        ("x3", 7, REGION, f"{bad}: 5 words in place of 6. The form is: {REGION_FORM}"),
+        ("x3", 8, THIRD[7], f"{bad}: there is no form 'fill'. The form is: region FORM"),
+        ("x3", 9, THIRD[8], f"{bad}: 1 word in place of 2. The form is: region FORM"),
+        ("x4", 3, OVAL, f"{third}: {OVAL_FORM}"),
+        ("x4", 4, CLIPPED, f"{third}: {CLIPPED_FORM}"),
     ]
-    failed = "".join(f"FAILED: screens/{name}.desk: line {at}, '{line}': {why}\n" for name, at, line, why in told)
-    place.says(f"{failed}0 passed, 2 failed\n", "--lint", "screens")
+    failed = "".join(f"FAILED: screens/{name}.desk: line {at}, {text_of(line)}: {why}\n" for name, at, line, why in told)
+    place.says(f"{failed}0 passed, 4 failed\n", "--lint", "screens")
 
 
 def what_is_stored_does_not_matter_to_lint(place):
@@ -162,7 +182,8 @@ Drawing.
 def the_tables_of_the_manual_are_read(_):
     small = Forms(Manual(SMALL))
     same("the commands", sorted(small.commands.items()), [("draw", "draw WINDOW OPERATION"), ("title", 'title WINDOW "TITLE"')])
-    same("the operations", small.operations, {"line": "line H V"})
+    same("the operations", small.inner, {"draw": {"line": "line H V"}})
+    same("the versions", (small.versions, small.latest()), ({}, 1))
     for line, form, unknown in [
         ('title 1 "two words"', 'title WINDOW "TITLE"', None),
         ("titl", 'title WINDOW "TITLE"', "there is no command 'titl', and the nearest is 'title'"),
@@ -182,7 +203,10 @@ def the_tables_of_the_manual_are_read(_):
 def every_line_that_rows_have_answered_has_its_form(_):
     """Those of tests/rows, which were written by hand. A line that is not BadSyntax or TooLong has its form by the manual."""
     its, seen = forms(), set()
-    same("how many commands and operations there are", (len(its.commands), len(its.operations)), (97, 9))
+    counts = len(its.commands), {command: len(forms) for command, forms in its.inner.items()}
+    same("how many commands and inner forms there are", counts, (98, {"draw": 14, "region": 6}))
+    later = {"float": 2, "region": 3, **{f"draw {it}": 3 for it in ("round", "oval", "frect", "fround", "foval")}}
+    same("those of later versions", its.versions, later)
     for folder in folders_in(os.path.join(TOP, "tests", "rows")):
         for row in rows_of(folder):
             due = (row.output() or b"").split(b"\n")

@@ -6,7 +6,7 @@ import subprocess
 from place import TOP, same
 from terminal_kit import SECONDS, Terminal, need
 
-COMMANDS = ["desk", "desk-png", "desk-talk", "desk-test", "desk-view", "desk-web"]
+COMMANDS = ["desk", "desk-png", "desk-rez", "desk-talk", "desk-test", "desk-view", "desk-web"]
 FILES = ["a.font", "one.desk", "other.txt", "two words.desk"]
 SCRIPTS = ["folder", "one.desk", "two words.desk"]
 OF_DESK = ["--bail", "--check", "--font", "--help", "--prove", "--raw", "--trace", "--version", "--which"]
@@ -33,6 +33,12 @@ WANTED = [
     (["desk-view", "--replay", "o"], ["one.desk"]),
     (["desk-web", "--"], ["--help", "--port", "--program", "--record", "--version"]),
     (["desk-web", "--record", "o"], ["one.desk", "other.txt"]),
+    (["desk-rez", ""], ["font", "icon", "list", "script", "text"]),
+    (["desk-rez", "--strict", "l"], ["list"]),
+    (["desk-rez", "--"], ["--help", "--json", "--mask", "--scale", "--strict", "--version"]),
+    (["desk-rez", "--scale", "1"], sorted(["1", *(str(it) for it in range(10, 17))])),
+    (["desk-rez", "list", "o"], ["one.desk", "other.txt"]),
+    (["desk-rez", "list", "--json", "a"], ["a.font"]),
     (["no-such-command", "--"], []),
 ]
 # What has zsh put all that a word may become in its place, at Ctrl+X.

@@ -8,7 +8,9 @@ import subprocess
 from place import TOP, Skipped, same
 from terminal_kit import need
 
+# What is made of the manual, and the page that is made of another document.
 MADE = ("docs/desk.1", "editors/vim/syntax/desk.vim", "editors/vscode/syntaxes/desk.tmLanguage.json")
+PAGE_OF_RESOURCES = "docs/desk-rez.1"
 # A line that the manual would have with a new command, and the one before it.
 BEFORE = "| [`image`](#image) | shows the screen | an image in the format PBM |\n"
 NEW = "| [`beep COUNT`](#image) | makes a noise | `ok` |\n"
@@ -21,6 +23,9 @@ COLORED = [
     [("draw", "Command"), ("1", "Number"), ("text", "Operation"), ("2", "Number"), ("srcOr", "Mode"), ('"text"', "Text")],
     [("draw", "Command"), ("12", "Number"), ("fill", "Operation"), ("patCopy", "Mode"), ("ltGray", "Pattern")],
     [("draw", "Command"), ("1", "Number"), ("clip", "Operation"), ("0A0B", ""), ("rgn", "Operation"), ("0F", "")],
+    [("draw", "Command"), ("1", "Number"), ("foval", "Operation"), ("-2", "Number"), ("patXor", "Mode"), ("black", "Pattern")],
+    [("region", "Command"), ("fround", "Operation"), ("0", "Number"), ("oval", "")],
+    [("region", "Command"), ("fill", "")],
     [("frontwin", "Command")],
     [("front", "Command"), ("2", "Number")],
     [("frontwindow", ""), ("1", "Number")],
@@ -41,19 +46,22 @@ SCOPES = {
 
 def the_files_made_of_the_manual_are_of_now(place):
     check = os.path.join(TOP, "docs", "make-manual")
-    same("those of the tree", place.call(check, "--check", over=False), (0, "3 passed, 0 failed\n", ""))
-    place.copy("desk_kit", "tools", "docs/SCRIPT.md", "docs/make-manual", *MADE)
+    same("those of the tree", place.call(check, "--check", over=False), (0, "4 passed, 0 failed\n", ""))
+    place.copy("desk_kit", "tools", "docs/SCRIPT.md", "docs/RESOURCES.md", "docs/make-manual", *MADE, PAGE_OF_RESOURCES)
     made = place.path("tree/docs/make-manual")
     text = place.read("tree/docs/SCRIPT.md")
     heading = text.replace("### `image`\n", "### `image`, `beep COUNT`\n")
     place.write("tree/docs/SCRIPT.md", heading.replace(BEFORE, BEFORE + NEW))
     stale = "".join(f"FAILED: {it} is not what docs/SCRIPT.md makes of it: type docs/make-manual\n" for it in MADE)
-    same("where a command is new", place.call(made, "--check", over=False), (1, f"{stale}0 passed, 3 failed\n", ""))
+    same("where a command is new", place.call(made, "--check", over=False), (1, f"{stale}1 passed, 3 failed\n", ""))
     same("they are made", place.call(made, over=False), (0, "", ""))
-    same("the next time", place.call(made, "--check", over=False), (0, "3 passed, 0 failed\n", ""))
+    same("the next time", place.call(made, "--check", over=False), (0, "4 passed, 0 failed\n", ""))
     same("those without the new one", [it for it in MADE if "beep" not in place.read(f"tree/{it}")], [])
     os.remove(place.path(f"tree/{MADE[0]}"))
     same("where one is not there", place.call(made, "--check", over=False)[:1], (1,))
+    place.write(f"tree/{PAGE_OF_RESOURCES}", "")
+    stale = f"FAILED: {PAGE_OF_RESOURCES} is not what docs/RESOURCES.md makes of it: type docs/make-manual\n"
+    same("the page of resources", stale in place.call(made, "--check", over=False)[1], True)
     same("other words", place.call(made, "--chek", over=False), (1, "", "usage: make-manual [--check]\n"))
 
 
@@ -81,6 +89,24 @@ def the_manual_page_is_one(place):
     ]:
         same(f"what follows {line}", lines[lines.index(line) + 1] if line in lines else None, after)
     same("marks of the manual", [it for it in lines if "`" in it or "](" in it], [])
+
+
+def the_page_of_resources_is_one(place):
+    need("groff")
+    page = os.path.join(TOP, PAGE_OF_RESOURCES)
+    words = ["groff", "-man", "-Tascii", "-ww", "-P-c", "-rHY=0", "-rLL=400n", page]
+    ran = subprocess.run(words, capture_output=True, cwd=place.folder)
+    same("what groff says", (ran.returncode, ran.stderr), (0, b""))
+    lines = [re.sub(r" +", " ", it).strip() for it in re.sub(r".\x08", "", ran.stdout.decode()).splitlines()]
+    same("its head", lines[0].split(" ")[0], "DESK-REZ(1)")
+    for line, after in [
+        ("SYNOPSIS", "desk-rez [OPTION]... VERB FILE [WORD]..."),
+        ("font FILE NUMBER OUT", "the font of this number, an NFNT or where there is none a FONT, as a file for the option --font of desk"),
+        ("--strict", "the status is 1 where something of a resource has no counterpart. What is written is the same"),
+        ("129, 130, 143", "a signal ended it, as each tool"),
+    ]:
+        same(f"what follows {line}", lines[lines.index(line) + 1] if line in lines else None, after)
+    same("marks of the document", [it for it in lines if "`" in it or "](" in it], [])
 
 
 def the_grammar_colors_the_words(_):
@@ -150,6 +176,7 @@ def the_extension_names_files_that_are_there(_):
 TESTS = [
     the_files_made_of_the_manual_are_of_now,
     the_manual_page_is_one,
+    the_page_of_resources_is_one,
     the_grammar_colors_the_words,
     vim_colors_the_words,
     the_extension_names_files_that_are_there,

@@ -137,7 +137,7 @@ def the_manual_has_every_command_of_the_rows(_):
             with open(os.path.join(at, name), "rb") as file:
                 used.update(re.findall(rb"(?m)^([a-z]+)(?= |\r?$)", file.read()))
     forms = manual().forms
-    same("the commands", len(forms), 97)
+    same("the commands", len(forms), 98)
     same("those that no row has", [it for it in forms if it.encode() not in used], [])
     same("those of the prompt alone", [it for it in OWN if it in forms], [])
     kinds = {
@@ -219,10 +219,15 @@ def words_are_completed(_):
         ("list 1 ", "", ["text "]),
         ("post ", "", []),
         ("draw ", "", []),
-        ("draw 1 ", "f", ["fill ", "frame "]),
+        ("draw 1 ", "f", ["fill ", "frame ", "frect ", "fround ", "foval "]),
         ("draw 1 ", "c", ["clip "]),
         ("draw 1 clip ", "", []),
-        ("draw 1 clip 000A ", "r", ["rgn "]),
+        ("draw 1 clip 000A ", "r", ["rgn ", "round "]),
+        ("draw 1 foval 0 0 8 8 1 1 ", "notPatX", ["notPatXor "]),
+        ("", "reg", ["region "]),
+        ("region ", "", ["rect ", "round ", "oval ", "frect ", "fround ", "foval "]),
+        ("region ", "fr", ["frect ", "fround "]),
+        ("region oval ", "", []),
         ("draw 1 fill 0 0 2 ", "p", []),
         ("draw 1 fill 0 0 2 2 ", "pat", ["patCopy ", "patOr ", "patXor ", "patBic "]),
         ("draw 1 clip 000A fill 0 0 2 2 patOr ", "", ["black", "dkGray", "gray", "ltGray", "white"]),

@@ -67,6 +67,10 @@ def each_line_is_shown_beside_its_answer(place):
     floats = floats.replace("plain", "plian")
     shown = f"1  version 2  -> ok\n2  desk 8 8 0  -> ok\n3  {floats}  -> refused 20 NoSuchName. {form}\n"
     same("a name that is none", traced(place, given=f"version 2\ndesk 8 8 0\n{floats}\n".encode()), (0, shown, ""))
+    draws = "draw 1 oval 0 0 8 8 nomode black"
+    form = "The form is: draw WINDOW oval LEFT TOP RIGHT BOTTOM MODE PATTERN"
+    shown = f"1  version 2  -> ok\n2  {draws}  -> refused 15 BadSyntax: the script does not begin with 'version 3'. {form}\n"
+    same("a form of a later version", traced(place, given=f"version 2\n{draws}\n".encode()), (0, shown, ""))
     text = b"\xef\xbb\xbfdesk 8 8 0\n# \xc3\xa9\t\xff\n"
     shown = f"1  \\ufeffdesk 8 8 0  -> refused 15 BadSyntax: {MARK}. The form is: desk WIDTH HEIGHT BAR\n2  # é\\t\\xff\n"
     same("bytes that are no letters", traced(place, given=text), (0, shown, ""))

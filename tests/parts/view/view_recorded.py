@@ -192,7 +192,7 @@ def a_replay_begins_at_the_first_line_that_is_done(program, _):
     for script, status, sides in (
         (b"fly\ndesk 8 7 0\ndesk 8 9 0\nfrontwin\n", "Line 3 of 4: desk 8 9 0: ok", (8, 9)),
         (b"version 2\ndesk 8 9 0\nfrontwin\n", "Line 2 of 3: desk 8 9 0: ok", (8, 9)),
-        (b"version 3\nversion 2\ndesk 8 9 0", "Line 3 of 3 (the end): desk 8 9 0: ok", (8, 9)),
+        (b"version 4\nversion 2\ndesk 8 9 0", "Line 3 of 3 (the end): desk 8 9 0: ok", (8, 9)),
         (b"# nothing\n", "Line 0 of 1 (the end): no command", (512, 342)),
         (b"fly", "Line 1 of 1 (the end): fly: refused 15 BadSyntax", (512, 342)),
         (b"post 1 " + b"0" * 100 + b" 1\ndesk 8 8 0", "Line 2 of 2 (the end): desk 8 8 0: ok", (8, 8)),

@@ -2,6 +2,7 @@ use Rattle.std.proofs.Common.{◌≡◌, ◌+◌, ◌<◌, [], length, take, sub
 use Rattle.std.proofs.lemmas.List.{length-take}
 use Rattle.std.proofs.lemmas.Result.{err_from_is_err_and}
 use Rattle.watched_io.specs.Reads.{Gave}
+use Rattle.script_text.specs.Held.{said_last}
 use Rattle.script_runner.proofs.Ends.{start, read_more, finished}
 use Rattle.script_runner.proofs.runner.answer_all.Goals as goal
 
@@ -17,7 +18,7 @@ loop-read-init g c = record {
 pub returns-then-count-eq0-clause-ends : goal.returns-then-count-eq0-clause-ends
 returns-then-count-eq0-clause-ends g c =
     let none : take c.in_ok-count.count c.read_some.new.buffer ≡ [] = rw c.if-count-eq0.true refl in
-    finished c.args.writer.now.raw _ _ _ _ _ _ _ _ c.loop-read.invariant.so_far (subst (Gave _ _) none c.in_ok-count.ensures.bytes) _ _ c.answer.result c.said_last.result c.said_last.ensures (rw c.loop-read.invariant.same.1 at c.answer.ensures.ends)
+    finished c.args.writer.now.raw _ _ _ _ _ _ _ _ c.loop-read.invariant.so_far (subst (Gave _ _) none c.in_ok-count.ensures.bytes) _ _ c.answer.result c.said_last.result (c.said_last.ensures ∙ ap (λ v. said_last v _) c.version-version.ensures) (rw c.loop-read.invariant.same.1 at c.answer.ensures.ends)
 
 pub returns-in_err-take_all-clause-ends : goal.returns-in_err-take_all-clause-ends
 returns-in_err-take_all-clause-ends g c =

@@ -1,0 +1,79 @@
+-- What is read of a form and of what follows it.
+use Rattle.std.proofs.Common.{◌≡◌, ℕ, ℤ, List, Option, Ok, Err, refl, ◌∙◌}
+use Rattle.tb_geom.specs.declared.rect.Rect.{Rect}
+use Rattle.lent_ops.specs.declared.form_ref.CornerRef.{CornerRef}
+use Rattle.lent_ops.specs.declared.form_ref.FormRef.{FormRef}
+use Rattle.lent_ops.specs.declared.form_ref.FormRef.TheVariants.{Rect as RectForm, Round, Oval, FrameRect, FrameRound, FrameOval}
+use Rattle.lent_ops.specs.declared.form_ref.PenRef.{PenRef}
+use Rattle.line_words.specs.Words.{◌>>=◌, Field, number_at, rect_at}
+use Rattle.line_words.specs.Shapes.{Shape, number, rect, reading}
+use Rattle.command_words.specs.declared.forms.FormWord.{FormWord}
+use Rattle.command_words.specs.declared.forms.FormWord.TheVariants as words
+use Rattle.command_words.specs.Forms.{corner, pen, form_shape, corner_at, pen_at, form_at}
+
+-- what follows a word is read after the word and all that belongs to it, or after the word alone
+field_then : {A B C : Type 0} (w : Field C) (shape : C → Shape A) (rest_at : C → Option (List ℕ) → Field B) (next : B → Shape A)
+    → ((x : C) (more : Option (List ℕ)) → reading (shape x) more ≡ (rest_at x more >>= λ y. reading (next y.0) y.1))
+    → (w >>= λ x. reading (shape x.0) x.1) ≡ ((w >>= λ x. rest_at x.0 x.1) >>= λ y. reading (next y.0) y.1)
+field_then (Ok x) shape rest_at next same = same x.0 x.1
+field_then (Err e) shape rest_at next same = refl
+
+abbrev pair_at : {B : Type 0} → (ℤ → ℤ → B) → Option (List ℕ) → Field B
+pair_at of rest = number_at rest >>= λ width. number_at width.1 >>= λ height. Ok (of width.0 height.0, height.1)
+
+pair_then : {A B : Type 0} (of : ℤ → ℤ → B) (next : B → Shape A) (rest : Option (List ℕ))
+    → reading (number (λ width. number (λ height. next (of width height)))) rest
+    ≡ (pair_at of rest >>= λ x. reading (next x.0) x.1)
+pair_then of next rest =
+    field_then (number_at rest) (λ width. number (λ height. next (of width height)))
+    (λ width more. number_at more >>= λ height. Ok (of width height.0, height.1)) next
+    (λ width more. field_then (number_at more) (λ height. next (of width height)) (λ height more. Ok (of width height, more)) next (λ height more. refl))
+
+corner_then : {A : Type 0} (next : CornerRef → Shape A) (rest : Option (List ℕ)) → reading (corner next) rest ≡ (corner_at rest >>= λ x. reading (next x.0) x.1)
+corner_then next rest = pair_then {B = CornerRef} (λ width height. record { width = width; height = height }) next rest
+
+pen_then : {A : Type 0} (next : PenRef → Shape A) (rest : Option (List ℕ)) → reading (pen next) rest ≡ (pen_at rest >>= λ x. reading (next x.0) x.1)
+pen_then next rest = pair_then {B = PenRef} (λ width height. record { width = width; height = height }) next rest
+
+abbrev sides : ℤ → ℤ → ℤ → ℤ → Rect
+sides left top right bottom = record { left = left; top = top; right = right; bottom = bottom }
+
+rect_then : {A : Type 0} (next : Rect → Shape A) (rest : Option (List ℕ)) → reading (rect next) rest ≡ (rect_at rest >>= λ x. reading (next x.0) x.1)
+rect_then next rest =
+    field_then (number_at rest) (λ left. number (λ top. number (λ right. number (λ bottom. next (sides left top right bottom)))))
+    (λ left more. number_at more >>= λ top. number_at top.1 >>= λ right. number_at right.1 >>= λ bottom. Ok (sides left top.0 right.0 bottom.0, bottom.1)) next
+    (λ left more. field_then (number_at more) (λ top. number (λ right. number (λ bottom. next (sides left top right bottom))))
+    (λ top more. number_at more >>= λ right. number_at right.1 >>= λ bottom. Ok (sides left top right.0 bottom.0, bottom.1)) next
+    (λ top more. pair_then (sides left top) next more))
+
+-- a form is read by its numbers, and then what follows it
+pub form_then : {A : Type 0} (word : FormWord) (next : FormRef → Shape A) (rest : Option (List ℕ)) → reading (form_shape word next) rest ≡ (form_at word rest >>= λ x. reading (next x.0) x.1)
+form_then words.Rect next rest =
+    rect_then (λ r. next (RectForm r)) rest
+    ∙ field_then (rect_at rest) (λ r. next (RectForm r)) (λ r more. Ok (RectForm r, more)) next (λ r more. refl)
+form_then words.Oval next rest =
+    rect_then (λ r. next (Oval r)) rest
+    ∙ field_then (rect_at rest) (λ r. next (Oval r)) (λ r more. Ok (Oval r, more)) next (λ r more. refl)
+form_then words.Round next rest =
+    rect_then (λ r. corner (λ c. next (Round r c))) rest
+    ∙ field_then (rect_at rest) (λ r. corner (λ c. next (Round r c))) (λ r more. corner_at more >>= λ c. Ok (Round r c.0, c.1)) next
+    (λ r more. corner_then (λ c. next (Round r c)) more
+    ∙ field_then (corner_at more) (λ c. next (Round r c)) (λ c more. Ok (Round r c, more)) next (λ c more. refl))
+form_then words.FrameRect next rest =
+    rect_then (λ r. pen (λ p. next (FrameRect r p))) rest
+    ∙ field_then (rect_at rest) (λ r. pen (λ p. next (FrameRect r p))) (λ r more. pen_at more >>= λ p. Ok (FrameRect r p.0, p.1)) next
+    (λ r more. pen_then (λ p. next (FrameRect r p)) more
+    ∙ field_then (pen_at more) (λ p. next (FrameRect r p)) (λ p more. Ok (FrameRect r p, more)) next (λ p more. refl))
+form_then words.FrameOval next rest =
+    rect_then (λ r. pen (λ p. next (FrameOval r p))) rest
+    ∙ field_then (rect_at rest) (λ r. pen (λ p. next (FrameOval r p))) (λ r more. pen_at more >>= λ p. Ok (FrameOval r p.0, p.1)) next
+    (λ r more. pen_then (λ p. next (FrameOval r p)) more
+    ∙ field_then (pen_at more) (λ p. next (FrameOval r p)) (λ p more. Ok (FrameOval r p, more)) next (λ p more. refl))
+form_then words.FrameRound next rest =
+    rect_then (λ r. corner (λ c. pen (λ p. next (FrameRound r c p)))) rest
+    ∙ field_then (rect_at rest) (λ r. corner (λ c. pen (λ p. next (FrameRound r c p))))
+    (λ r more. corner_at more >>= λ c. pen_at c.1 >>= λ p. Ok (FrameRound r c.0 p.0, p.1)) next
+    (λ r more. corner_then (λ c. pen (λ p. next (FrameRound r c p))) more
+    ∙ field_then (corner_at more) (λ c. pen (λ p. next (FrameRound r c p))) (λ c more. pen_at more >>= λ p. Ok (FrameRound r c p.0, p.1)) next
+    (λ c more. pen_then (λ p. next (FrameRound r c p)) more
+    ∙ field_then (pen_at more) (λ p. next (FrameRound r c p)) (λ p more. Ok (FrameRound r c p, more)) next (λ p more. refl)))

@@ -1,0 +1,21 @@
+use Rattle.std.proofs.lemmas.Result.{MatchResult-weaker}
+use Rattle.tb_geom.specs.Points.{PixelSet}
+use Rattle.shape_strips.specs.Rounds.{round_holds}
+use Rattle.shape_strips.specs.Frames.{frame_holds}
+use Rattle.lent_ops.specs.Forms.{form_holds}
+use Rattle.lent_ops.proofs.FormLemmas.{told_as, not_told_as}
+use Rattle.lent_ops.proofs.form_ref.FormRef.to_bytes.Goals as goal
+
+pub returns-in-Painted : goal.returns-in-Painted
+returns-in-Painted c =
+    let s : PixelSet = round_holds c.in-Painted.strip.rect c.in-Painted.strip.corner in
+    MatchResult-weaker c.form_bytes.result c.form_bytes.ensures
+    (λ bytes told. told_as s (form_holds c.args.self.now) c.in-Painted.ensures bytes.items told)
+    (λ e why. not_told_as s (form_holds c.args.self.now) c.in-Painted.ensures e why)
+
+pub returns-in-Framed : goal.returns-in-Framed
+returns-in-Framed c =
+    let s : PixelSet = frame_holds c.in-Framed.frame.rect c.in-Framed.frame.corner c.in-Framed.frame.pen in
+    MatchResult-weaker c.form_bytes-in-Framed.result c.form_bytes-in-Framed.ensures
+    (λ bytes told. told_as s (form_holds c.args.self.now) c.in-Framed.ensures bytes.items told)
+    (λ e why. not_told_as s (form_holds c.args.self.now) c.in-Framed.ensures e why)

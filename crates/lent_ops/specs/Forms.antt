@@ -1,0 +1,56 @@
+-- Shapes that calls carry: their numbers, and the pixels that they mean.
+use Rattle.std.specs.Prelude.{ℤ, Bool, ◌&&◌, pos, int_le, nat_abs}
+use Rattle.tb_geom.specs.Points.{PixelSet}
+use Rattle.tb_geom.specs.Pixels.{Pixels, pixels_where}
+use Rattle.tb_geom.specs.Rects.{is_in_range, rect_holds}
+use Rattle.shape_strips.specs.declared.corner.Corner.{Corner}
+use Rattle.shape_strips.specs.declared.pen.Pen.{Pen}
+use Rattle.shape_strips.specs.Rounds.{no_corner, oval_corner, oval_holds, round_holds}
+use Rattle.shape_strips.specs.Frames.{frame_holds}
+use Rattle.lent_ops.specs.declared.form_ref.CornerRef.{CornerRef}
+use Rattle.lent_ops.specs.declared.form_ref.PenRef.{PenRef}
+use Rattle.lent_ops.specs.declared.form_ref.FormRef.{FormRef}
+use Rattle.lent_ops.specs.declared.form_ref.FormRef.TheVariants.{Rect, Round, Oval, FrameRect, FrameRound, FrameOval}
+
+-- a side of a corner: 0 to 32767
+abbrev pub is_corner_side : ℤ → Bool
+is_corner_side n = int_le (pos 0) n && int_le n (pos 32767)
+
+-- a side of a pen: 0 to 1024
+abbrev pub is_pen_side : ℤ → Bool
+is_pen_side n = int_le (pos 0) n && int_le n (pos 1024)
+
+abbrev pub is_corner : CornerRef → Bool
+is_corner c = is_corner_side c.width && is_corner_side c.height
+
+abbrev pub is_pen : PenRef → Bool
+is_pen p = is_pen_side p.width && is_pen_side p.height
+
+-- each number of a form lies in its range
+abbrev pub is_form_in_range : FormRef → Bool
+is_form_in_range (Rect r) = is_in_range r
+is_form_in_range (Round r c) = is_in_range r && is_corner c
+is_form_in_range (Oval r) = is_in_range r
+is_form_in_range (FrameRect r p) = is_in_range r && is_pen p
+is_form_in_range (FrameRound r c p) = is_in_range r && (is_corner c && is_pen p)
+is_form_in_range (FrameOval r p) = is_in_range r && is_pen p
+
+-- the corner and the pen that given ones are
+abbrev pub corner_of : CornerRef → Corner
+corner_of c = record { width = nat_abs c.width; height = nat_abs c.height }
+
+abbrev pub pen_of : PenRef → Pen
+pen_of p = record { width = nat_abs p.width; height = nat_abs p.height }
+
+-- the pixels of a form
+abbrev pub form_holds : FormRef → PixelSet
+form_holds (Rect r) = rect_holds r
+form_holds (Round r c) = round_holds r (corner_of c)
+form_holds (Oval r) = oval_holds r
+form_holds (FrameRect r p) = frame_holds r no_corner (pen_of p)
+form_holds (FrameRound r c p) = frame_holds r (corner_of c) (pen_of p)
+form_holds (FrameOval r p) = frame_holds r (oval_corner r) (pen_of p)
+
+-- the finite set of them
+abbrev pub form_pixels : FormRef → Pixels
+form_pixels f = pixels_where (λ h v. form_holds f (record { h = h; v = v }))

@@ -1,0 +1,11 @@
+-- Forms whose numbers are judged.
+use Rattle.tb_geom.specs.Points.{PixelSet}
+use Rattle.shape_strips.specs.Rounds.{round_holds}
+use Rattle.shape_strips.specs.Frames.{frame_holds}
+use Rattle.lent_ops.specs.declared.forms.Judged.{Judged}
+use Rattle.lent_ops.specs.declared.forms.Judged.TheVariants.{Painted, Framed}
+
+-- the pixels of a judged form
+abbrev pub judged_holds : Judged → PixelSet
+judged_holds (Painted s) = round_holds s.rect s.corner
+judged_holds (Framed s) = frame_holds s.rect s.corner s.pen

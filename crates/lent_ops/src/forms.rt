@@ -1,0 +1,147 @@
+//! Forms that calls carry: judged, and made regions and bytes.
+ghost use Rattle.std.specs.Prelude.{◌≡◌, true, IfOk, MatchResult};
+ghost use Rattle.tb_geom.specs.declared.point.Point.{Point};
+ghost use Rattle.tb_geom.specs.Pixels.{holds};
+ghost use Rattle.tb_geom.specs.Rects.{is_in_range};
+ghost use Rattle.shape_strips.specs.Rounds.{round_holds};
+ghost use Rattle.shape_strips.specs.Frames.{frame_holds};
+ghost use Rattle.shape_region.specs.Told.{AreRegionBytes, IsNotTold};
+ghost use Rattle.lent_ops.specs.Forms.{corner_of, form_holds, is_corner, is_form_in_range, is_pen, pen_of};
+ghost use Rattle.lent_ops.specs.Judged.{judged_holds};
+
+use crate::form_ref::{CornerRef, FormRef, PenRef};
+use scan_region::Region;
+use shape_region::{Frame, Solid, form_bytes, form_region};
+use shape_strips::{Corner, Pen, RoundStrip};
+use std::alloc::{AllocError, Global};
+use tb_geom::{Rect, Refusal};
+
+/// The longest side that a corner may have.
+const LONGEST_CORNER: i32 = 32767;
+
+/// The longest side that a pen may have.
+const LONGEST_PEN: i32 = 1024;
+
+/// A form whose numbers are judged.
+#[derive(Clone, Copy)]
+enum Judged {
+    Painted(RoundStrip),
+    Framed(Frame),
+}
+
+impl FormRef {
+    /// Whether each number of the form lies in its range: the sides of the rectangle in -16384..=16383, those of the
+    /// corner in 0..=32767, and those of the pen in 0..=1024.
+    pub fn is_near(&self) -> bool
+        ensures { result ≡ is_form_in_range self.now }
+    {
+        match self {
+            FormRef::Rect(rect) | FormRef::Oval(rect) => rect.is_in_range(),
+            FormRef::Round(rect, corner) => rect.is_in_range() && corner.is_near(),
+            FormRef::FrameRect(rect, pen) | FormRef::FrameOval(rect, pen) => {
+                rect.is_in_range() && pen.is_near()
+            }
+            FormRef::FrameRound(rect, corner, pen) => {
+                rect.is_in_range() && (corner.is_near() && pen.is_near())
+            }
+        }
+    }
+
+    /// The region of the form's pixels, in the coordinate space of its rectangle.
+    pub fn to_region(&self, alloc: Global) -> Result<Region, AllocError>
+        requires { is_form_in_range self.now ≡ true }
+        ensures { IfOk result (λ region. (p : Point) → holds region p ≡ form_holds self.now p) }
+    {
+        match self.judged() {
+            Judged::Painted(strip) => form_region(alloc, &Solid { strip: &strip }),
+            Judged::Framed(frame) => form_region(alloc, &frame),
+        }
+    }
+
+    /// The bytes of the region of the form's pixels (*Inside Macintosh* I, "QuickDraw": the type `Region`). TooLong
+    /// where they would be more than 32766, else it refuses only for want of memory.
+    pub fn to_bytes(&self, alloc: Global) -> Result<Vec<u8>, Refusal>
+        requires { is_form_in_range self.now ≡ true }
+        ensures { MatchResult result (λ bytes. AreRegionBytes (form_holds self.now) bytes.items)
+            (IsNotTold (form_holds self.now)) }
+    {
+        match self.judged() {
+            Judged::Painted(strip) => form_bytes(alloc, &Solid { strip: &strip }),
+            Judged::Framed(frame) => form_bytes(alloc, &frame),
+        }
+    }
+
+    /// The form with its numbers in range.
+    fn judged(&self) -> Judged
+        requires { is_form_in_range self.now ≡ true }
+        ensures { (p : Point) → judged_holds result p ≡ form_holds self.now p }
+    {
+        match *self {
+            FormRef::Rect(rect) => painted(rect, Corner::none()),
+            FormRef::Round(rect, corner) => painted(rect, corner.to_corner()),
+            FormRef::Oval(rect) => painted(rect, Corner::of_oval(rect)),
+            FormRef::FrameRect(rect, pen) => framed(rect, Corner::none(), pen),
+            FormRef::FrameRound(rect, corner, pen) => framed(rect, corner.to_corner(), pen),
+            FormRef::FrameOval(rect, pen) => framed(rect, Corner::of_oval(rect), pen),
+        }
+    }
+}
+
+/// The form of a painted shape.
+fn painted(rect: Rect, corner: Corner) -> Judged
+    requires { is_in_range rect ≡ true }
+    ensures { (p : Point) → judged_holds result p ≡ round_holds rect corner p }
+{
+    Judged::Painted(RoundStrip { rect, corner })
+}
+
+/// The form of a shape that a pen frames.
+fn framed(rect: Rect, corner: Corner, pen: PenRef) -> Judged
+    requires rect { is_in_range rect ≡ true }
+    requires pen { is_pen pen ≡ true }
+    ensures { (p : Point) → judged_holds result p ≡ frame_holds rect corner (pen_of pen) p }
+{
+    let pen = pen.to_pen();
+    Judged::Framed(Frame { rect, corner, pen })
+}
+
+impl CornerRef {
+    /// Whether each side lies in 0..=32767.
+    fn is_near(&self) -> bool
+        ensures { result ≡ is_corner self.now }
+    {
+        (0 <= self.width && self.width <= LONGEST_CORNER)
+            && (0 <= self.height && self.height <= LONGEST_CORNER)
+    }
+
+    fn to_corner(&self) -> Corner
+        requires { is_corner self.now ≡ true }
+        ensures { result ≡ corner_of self.now }
+    {
+        let CornerRef { width, height } = *self;
+        Corner {
+            width: width as u16,
+            height: height as u16,
+        }
+    }
+}
+
+impl PenRef {
+    /// Whether each side lies in 0..=1024.
+    fn is_near(&self) -> bool
+        ensures { result ≡ is_pen self.now }
+    {
+        (0 <= self.width && self.width <= LONGEST_PEN)
+            && (0 <= self.height && self.height <= LONGEST_PEN)
+    }
+
+    fn to_pen(&self) -> Pen
+        requires { is_pen self.now ≡ true }
+        ensures { result ≡ pen_of self.now }
+    {
+        Pen {
+            width: self.width as u16,
+            height: self.height as u16,
+        }
+    }
+}

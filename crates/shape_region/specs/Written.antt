@@ -1,0 +1,15 @@
+-- How the region of a set of pixels is written.
+use Rattle.std.specs.Prelude.{◌≡◌, List, ℤ}
+use Rattle.tb_geom.specs.Points.{PixelSet}
+use Rattle.region_bytes.specs.declared.writing.RegionWriter.{RegionWriter}
+use Rattle.region_bytes.specs.Points.{in_rows, points_of}
+use Rattle.region_bytes.specs.Words.{data_words}
+use Rattle.region_bytes.specs.Writing.{IsWritten}
+use Rattle.region_rows.specs.Rows.{EdgeRow, AreRows}
+
+-- the words and points of all rows of the set's region are written
+pub record AreWrittenRows (s : PixelSet) (out : RegionWriter) : Type 0 where
+  pub rows : List EdgeRow
+  pub are_rows : AreRows rows
+  pub pixels : (h v : ℤ) → in_rows rows h v ≡ s (record { h = h; v = v })
+  pub written : IsWritten out (data_words rows) (points_of rows)
