@@ -230,7 +230,7 @@ window_classed call (Err e) before after step h =
 
 -- ---- any step
 
-bare_alike : (ws vs : List WindowRecord) → map bare vs ≡ map bare ws → map is_floating vs ≡ map is_floating ws
+pub bare_alike : (ws vs : List WindowRecord) → map bare vs ≡ map bare ws → map is_floating vs ≡ map is_floating ws
 bare_alike ws vs same = sym (floating_mapped bare (λ w. refl) vs) ∙ ap (map is_floating) same ∙ floating_mapped bare (λ w. refl) ws
 
 abbrev StaysClassed : Call → Result Reply Refusal → ToolboxState → ToolboxState → Type 0

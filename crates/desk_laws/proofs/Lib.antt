@@ -17,6 +17,7 @@ pub mod Shown
 pub mod FrontLaws
 pub mod FindLaws
 pub mod FindWindowLaws
+pub mod Floaters
 pub mod LeftByMenus
 pub mod OutlineLaws
 pub mod OpenUpdates

@@ -1,5 +1,5 @@
 //! What holds of windows that float, and of which window is active, in each state that a desk reaches.
-ghost use Rattle.std.specs.Prelude.{◌≡◌, ◌≢◌, ◌∷◌, ◌++◌, [], ℕ, Bool, true, List, map, Some, All, Result};
+ghost use Rattle.std.specs.Prelude.{◌≡◌, ◌≢◌, ◌∷◌, ◌++◌, [], ℕ, Bool, true, false, List, map, Some, All, Result};
 ghost use Rattle.std.specs.List.{find};
 ghost use Rattle.std.specs.Option.{option_map};
 ghost use Rattle.tb_geom.specs.declared.refusal.Refusal.{Refusal};
@@ -13,7 +13,7 @@ ghost use Rattle.desk_toolbox.specs.Classes.{AreClassed, IsOfClass};
 ghost use Rattle.desk_toolbox.specs.Reached.{IsConsistent};
 ghost use Rattle.desk_toolbox.specs.Run.{IsRunOfCalls, IsStep};
 ghost use Rattle.desk_toolbox.specs.ToolboxStates.{ToolboxState};
-ghost use Rattle.desk_laws.specs.OneClass.{AreOrdinary};
+ghost use Rattle.desk_laws.specs.OneClass.{AreOrdinary, asks_to_float};
 
 /// The window that FrontWindow answers is the first ordinary one of the list that is visible.
 #[tactic(auto, using(crate::proofs::Sayings::front_is_first))]
@@ -66,4 +66,13 @@ pub fn without_floating_windows_there_is_one_class()
         → put_back is_floating window windows ≡ windows ++ window ∷ [] }
     ensures first { (windows : List WindowRecord) → AreOrdinary windows
         → front_of windows ≡ option_map (λ w. w.serial) (find (λ w. w.shown) windows) }
+{}
+
+/// Where no call of a run asks for a window that floats, and none floats at first, none does at the end. So what holds of one
+/// class holds of a script that has no such call.
+#[tactic(auto, using(crate::proofs::Floaters::run_stays_ordinary))]
+pub fn windows_float_only_where_asked()
+    ensures { (first last : ToolboxState) (calls : List Call) (answers : List (Result Reply Refusal))
+        → IsRunOfCalls first calls answers last → All (λ call. asks_to_float call ≡ false) calls
+        → AreOrdinary first.desk.windows.desk.windows → AreOrdinary last.desk.windows.desk.windows }
 {}

@@ -54,7 +54,7 @@ IsReordered (Arranges a) desk = (g : Weight) → total g a.windows ≡ total g d
 IsReordered _ desk = Unit {0}
 
 abbrev pub Counts : Effect → FullDesk → FullDesk → Type 0
-Counts (Makes floating w) before after = (n : ℕ) × IsAdded n before after
+Counts (Makes floating w) before after = (n : ℕ) × (added : IsAdded n before after) × (added.floating ≡ floating)
 Counts (Disposes s) before after = IsRemoved s before after
 Counts _ before after = IsKept before after
 
@@ -111,7 +111,7 @@ arranged_counts a before after reordered arranged = record {
 }
 
 effect_counts : (effect : Effect) (answer : WindowReply) (before after : FullState) → IsReordered effect before.desk → IsEffect effect answer before after → Counts effect before.desk after.desk
-effect_counts (Makes floating w) answer before after all (n, is, new) = (n, made_counts floating w n before after new)
+effect_counts (Makes floating w) answer before after all (n, is, new) = (n, made_counts floating w n before after new, refl)
 effect_counts (Draws d) answer before after all (is, drawn) = record {
   next = ap (λ (x : FullDesk). x.next) drawn.desk;
   all = λ g. ap (λ (x : FullDesk). total g x.windows) drawn.desk

@@ -142,8 +142,8 @@ placed_recounts None before after kept = kept_is_same before after kept
 placed_recounts (Some p) before after kept = kept_is_same before after kept
 
 call_recounts : (call : WindowCall) (desk before after : FullDesk) → Counts (effect_of call desk) before after → Recount (to_dispose call) before after
-call_recounts (asks.New w) desk before after (n, added) = inr (n, record { floating = added.floating; serials = added.serials; next = added.next; count = λ c s. added.all (counting c s) })
-call_recounts (asks.NewFloating w) desk before after (n, added) = inr (n, record { floating = added.floating; serials = added.serials; next = added.next; count = λ c s. added.all (counting c s) })
+call_recounts (asks.New w) desk before after (n, added, its) = inr (n, record { floating = added.floating; serials = added.serials; next = added.next; count = λ c s. added.all (counting c s) })
+call_recounts (asks.NewFloating w) desk before after (n, added, its) = inr (n, record { floating = added.floating; serials = added.serials; next = added.next; count = λ c s. added.all (counting c s) })
 call_recounts (asks.Dispose s) desk before after removed = record { floating = removed.floating; found = removed.found; next = removed.next; count = λ c x. removed.all (counting c x) }
 call_recounts (asks.Size z) desk before after kept = placed_recounts (sized z (record_with z.window desk.windows)) before after kept
 call_recounts (asks.Zoom z) desk before after kept = placed_recounts (zoomed z (record_with z.window desk.windows) desk) before after kept
