@@ -13,7 +13,8 @@ pub use command_words::laws::{a_verb_is_one_of_the_table, modes_are_read_by_thei
 /// What a line says is a command, or that something has not the name that it names: no other refusal, and
 /// not BadSyntax.
 pub fn a_line_says_a_command_or_an_unknown_name()
-    ensures { (version : ℤ) (line : List ℕ) (said : Result Command Refusal) → IsLine version line said → IfErr said (λ e. e ≡ NoSuchName) }
+    ensures { (version : ℤ) (line : List ℕ) (said : Result Command Refusal)
+        → IsLine version line said → IfErr said (λ e. e ≡ NoSuchName) }
 {}
 
 /// What a line says is a command that the version of the script has.
