@@ -1,5 +1,5 @@
 -- What is not a call is said alike in every version.
-use Rattle.std.proofs.Common.{◌≡◌, ℕ, ℤ, pos, Bool, true, false, if◌then◌else◌, List, [], ◌∷◌, ◌++◌, length, Option, Some, None, Result, Ok, Err, bytes_eq, refl, sym, ap, ◌∙◌, subst}
+use Rattle.std.proofs.Common.{◌≡◌, ℕ, ℤ, pos, Bool, true, false, if◌then◌else◌, List, [], ◌∷◌, ◌++◌, length, Option, Some, None, Result, Ok, Err, bytes_eq, refl, sym, ap, ◌∙◌}
 use Rattle.std.specs.Prelude.{int_le, nat_lt, codes}
 use Rattle.std.specs.List.{list_all}
 use Rattle.tb_geom.specs.declared.refusal.Refusal.{Refusal}
@@ -13,13 +13,6 @@ use Rattle.line_words.proofs.Mapped.{reading_mapped}
 use Rattle.command_words.specs.declared.verb.Verb.{Verb}
 use Rattle.command_words.specs.declared.verb.Verb.TheVariants as words
 use Rattle.command_words.specs.declared.windows.WindowVerb.TheVariants as windows
-use Rattle.command_words.specs.ControlWords.{control_shape}
-use Rattle.command_words.specs.EventWords.{event_shape}
-use Rattle.command_words.specs.FrameWords.{frame_shape}
-use Rattle.command_words.specs.ListWords.{list_shape}
-use Rattle.command_words.specs.MenuWords.{menu_shape}
-use Rattle.command_words.specs.OutlineWords.{outline_shape}
-use Rattle.command_words.specs.UpdateWords.{update_shape}
 use Rattle.command_words.specs.Verbs.{verbs, later_verbs, verbs_of}
 use Rattle.command_words.specs.WindowWords.{window_shape}
 use Rattle.command_words.proofs.NamedLemmas.{first_found, named-append}

@@ -8,7 +8,7 @@ use Rattle.tb_geom.specs.declared.refusal.Refusal.TheVariants.{BadSyntax, TooLon
 use Rattle.desk_call.specs.declared.call.Call.TheVariants as calls
 use Rattle.desk_call.specs.declared.window.WindowCall.TheVariants as window_calls
 use Rattle.line_words.specs.Words.{◌>>=◌, Field, number_at, name_at, hex_at, word_at, is_plain, serial_of}
-use Rattle.line_words.specs.Shapes.{Shape, number, name, hex, mapped, reading}
+use Rattle.line_words.specs.Shapes.{Shape, name, mapped, reading}
 use Rattle.line_words.specs.Tables.{named}
 use Rattle.line_words.proofs.Mapped.{reading_mapped, mapped_err}
 use Rattle.command_words.specs.declared.operation.Operation.{Operation}

@@ -1,18 +1,13 @@
 -- What a line says is of the version of its script.
-use Rattle.std.proofs.Common.{◌≡◌, ℕ, ℤ, pos, ◌&&◌, Bool, true, false, if◌then◌else◌, List, [], ◌∷◌, ◌++◌, map, length, Option, Some, None, Result, Ok, Err, bytes_eq, refl, sym, ap, ◌∙◌, subst}
+use Rattle.std.proofs.Common.{◌≡◌, ℕ, ℤ, pos, Bool, true, false, if◌then◌else◌, List, [], ◌∷◌, ◌++◌, map, length, Option, Some, None, Ok, Err, bytes_eq, refl, subst}
 use Rattle.std.specs.Prelude.{int_le, nat_lt, codes}
 use Rattle.std.specs.List.{list_all}
 use Rattle.std.proofs.lemmas.Bool.{and_parts}
-use Rattle.tb_geom.specs.declared.refusal.Refusal.{Refusal}
 use Rattle.tb_geom.specs.declared.refusal.Refusal.TheVariants.{BadSyntax, TooLong}
 use Rattle.desk_call.specs.declared.call.Call.TheVariants as calls
-use Rattle.desk_call.specs.declared.window.WindowCall.{WindowCall}
-use Rattle.desk_call.specs.declared.window.WindowCall.TheVariants as window_calls
-use Rattle.desk_call.specs.declared.window.Drawing.{Drawing}
-use Rattle.lent_ops.specs.declared.op_ref.ShapeRef.{ShapeRef}
 use Rattle.lent_ops.specs.declared.op_ref.ShapeRef.TheVariants as shapes
 use Rattle.line_words.specs.Words.{◌>>=◌, Field, word_at, is_plain, serial_of}
-use Rattle.line_words.specs.Shapes.{Shape, mapped, reading}
+use Rattle.line_words.specs.Shapes.{mapped}
 use Rattle.line_words.specs.Tables.{named}
 use Rattle.command_words.specs.declared.forms.FormWord.{FormWord}
 use Rattle.command_words.specs.declared.forms.FormWord.TheVariants as forms
@@ -34,7 +29,7 @@ use Rattle.command_words.specs.UpdateWords.{update_shape}
 use Rattle.command_words.specs.Verbs.{verbs, verbs_of}
 use Rattle.command_words.specs.WindowWords.{window_shape}
 use Rattle.script_text.specs.declared.command.Command.{Command}
-use Rattle.script_text.specs.declared.command.Command.TheVariants.{Version, Desk, Image, Call}
+use Rattle.script_text.specs.declared.command.Command.TheVariants.{Call}
 use Rattle.script_text.specs.Commands.{shape_of, read_with, command_of}
 use Rattle.script_text.specs.Lines.{is_skipped, said}
 use Rattle.script_text.specs.Versions.{has_operation, has_command}

@@ -50,11 +50,7 @@ fn new_version<'a>(words: Words<'a>) -> Result<Command<'a>, Refusal>
 
 /// The words after a verb for windows, in a script of this version.
 #[tactic(auto, using(line_words::proofs::Mapped::reading_mapped))]
-fn window<'a>(
-    version: i32,
-    verb: WindowVerb,
-    words: Words<'a>,
-) -> Result<Command<'a>, Refusal>
+fn window<'a>(version: i32, verb: WindowVerb, words: Words<'a>) -> Result<Command<'a>, Refusal>
     ensures { result ≡ reading (shape_of version (verbs.Window verb)) words.entry }
 {
     let call = verb.call(version, words)?;
