@@ -73,9 +73,14 @@ module _ (raw : Bool) where
   all_as_before old (line ∷ lines) text new one first (middle, front, others, answered, rest, whole) =
       let read = subst (λ v. SaidAnswers raw old (said v line) front middle) one answered in
       let step = said_as_before old (said (pos 1) line) (begins_with_version lines) front middle one (no_floating line) first read in
-      let same = said_without_floating said_before (λ w. refl) line in
-      (middle.session, front, others, subst (λ s. AnswersAs raw old.session s front middle.session) same step.answered,
-      all_as_before middle lines others new step.version step.first rest, whole)
+      let same = said_without_floating said_before (λ w. refl) line in (
+        middle.session,
+        front,
+        others,
+        subst (λ s. AnswersAs raw old.session s front middle.session) same step.answered,
+        all_as_before middle lines others new step.version step.first rest,
+        whole,
+      )
 
   -- ---- behind a line that says a version
 

@@ -68,7 +68,12 @@ fn numbers_of_forms_are_judged_by_nobody(rt: HostRuntime) {
         (b"region round -1 2 300 -99999 -5 6", b'c', [-5, 6], NONE),
         (b"region oval -1 2 300 -99999", b'o', NONE, NONE),
         (b"region frect -1 2 300 -99999 7 -8", b'R', NONE, [7, -8]),
-        (b"region fround -1 2 300 -99999 5 6 7 8", b'C', [5, 6], [7, 8]),
+        (
+            b"region fround -1 2 300 -99999 5 6 7 8",
+            b'C',
+            [5, 6],
+            [7, 8],
+        ),
         (b"region foval -1 2 300 -99999 7 8", b'O', NONE, [7, 8]),
     ];
     for (line, letter, corner, pen) in lines {
