@@ -1,8 +1,10 @@
 -- A control that is given another state, and shown anew.
-use Rattle.std.proofs.Common.{◌≡◌, ℕ, ◌<◌, List, [], length, get_or, Some, refl, sym, ap, ◌∙◌, subst}
+use Rattle.std.proofs.Common.{◌≡◌, ℕ, ◌<◌, Bool, true, false, ◌&&◌, List, [], length, get_or, Some, refl, sym, ap, ◌∙◌, subst}
 use Rattle.std.specs.Prelude.{IfSome, slice_get}
 use Rattle.tb_geom.specs.declared.rect.Rect.{Rect}
-use Rattle.tb_geom.specs.Points.{PixelSet}
+use Rattle.tb_geom.specs.Points.{PixelSet, minus}
+use Rattle.tb_geom.specs.Rects.{rect_holds}
+use Rattle.bit_blit.proofs.WrittenLemmas.{written_in}
 use Rattle.window_items.specs.declared.item.Item.{Item}
 use Rattle.control_mgr.specs.declared.control.Control.{Control}
 use Rattle.window_items.specs.Items.{edit_at, place_among, with_kept}
@@ -20,6 +22,7 @@ use Rattle.desk_call.specs.declared.control.ControlOf.{ControlOf}
 use Rattle.window_list.specs.declared.window.Window.{Window}
 use Rattle.window_mgr.specs.declared.manager.WindowManager.{WindowManager}
 use Rattle.window_mgr.specs.DeskStates.{Opened}
+use Rattle.window_mgr.specs.DrawnWithin.{WritesPart}
 use Rattle.window_mgr.specs.Edits.{IsWindowAt}
 use Rattle.window_mgr.specs.FullDesk.{FullDesk}
 use Rattle.window_mgr.specs.Records.{desk_of, state_of, state_showing}
@@ -30,7 +33,8 @@ use Rattle.control_mgr.specs.declared.setting.State.{State}
 use Rattle.control_mgr.specs.declared.spots.ControlAt.{ControlAt}
 use Rattle.control_mgr.specs.ControlDesks.{ControlRecord, control_bit, controls_show, news_of_control, with_serial}
 use Rattle.control_mgr.specs.ControlSteps.{IsChangedAt, IsChangedTo}
-use Rattle.control_mgr.specs.Damages.{IsDamageAt, IsDamageOf, IsPut}
+use Rattle.control_mgr.specs.Damages.{IsAnswerOf, IsDamageAt, IsDamageOf, IsPut}
+use Rattle.control_mgr.specs.DamageWritten.{WritesDamages}
 use Rattle.control_mgr.specs.Settled.{AreSettled, IsSettledControl}
 use Rattle.control_mgr.specs.Spots.{IsSpot, IsSpotOf, IsTellable, with_state}
 use Rattle.control_mgr.specs.WholeControls.{AreBeside, AreWholeControls, LeavesControls, control_desk, controls_state, records_of}
@@ -105,6 +109,13 @@ module _ {W : Type 0} {K : W → Type 0} (control_loan : TakenBox W K → Contro
       (subst (λ o. IfSome o (λ x. IfSome (slice_get (records_of control_loan n) at) (λ y. IsDamageOf damage x y)))
       (ap (λ cs. slice_get cs at) set ∙ there_edited (with_state s) at (records_of control_loan m) c there) damaged)
 
+  -- and so are the pixels that it may have
+  pub state_answered : (s : State) (at : ℕ) (m : Controls (TakenBox W K)) (ds : List (Item (Control (TakenBox W K)))) (damage : Rect)
+      → all_seen control_loan ds ≡ edit_at (with_state s) at (records_of control_loan m) → IfSome (slice_get (all_seen control_loan ds) at) (IsAnswerOf damage)
+      → (c : ControlRecord) → slice_get (records_of control_loan m) at ≡ Some c → IsAnswerOf damage (with_state s c)
+  state_answered s at m ds damage set answered c there =
+      subst (λ o. IfSome o (IsAnswerOf damage)) (ap (λ cs. slice_get cs at) set ∙ there_edited (with_state s) at (records_of control_loan m) c there) answered
+
   -- and then all are settled
   pub state_settled : (s : State) → MayHave s → (at : ℕ) (m n : Controls (TakenBox W K)) → AreSettled (records_of control_loan m)
       → IsChangedAt (with_state s) at (records_of control_loan m) (records_of control_loan n) → AreSettled (records_of control_loan n)
@@ -119,6 +130,25 @@ module _ {W : Type 0} {K : W → Type 0} (control_loan : TakenBox W K → Contro
     layer_low t m spot is beside w lies =
         let its = layer_there loan control_loan is.of t m spot is.is w lies beside.whole.joined in
         subst (λ n. n < length w.layers.layers) (place_among-seen (kept_seen control_loan) spot.control m.list.items.items) (within w.layers.layers _ its.layer its.there)
+
+    -- and no pixel is written that it does not own, or that the damages may not have
+    pub put_written : (s : State) (t u : WindowManager V H) (m : Controls (TakenBox W K)) (spot : ControlAt) → IsSpot loan control_loan t m spot → AreBeside control_loan loan t m
+        → (index : ℕ) → index ≡ place_among spot.control m.list.items.items → (damage : Rect)
+        → ((x : ControlRecord) → slice_get (records_of control_loan m) spot.control ≡ Some x → IsAnswerOf damage (with_state s x))
+        → ((w : Window V H) → IsWindowAt t.windows.records.items spot.window w → (l : Layer) → l ≡ get_or w.layers.layers index l → WritesPart loan w.serial l.part w.place (rect_holds damage) t u)
+        → WritesDamages loan control_loan (with_state s) spot m t u
+    put_written s t u m spot is beside index index_is damage answers written x there w lies r held =
+        let its : ItsLayer loan control_loan is.of t m spot is.is w = layer_there loan control_loan is.of t m spot is.is w lies beside.whole.joined in
+        let read : its.layer ≡ get_or w.layers.layers index its.layer = subst (λ n. its.layer ≡ get_or w.layers.layers n its.layer) (place_among-seen (kept_seen control_loan) spot.control m.list.items.items ∙ sym index_is) (read_is w.layers.layers _ its.layer its.there) in
+        let here = record_there loan control_loan is.of t m spot is.is in
+        let named : its.layer.part ≡ part.Control x.serial = its.is_layer.part ∙ ap (λ (c : ControlRecord). part.Control c.serial) (sym (same_item (records_of control_loan m) spot.control here.item x here.there there)) in
+        let drawn = subst (λ q. WritesPart loan w.serial q w.place (rect_holds damage) t u) named (written w lies its.layer read) in
+        written_in _ _ t.screen u.screen (λ p on out. fewer _ (rect_holds damage (minus p w.place)) _ (answers x there r held (minus p w.place)) out) drawn
+      where
+        fewer : (a d e : Bool) → (d ≡ true → e ≡ true) → (a && e) ≡ false → (a && d) ≡ false
+        fewer true true e more out = sym (more refl) ∙ out
+        fewer true false e more out = refl
+        fewer false d e more out = refl
 
     -- what show_layer leaves of the window manager
     abbrev pub IsDrawnFor : Rect → ℕ → ℕ → (List ℕ → Part → PixelSet) → WindowManager V H → WindowManager V H → Type 0

@@ -43,6 +43,7 @@ goes_by_told all old new heard = record {
   picture = λ n font p. heard.picture n font p ∙ sym (heard.picture (told_all_of_control all n) font p);
   hit = λ n p. heard.hit n p ∙ sym (heard.hit (told_all_of_control all n) p);
   thumb_value = λ n p q. heard.thumb_value n p q ∙ sym (heard.thumb_value (told_all_of_control all n) p q);
+  damage = λ n more p. heard.damage n more p ∙ sym (heard.damage (told_all_of_control all n) more p);
 }
 
 -- the control may be as it is noted, with a definition of these regions

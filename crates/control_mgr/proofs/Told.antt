@@ -1,6 +1,7 @@
 -- A control's definition, told all of its control.
 use Rattle.std.proofs.Common.{◌≡◌, ℕ, ◌<◌, Bool, true, false, ◌&&◌, ◌||◌, List, length, get_or, set, Some, refl, sym, ap, ◌∙◌, subst}
-use Rattle.std.proofs.lemmas.Bool.{false≢true}
+use Rattle.std.proofs.lemmas.Bool.{and_parts, false≢true}
+use Rattle.std.specs.Borrow.{Bor}
 use Rattle.std.proofs.lemmas.List.{get_or-set_same, length-set}
 use Rattle.std.specs.Prelude.{IfSome, slice_get}
 use Rattle.tb_geom.specs.declared.point.Point.{Point}
@@ -17,10 +18,12 @@ use Rattle.window_items.proofs.SeenLemmas.{edit_at-seen}
 use Rattle.def_iface.specs.declared.size.Size.{Size}
 use Rattle.def_iface.specs.Slots.{TakenBox}
 use Rattle.def_iface.specs.ControlMeaning.{ControlDefinition, ControlHears, ControlLoan, IsControlBegun, IsControlDamage}
-use Rattle.def_iface.specs.ControlNews.{no_control_news, told_all_of_control}
+use Rattle.def_iface.specs.ControlNews.{no_control_news, told_all_of_control, told_control, size_news, title_news, setting_news, highlight_news}
+use Rattle.def_iface.specs.declared.control_def.ControlChange.TheVariants.{Resized, Titled, Set, Highlighted}
+use Rattle.def_iface.specs.WindowMeaning.{IsWithin}
 use Rattle.control_mgr.specs.ControlDesks.{ControlRecord, news_of_control}
 use Rattle.control_mgr.specs.ControlSteps.{IsChangedAt}
-use Rattle.control_mgr.specs.Damages.{IsDamageAt, IsDamageOf}
+use Rattle.control_mgr.specs.Damages.{HoldsDamages, IsDamageAt, IsDamageOf}
 use Rattle.window_paint.proofs.FrameLemmas.{inside_is_point, shared_is}
 use Rattle.control_mgr.proofs.Places.{record_read}
 use Rattle.control_mgr.proofs.Settled.{retold}
@@ -62,6 +65,38 @@ all_damaged a b c d e r s t u left right whole one two three four first last all
     let former = neither (rect_holds r p) (rect_holds s p) (outside left _ first p halves.0) in
     let latter = neither (rect_holds t p) (rect_holds u p) (outside right _ last p halves.1) in
     four font p on latter.1 ∙ three font p on latter.0 ∙ two font p on former.1 ∙ one font p on former.0
+
+-- what was within before is within the rectangle
+either : (a b c : Bool) → (a ≡ true → c ≡ true) → (b ≡ true → c ≡ true) → (a || b) ≡ true → c ≡ true
+either true b c one other e = one refl
+either false b c one other e = other e
+
+-- four damages in a row have no pixel beside what they may have, nor has the rectangle around them
+pub all_answered : (a b c d : ControlDefinition) (s : Size) (t : Bor (List ℕ)) (v : Setting) (h : ℕ) (left right whole one two three four r : Rect)
+    → ControlHears (told_control (Resized s)) a b → ControlHears (told_control (Titled t)) b c → ControlHears (told_control (Set v)) c d
+    → IsWithin (rect_holds one) (a.damage no_control_news (told_control (Resized s) no_control_news))
+    → IsWithin (rect_holds two) (b.damage no_control_news (told_control (Titled t) no_control_news))
+    → IsWithin (rect_holds three) (c.damage no_control_news (told_control (Set v) no_control_news))
+    → IsWithin (rect_holds four) (d.damage no_control_news (told_control (Highlighted h) no_control_news))
+    → IsBoxOf left (λ p. rect_holds one p || rect_holds two p) → IsBoxOf right (λ p. rect_holds three p || rect_holds four p) → IsBoxOf whole (λ p. rect_holds left p || rect_holds right p)
+    → HoldsDamages (record { size = s; title = t.now; setting = v; highlight = h }) a r
+    → IsWithin (rect_holds whole) (rect_holds r)
+all_answered a b c d s t v h left right whole one two three four r first second third sized titled set lit former latter all held =
+    all.smallest r (λ p. either (rect_holds left p) (rect_holds right p) (rect_holds r p)
+    (former.smallest r (λ q. either (rect_holds one q) (rect_holds two q) (rect_holds r q) (λ e. held.size q (sized q e)) (λ e. held.title q (sym (first.damage no_control_news (title_news t.now) q) ∙ titled q e))) p)
+    (latter.smallest r (λ q. either (rect_holds three q) (rect_holds four q) (rect_holds r q)
+    (λ e. held.setting q (sym (second.damage no_control_news (setting_news v) q ∙ first.damage (title_news t.now) (setting_news v) q) ∙ set q e))
+    (λ e. held.highlight q (sym (third.damage no_control_news (highlight_news h) q ∙ second.damage (setting_news v) (highlight_news h) q ∙ first.damage (record (title_news t.now) { setting = Some v }) (highlight_news h) q) ∙ lit q e))) p))
+
+-- and seen from the control's place, so has what of it lies in the box of the control
+pub placed_answer : (place : Point) (damage box shared plane placed r : Rect)
+    → ((p : Point) → rect_holds shared p ≡ (rect_holds damage p && rect_holds box p))
+    → ((p : Point) → rect_holds placed p ≡ (rect_holds plane p && rect_holds shared (minus p place)))
+    → IsWithin (rect_holds damage) (rect_holds r) → IsWithin (rect_holds placed) (λ p. rect_holds r (minus p place))
+placed_answer place damage box shared plane placed r both placed_is within p e =
+    let there = minus p place in
+    let of_shared = (and_parts (rect_holds plane p) (rect_holds shared there) (sym (placed_is p) ∙ e)).1 in
+    within there (and_parts (rect_holds damage there) (rect_holds box there) (sym (both there) ∙ of_shared)).0
 
 -- what of it lies in the box of the control, in the control's window
 placed_damage : (c : ControlRecord) (new : ControlLoan) (damage box shared plane placed : Rect) → IsControlDamage damage c.kept.definition.definition new.definition

@@ -11,6 +11,7 @@ pub mod Numbers
 pub mod Damages
 pub mod Settled
 pub mod WholeControls
+pub mod DamageWritten
 pub mod ItemSpots
 pub mod Spots
 pub mod Laying

@@ -6,6 +6,7 @@ ghost use Rattle.desk_call.specs.declared.control.ControlCall.TheVariants as ask
 ghost use Rattle.window_mgr.specs.DeskStates.{Opened};
 ghost use Rattle.control_mgr.specs.ControlSteps.{IsControlStep};
 ghost use Rattle.control_mgr.specs.Damages.{IsPut, IsSettingGiven, IsWhereRight};
+ghost use Rattle.control_mgr.specs.DamageWritten.{WritesDamages};
 ghost use Rattle.control_mgr.specs.Numbers.{call_of, may_have_number, with_number};
 ghost use Rattle.control_mgr.specs.Settled.{MayHaveSetting};
 ghost use Rattle.control_mgr.specs.Spots.{IsSpot, IsSpotOf, with_state};
@@ -77,16 +78,19 @@ impl Controls<TakenControl> {
         }
     }
 
-    /// Gives a control this state, and draws it within the damage where it is not to be redrawn. Takes no memory.
+    /// Gives a control this state, and draws it within the damage where it is not to be redrawn: no other pixel is written. Takes
+    /// no memory.
     pub(crate) fn put(&mut self, windows: &mut WindowManager, spot: ControlAt, state: State)
         requires kept { ⟦<WindowManager as DeskWindows>⟧.IsKept windows.old }
         requires beside { ⟦<Self as DeskControls>⟧.AreBeside windows.old self.old }
         requires spot { IsSpot ⟦<TakenWindow as Defined>⟧.loan ⟦<TakenControl as Defined>⟧.loan windows.old self.old
             spot }
-        ensures { (c : Named) → IsSpotOf ⟦<TakenWindow as Defined>⟧.loan ⟦<TakenControl as Defined>⟧.loan c windows.old
+        ensures put { (c : Named) → IsSpotOf ⟦<TakenWindow as Defined>⟧.loan ⟦<TakenControl as Defined>⟧.loan c windows.old
             self.old spot
             → (o u : Opened) → ⟦<Self as DeskControls>⟧.Leaves
             (IsPut c (with_state state)) windows.old o self.old windows.new u self.new }
+        ensures within { WritesDamages ⟦<TakenWindow as Defined>⟧.loan ⟦<TakenControl as Defined>⟧.loan (with_state state)
+            spot self.old windows.old windows.new }
     {
         say_bounds(state.values, state.highlight);
         let layer = self.list.layer_index(spot.control);

@@ -1,7 +1,7 @@
 //! A control's definition, told of its control.
 ghost use Rattle.std.specs.Prelude.{◌≡◌, ◌<◌, length, slice_get, IfSome};
 ghost use Rattle.control_mgr.specs.ControlSteps.{IsChangedAt};
-ghost use Rattle.control_mgr.specs.Damages.{IsDamageAt};
+ghost use Rattle.control_mgr.specs.Damages.{IsAnswerOf, IsDamageAt};
 ghost use Rattle.control_mgr.specs.Spots.{IsTellable};
 
 use crate::{Controls, ControlsOnStock};
@@ -19,6 +19,7 @@ impl Controls<TakenControl> {
             (⟦<Self as ControlsOnStock>⟧.records self.new) }
         ensures damage { IsDamageAt result at (⟦<Self as ControlsOnStock>⟧.records self.old)
             (⟦<Self as ControlsOnStock>⟧.records self.new) }
+        ensures answered { IfSome (slice_get (⟦<Self as ControlsOnStock>⟧.records self.old) at) (IsAnswerOf result) }
         ensures next { self.new.list.next ≡ self.old.list.next }
         ensures alloc { self.new.alloc ≡ self.old.alloc }
     {

@@ -13,6 +13,7 @@ control_hears_then {one} {other} first second = record {
   picture = λ n font p. second.picture n font p ∙ first.picture (other n) font p;
   hit = λ n p. second.hit n p ∙ first.hit (other n) p;
   thumb_value = λ n p q. second.thumb_value n p q ∙ first.thumb_value (other n) p q;
+  damage = λ n more p. second.damage n more p ∙ first.damage (other n) more p;
 }
 
 -- and its region stayed each time

@@ -1,6 +1,6 @@
 -- A definition that keeps all that it is told shows and is hit as one that is told it later.
 use Rattle.std.proofs.Common.{◌≡◌, ℕ, List, Option, None, Some, refl, sym, ap, ◌∙◌, true}
-use Rattle.std.specs.Prelude.{take}
+use Rattle.std.specs.Prelude.{take, is_none}
 use Rattle.std.specs.Option.{unwrap_or, option_map_or}
 use Rattle.tb_geom.specs.declared.point.Point.{Point}
 use Rattle.tb_geom.specs.Points.{PixelSet}
@@ -9,9 +9,9 @@ use Rattle.def_iface.specs.declared.size.Size.{Size}
 use Rattle.def_iface.specs.declared.window_def.Hit.{Hit}
 use Rattle.def_iface.specs.declared.window_def.WindowChange.{WindowChange}
 use Rattle.def_iface.specs.declared.window_def.WindowChange.TheVariants.{Resized, Titled, Highlighted, Closable, Zoomed, Tracked}
-use Rattle.def_iface.specs.WindowNews.{WindowNews, told_change}
+use Rattle.def_iface.specs.WindowNews.{WindowNews, no_news, told_change}
 use Rattle.def_iface.specs.WindowMeaning.{WindowDefinition, WindowHears, size_after}
-use Rattle.def_iface.specs.WindowKeeping.{flags_after, title_after, keeps_title, flags_in, size_in, kept_picture, kept_hit}
+use Rattle.def_iface.specs.WindowKeeping.{flags_after, title_after, keeps_title, flags_in, title_in, size_in, kept_picture, kept_hit}
 
 -- of two titles the later one is kept
 pub later_title : (o : Option (List ℕ)) (t title : List ℕ)
@@ -58,3 +58,38 @@ kept_title (Highlighted b) title e = refl
 kept_title (Closable b) title e = refl
 kept_title (Zoomed b) title e = refl
 kept_title (Tracked b) title e = refl
+
+-- ---- what is kept once one thing was told
+
+pub flags_told : (change : WindowChange) (f : Flags) → flags_in (told_change change no_news) f ≡ flags_after change f
+flags_told (Resized s) f = refl
+flags_told (Titled t) f = refl
+flags_told (Highlighted b) f = refl
+flags_told (Closable b) f = refl
+flags_told (Zoomed b) f = refl
+flags_told (Tracked b) f = refl
+
+pub kept_title_told : (change : WindowChange) (title : List ℕ) → title_in (told_change change no_news) title ≡ title_after change title
+kept_title_told (Resized s) title = refl
+kept_title_told (Titled t) title = refl
+kept_title_told (Highlighted b) title = refl
+kept_title_told (Closable b) title = refl
+kept_title_told (Zoomed b) title = refl
+kept_title_told (Tracked b) title = refl
+
+pub size_told : (change : WindowChange) (size : Size) → size_in (told_change change no_news) size ≡ size_after change size
+size_told (Resized s) size = refl
+size_told (Titled t) size = refl
+size_told (Highlighted b) size = refl
+size_told (Closable b) size = refl
+size_told (Zoomed b) size = refl
+size_told (Tracked b) size = refl
+
+-- a title was told, or none
+pub title_told : (change : WindowChange) → is_none (told_change change no_news).title ≡ keeps_title change
+title_told (Resized s) = refl
+title_told (Titled t) = refl
+title_told (Highlighted b) = refl
+title_told (Closable b) = refl
+title_told (Zoomed b) = refl
+title_told (Tracked b) = refl

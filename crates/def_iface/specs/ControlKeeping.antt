@@ -50,3 +50,7 @@ kept_control_hit part k n = part (kept_in n k)
 -- and the value that a dragged thumb gives it
 abbrev pub kept_thumb_value : (KeptControl → Point → Point → ℤ) → KeptControl → ControlNews → Point → Point → ℤ
 kept_thumb_value value k n = value (kept_in n k)
+
+-- and the pixels that the damage may have that it answers to some more, by what it keeps before and after
+abbrev pub kept_control_damage : (KeptControl → KeptControl → PixelSet) → KeptControl → (told more : ControlNews) → PixelSet
+kept_control_damage damage k n more = damage (kept_in n k) (kept_in more (kept_in n k))

@@ -14,8 +14,9 @@ use Rattle.def_iface.specs.ControlNews.{ControlNews, AllControlNews, no_control_
 use Rattle.def_iface.specs.Slots.{LoanOf}
 
 -- A definition as a value: its stage, the size that it was told, its region and the box of that as functions of the size
--- alone, its picture in a font, which is the list of its bytes, which part of the control a point of the region lies in, and
--- the value that the control has once its thumb was dragged from one point to another; points are local to the control.
+-- alone, its picture in a font, which is the list of its bytes, which part of the control a point of the region lies in, the
+-- value that the control has once its thumb was dragged from one point to another, and the pixels that the damage may have
+-- that it answers, told some news, to some more; points are local to the control.
 pub record ControlDefinition : Type 0 where
   pub stage : Stage
   pub size : Size
@@ -24,6 +25,7 @@ pub record ControlDefinition : Type 0 where
   pub picture : ControlNews → List ℕ → PixelSet
   pub hit : ControlNews → Point → Option ControlPart
   pub thumb_value : ControlNews → Point → Point → ℤ
+  pub damage : (told more : ControlNews) → PixelSet
 
 -- a definition that is out of its slot, and the number of that slot
 abbrev pub ControlLoan : Type 0
@@ -63,6 +65,7 @@ pub record ControlHears (news : ControlNews → ControlNews) (old new : ControlD
   pub picture : (n : ControlNews) (font : List ℕ) (p : Point) → new.picture n font p ≡ old.picture (news n) font p
   pub hit : (n : ControlNews) (p : Point) → new.hit n p ≡ old.hit (news n) p
   pub thumb_value : (n : ControlNews) (p q : Point) → new.thumb_value n p q ≡ old.thumb_value (news n) p q
+  pub damage : (n more : ControlNews) (p : Point) → new.damage n more p ≡ old.damage (news n) more p
 
 -- it has the size that it was told, and answers as the old one, whatever it is told from here on
 pub record SameControlLook (old new : ControlDefinition) : Type 0 where

@@ -24,6 +24,19 @@ told_control (Titled t) n = record n { title = Some (unwrap_or n.title t.now) }
 told_control (Set v) n = record n { setting = Some (unwrap_or n.setting v) }
 told_control (Highlighted h) n = record n { highlight = Some (unwrap_or n.highlight h) }
 
+-- it is told one thing
+abbrev pub size_news : Size → ControlNews
+size_news s = record no_control_news { size = Some s }
+
+abbrev pub title_news : List ℕ → ControlNews
+title_news t = record no_control_news { title = Some t }
+
+abbrev pub setting_news : Setting → ControlNews
+setting_news v = record no_control_news { setting = Some v }
+
+abbrev pub highlight_news : ℕ → ControlNews
+highlight_news h = record no_control_news { highlight = Some h }
+
 -- all that a control's definition can be told
 pub record AllControlNews : Type 0 where
   pub size : Size

@@ -31,12 +31,14 @@ abbrev pub told_menu : MenuChange → MenuNews → MenuNews
 told_menu (Highlighted item) n = told_item item n
 
 -- A definition as a value: its stage, and how large a menu is in a font, which is the list of its bytes, which of its items
--- a point chooses, by its number from 1 on, and its picture; points are local to the menu.
+-- a point chooses, by its number from 1 on, its picture, and the pixels that the damage may have that it answers to some news;
+-- points are local to the menu.
 pub record MenuDefinition : Type 0 where
   pub stage : Stage
   pub size : List ℕ → Menu → Size
   pub choose : List ℕ → Menu → Point → Option ℕ
   pub picture : MenuNews → List ℕ → Menu → PixelSet
+  pub damage : MenuNews → PixelSet
 
 -- a definition that is out of its slot, and the number of that slot
 abbrev pub MenuLoan : Type 0

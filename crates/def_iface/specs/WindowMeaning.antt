@@ -15,8 +15,9 @@ use Rattle.def_iface.specs.WindowNews.{WindowNews, AllWindowNews, no_news, told_
 use Rattle.def_iface.specs.Slots.{LoanOf}
 
 -- A definition as a value: its stage, the size that it was told, its regions, their box and the lines of its outline as
--- functions of the size alone, its picture in a font, which is the list of its bytes, and which part of the window a point
--- of the structure lies in; points are local to the window.
+-- functions of the size alone, its picture in a font, which is the list of its bytes, which part of the window a point
+-- of the structure lies in, and the pixels that the damage may have that it answers to some news; points are local to the
+-- window.
 pub record WindowDefinition : Type 0 where
   pub stage : Stage
   pub size : Size
@@ -26,6 +27,7 @@ pub record WindowDefinition : Type 0 where
   pub grow_lines : Size → List Rect
   pub picture : WindowNews → List ℕ → PixelSet
   pub hit : WindowNews → Point → Hit
+  pub damage : WindowNews → PixelSet
 
 -- a definition that is out of its slot, and the number of that slot
 abbrev pub WindowLoan : Type 0

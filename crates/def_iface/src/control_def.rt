@@ -47,7 +47,8 @@ pub trait ControlDef: Drop {
         ensures look { ControlHears (λ n. n) (control_meaning self.old) (control_meaning self.new) };
 
     /// Tells a Live definition of a change. The answer is the damage: in every font the pictures before
-    /// and after are equal outside it, within the range of coordinates.
+    /// and after are equal outside it, within the range of coordinates. What is drawn anew lies within it, so it is to
+    /// have no more pixels than the definition says that it may have.
     fn told(&mut self, change: &ControlChange<'_>) -> Rect
         requires live { (control_meaning self.old).stage ≡ Stage.Live }
         requires fits { is_fitting_control (control_meaning self.old)
@@ -56,7 +57,9 @@ pub trait ControlDef: Drop {
         ensures size { (control_meaning self.new).size ≡ control_size_after change.now (control_meaning self.old).size }
         ensures regions { SameControlRegions (control_meaning self.old) (control_meaning self.new) }
         ensures heard { ControlHears (told_control change.now) (control_meaning self.old) (control_meaning self.new) }
-        ensures damage { IsControlDamage result (control_meaning self.old) (control_meaning self.new) };
+        ensures damage { IsControlDamage result (control_meaning self.old) (control_meaning self.new) }
+        ensures answered { IsWithin (rect_holds result)
+            ((control_meaning self.old).damage no_control_news (told_control change.now no_control_news)) };
 
     /// The region of a control of this size: the pixels that it has.
     fn regions_for(&self, alloc: Global, size: Size) -> Result<Region, AllocError>

@@ -1,9 +1,11 @@
 //! The interface of a menu's definition.
 ghost use Rattle.std.specs.Prelude.{◌≡◌, true};
+ghost use Rattle.tb_geom.specs.Rects.{rect_holds};
 ghost use Rattle.bit_blit.specs.Draws.{Draws};
 ghost use Rattle.draw_port.specs.Canvases.{canvas_holds, canvas_point, SameFrame};
 ghost use Rattle.def_iface.specs.MenuMeaning.{MenuDefinition, SameMeasures, SameMenuLook, MenuHears, IsMenuDamage};
 ghost use Rattle.def_iface.specs.MenuMeaning.{no_menu_news, told_menu, is_menu_size, is_choice};
+ghost use Rattle.def_iface.specs.WindowMeaning.{IsWithin};
 
 use crate::{Size, Stage};
 use draw_port::Canvas;
@@ -37,13 +39,15 @@ pub trait MenuDef: Drop {
         ensures look { MenuHears (λ n. n) (menu_meaning self.old) (menu_meaning self.new) };
 
     /// Tells a Live definition of a change. The answer is the damage: in every font and for every menu the pictures before
-    /// and after are equal outside it, within the range of coordinates.
+    /// and after are equal outside it, within the range of coordinates. What is drawn anew lies within it, so it is to have
+    /// no more pixels than the definition says that it may have.
     fn told(&mut self, change: MenuChange) -> Rect
         requires { (menu_meaning self.old).stage ≡ Stage.Live }
         ensures stays { (menu_meaning self.new).stage ≡ Stage.Live }
         ensures measures { SameMeasures (menu_meaning self.old) (menu_meaning self.new) }
         ensures heard { MenuHears (told_menu change) (menu_meaning self.old) (menu_meaning self.new) }
-        ensures damage { IsMenuDamage result (menu_meaning self.old) (menu_meaning self.new) };
+        ensures damage { IsMenuDamage result (menu_meaning self.old) (menu_meaning self.new) }
+        ensures answered { IsWithin (rect_holds result) ((menu_meaning self.old).damage (told_menu change no_menu_news)) };
 
     /// How large the menu is where it is pulled down: each side is 0..=100000.
     fn size(&self, menu: &Menu, font: &Font) -> Size

@@ -124,6 +124,9 @@ impl TakenControl {
             (⟦<TakenControl as Defined>⟧.loan self.new).definition }
         ensures damage { IsControlDamage result (⟦<TakenControl as Defined>⟧.loan self.old).definition
             (⟦<TakenControl as Defined>⟧.loan self.new).definition }
+        ensures answered { IsWithin (rect_holds result)
+            ((⟦<TakenControl as Defined>⟧.loan self.old).definition.damage no_control_news
+            (told_control change.now no_control_news)) }
         ensures slot { (⟦<TakenControl as Defined>⟧.loan self.new).slot
             ≡ (⟦<TakenControl as Defined>⟧.loan self.old).slot }
     {

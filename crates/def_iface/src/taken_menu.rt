@@ -1,9 +1,11 @@
 //! A menu's definition in its box: what it means, and its way out of its slot, in a menu's record, and back.
 ghost use Rattle.std.specs.Prelude.{◌≡◌, true};
+ghost use Rattle.tb_geom.specs.Rects.{rect_holds};
 ghost use Rattle.bit_blit.specs.Draws.{Draws};
 ghost use Rattle.draw_port.specs.Canvases.{canvas_holds, canvas_point, SameFrame};
 ghost use Rattle.def_iface.specs.MenuMeaning.{MenuDefinition, SameMeasures, SameMenuLook, MenuHears, IsMenuBegun, IsMenuDamage};
 ghost use Rattle.def_iface.specs.MenuMeaning.{no_menu_news, told_menu, is_menu_size, is_choice};
+ghost use Rattle.def_iface.specs.WindowMeaning.{IsWithin};
 ghost use Rattle.def_iface.specs.Slots.{loan_by, slots_by};
 
 use crate::{Defined, Held, MenuChange, MenuDef, Size, Slots, Stage, Stocked, Taken};
@@ -84,6 +86,8 @@ impl TakenMenu {
             (⟦<TakenMenu as Defined>⟧.loan self.new).definition }
         ensures damage { IsMenuDamage result (⟦<TakenMenu as Defined>⟧.loan self.old).definition
             (⟦<TakenMenu as Defined>⟧.loan self.new).definition }
+        ensures answered { IsWithin (rect_holds result)
+            ((⟦<TakenMenu as Defined>⟧.loan self.old).definition.damage (told_menu change no_menu_news)) }
         ensures slot { (⟦<TakenMenu as Defined>⟧.loan self.new).slot ≡ (⟦<TakenMenu as Defined>⟧.loan self.old).slot }
     {
         self.definition.told(change)

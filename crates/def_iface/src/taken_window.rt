@@ -142,6 +142,8 @@ impl TakenWindow {
             (⟦<TakenWindow as Defined>⟧.loan self.new).definition }
         ensures damage { IsDamage result (⟦<TakenWindow as Defined>⟧.loan self.old).definition
             (⟦<TakenWindow as Defined>⟧.loan self.new).definition }
+        ensures answered { IsWithin (rect_holds result)
+            ((⟦<TakenWindow as Defined>⟧.loan self.old).definition.damage (told_change change.entry no_news)) }
         ensures slot { (⟦<TakenWindow as Defined>⟧.loan self.new).slot
             ≡ (⟦<TakenWindow as Defined>⟧.loan self.old).slot }
     {

@@ -91,7 +91,8 @@ pub trait WindowDef: Drop {
         ensures look { WindowHears (λ n. n) (meaning self.old) (meaning self.new) };
 
     /// Tells a Live definition of a change. The answer is the damage: in every font the pictures before
-    /// and after are equal outside it, within the range of coordinates.
+    /// and after are equal outside it, within the range of coordinates. What is drawn anew lies within it, so it is to
+    /// have no more pixels than the definition says that it may have.
     fn told(&mut self, change: WindowChange<'_>) -> Rect
         requires live { (meaning self.old).stage ≡ Stage.Live }
         requires fits { is_fitting (meaning self.old) (size_after change (meaning self.old).size) ≡ true }
@@ -99,7 +100,8 @@ pub trait WindowDef: Drop {
         ensures size { (meaning self.new).size ≡ size_after change.entry (meaning self.old).size }
         ensures regions { SameRegions (meaning self.old) (meaning self.new) }
         ensures heard { WindowHears (told_change change.entry) (meaning self.old) (meaning self.new) }
-        ensures damage { IsDamage result (meaning self.old) (meaning self.new) };
+        ensures damage { IsDamage result (meaning self.old) (meaning self.new) }
+        ensures answered { IsWithin (rect_holds result) ((meaning self.old).damage (told_change change.entry no_news)) };
 
     /// Structure and content of a window of this size.
     fn regions_for(&self, alloc: Global, size: Size) -> Result<WindowRegions, AllocError>

@@ -1,10 +1,13 @@
 -- A list that stands somewhere: the region that marks it, and what it leaves that it is marked, shown anew or toggled.
-use Rattle.std.proofs.Common.{◌≡◌, ℕ, ◌<◌, ◌&&◌, ◌||◌, List, length, get_or, Some, sym, ap, ◌∙◌, subst}
+use Rattle.std.proofs.Common.{◌≡◌, ℕ, ◌<◌, ◌&&◌, ◌||◌, List, [], length, get_or, Some, sym, ap, ◌∙◌, subst}
 use Rattle.std.specs.Prelude.{slice_get}
 use Rattle.tb_geom.specs.declared.point.Point.{Point}
 use Rattle.tb_geom.specs.declared.rect.Rect.{Rect}
 use Rattle.tb_geom.specs.Points.{PixelSet, minus}
 use Rattle.tb_geom.specs.Pixels.{Pixels, holds}
+use Rattle.tb_geom.specs.Rects.{rect_holds}
+use Rattle.bit_blit.specs.Draws.{IsWritten}
+use Rattle.bit_blit.proofs.WrittenLemmas.{written_none}
 use Rattle.desk_layers.specs.declared.part.Part.{Part}
 use Rattle.desk_layers.specs.declared.part.Part.TheVariants as part
 use Rattle.def_iface.specs.Slots.{TakenBox}
@@ -14,11 +17,13 @@ use Rattle.def_iface.specs.WindowSlots.{WindowSlot}
 use Rattle.window_list.specs.declared.layer.Layer.{Layer}
 use Rattle.window_list.specs.Holders.{belongs_to}
 use Rattle.vis_update.specs.declared.area.Area.{Area}
+use Rattle.vis_update.specs.Areas.{stale_in}
 use Rattle.window_list.specs.declared.window.Window.{Window}
 use Rattle.window_mgr.specs.declared.manager.WindowManager.{WindowManager}
+use Rattle.window_mgr.specs.DrawnWithin.{WritesPart, part_within}
 use Rattle.window_mgr.specs.Edits.{IsWindowAt}
-use Rattle.window_mgr.specs.FullDesk.{FullState}
-use Rattle.window_mgr.specs.Records.{state_of, state_showing}
+use Rattle.window_mgr.specs.FullDesk.{FullState, layered_desk}
+use Rattle.window_mgr.specs.Records.{desk_of, state_of, state_showing}
 use Rattle.window_mgr.specs.Relayered.{IsLayerDrawnWithin, IsLayerToggled}
 use Rattle.window_mgr.specs.Updating.{IsRemarked, LeavesState}
 use Rattle.window_mgr.specs.Whole.{IsWholeManager}
@@ -93,6 +98,16 @@ module _ {V : Type 0} {H : V → Type 0} (loan : TakenBox V H → WindowLoan) {X
         ))
         same
 
+    -- and no other pixel was written
+    pub written_by : (within : Rect) (layer : ℕ) → ((w : Window V H) → IsWindowAt t.windows.records.items s.window w → IsItsLayer list_loan m s w.layers.layers layer) → (u : WindowManager V H)
+        → ((w : Window V H) → IsWindowAt t.windows.records.items s.window w → (l : Layer) → l ≡ get_or w.layers.layers layer l → WritesPart loan w.serial l.part w.place (rect_holds within) t u)
+        → (w : Window V H) → IsWindowAt t.windows.records.items s.window w → WritesPart loan w.serial (part.List x.serial) w.place (rect_holds within) t u
+    written_by within layer layers u written w w_is =
+        let its = layers w w_is in
+        let k = there_is w.layers.layers layer its.low in
+        let read : k.item ≡ get_or w.layers.layers layer k.item = read_is w.layers.layers layer k.item k.there in
+        subst (λ q. WritesPart loan w.serial q w.place (rect_holds within) t u) (its_part w.layers.layers layer its k.item read) (written w w_is k.item read)
+
     -- where all that it owns was put into the update region of its window it is marked
     pub marked_by : (update : Pixels) → IsMarkedRegion list_loan loan t m s update → s.window < length t.areas.items → (u : WindowManager V H)
         → ((w : Window V H) → IsWindowAt t.windows.records.items s.window w → LeavesState loan (IsRemarked w.serial update) t u) → IsListMarkedBy list_loan loan x t u
@@ -130,3 +145,9 @@ module _ {V : Type 0} {H : V → Type 0} (loan : TakenBox V H → WindowLoan) {X
       update_is p
       ∙ ap (λ y. holds b.update p || y) (shown_is p ∙ ap (λ y. holds b.visible p && y) (owned_is x there v layer its own owned p))
       ∙ (λ i. holds (areas i).update p || (holds (areas i).visible p && belongs_to (part.List x.serial) (windows i).layers.layers (minus p (windows i).layers.place)))
+
+-- where nothing was written, nothing else was
+pub none_written : {V : Type 0} {H : V → Type 0} (loan : TakenBox V H → WindowLoan) (n : ℕ) (q : Part) (place : Point) (these : PixelSet) (t u : WindowManager V H)
+    → u.screen ≡ t.screen → WritesPart loan n q place these t u
+none_written loan n q place these t u same =
+    subst (IsWritten (part_within (layered_desk (desk_of loan t [])) (stale_in t.areas.items) n q place these) t.screen) (sym same) (written_none _ t.screen)

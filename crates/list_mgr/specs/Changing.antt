@@ -4,6 +4,7 @@ use Rattle.tb_geom.specs.declared.point.Point.{Point}
 use Rattle.tb_geom.specs.declared.rect.Rect.{Rect}
 use Rattle.tb_geom.specs.Points.{PixelSet, minus}
 use Rattle.tb_geom.specs.Pixels.{Pixels, holds}
+use Rattle.tb_geom.specs.Rects.{rect_holds}
 use Rattle.desk_layers.specs.declared.part.Part.{Part}
 use Rattle.desk_layers.specs.declared.part.Part.TheVariants as part
 use Rattle.def_iface.specs.Slots.{TakenBox}
@@ -18,6 +19,7 @@ use Rattle.window_list.specs.Holders.{belongs_to}
 use Rattle.vis_update.specs.declared.area.Area.{Area}
 use Rattle.window_list.specs.declared.window.Window.{Window}
 use Rattle.window_mgr.specs.declared.manager.WindowManager.{WindowManager}
+use Rattle.window_mgr.specs.DrawnWithin.{WritesPart}
 use Rattle.window_mgr.specs.Edits.{IsWindowAt}
 use Rattle.window_mgr.specs.FullDesk.{FullState}
 use Rattle.window_mgr.specs.Records.{state_of, state_showing}
@@ -64,6 +66,13 @@ module _ {X : Type 0} {L : X → Type 0} (list_loan : TakenBox X L → ListLoan)
     abbrev pub LeavesShown : (FullState → FullState → Type 0) → (was is : List ℕ → Part → PixelSet) → WindowManager V H → WindowManager V H → Type 0
     LeavesShown step was is t u = (slots : List WindowSlot) → IsWholeManager loan t slots
         → IsWholeManager loan u slots × step (state_showing was (state_of loan t slots)) (state_showing is (state_of loan u slots))
+
+    -- of the screen no pixel was written but those that the list that stands here owns within a rectangle of its window, and that are
+    -- not to be redrawn
+    abbrev pub WritesList : Rect → ListAt → Lists (TakenBox X L) → WindowManager V H → WindowManager V H → Type 0
+    WritesList within s m t u = (x : KeptList) → slice_get (records_of list_loan m) s.list ≡ Some x
+        → (w : Window V H) → IsWindowAt t.windows.records.items s.window w
+        → WritesPart loan w.serial (part.List x.serial) w.place (rect_holds within) t u
 
     -- what it leaves of the windows that the list x, which may have changed, is drawn within a rectangle of its window
     abbrev pub IsDrawnBy : Rect → Lists (TakenBox X L) → KeptList → WindowManager V H → WindowManager V H → Type 0

@@ -3,7 +3,7 @@ ghost use Rattle.std.specs.Prelude.{◌≡◌, false, not, MatchResult};
 ghost use Rattle.std.specs.Str.{bytes_eq};
 ghost use Rattle.desk_call.specs.declared.list.ListCall.TheVariants as asks;
 ghost use Rattle.window_mgr.specs.Edits.{IsWindowAt};
-ghost use Rattle.list_mgr.specs.Changing.{IsDrawing, IsItsLayer, IsMark, IsShownOrMarked};
+ghost use Rattle.list_mgr.specs.Changing.{IsDrawing, IsItsLayer, IsMark, IsShownOrMarked, WritesList};
 ghost use Rattle.list_mgr.specs.ListSteps.{IsListStep};
 ghost use Rattle.list_mgr.specs.Spots.{IsSpot};
 ghost use Rattle.list_mgr.specs.Within.{IsWhereRight};
@@ -65,7 +65,7 @@ impl Lists<TakenList> {
     }
 
     /// Draws a list within a rectangle of its window where it is not to be redrawn, or, where its drawing is off and something of it
-    /// changes, makes this the update region of its window. It takes no memory.
+    /// changes, makes this the update region of its window. No other pixel of the screen is written. It takes no memory.
     pub(crate) fn show(
         &self,
         windows: &mut WindowManager,
@@ -79,8 +79,10 @@ impl Lists<TakenList> {
         requires spot { IsSpot ⟦<TakenWindow as Defined>⟧.loan ⟦<TakenList as Defined>⟧.loan windows.old self.now spot }
         requires mark { IsMark ⟦<TakenList as Defined>⟧.loan ⟦<TakenWindow as Defined>⟧.loan windows.old self.now spot
             mark }
-        ensures { IsShownOrMarked ⟦<TakenList as Defined>⟧.loan ⟦<TakenWindow as Defined>⟧.loan within mark changes spot
-            self.now windows.old windows.new }
+        ensures shown { IsShownOrMarked ⟦<TakenList as Defined>⟧.loan ⟦<TakenWindow as Defined>⟧.loan within mark changes
+            spot self.now windows.old windows.new }
+        ensures within { WritesList ⟦<TakenList as Defined>⟧.loan ⟦<TakenWindow as Defined>⟧.loan within spot self.now
+            windows.old windows.new }
     {
         match mark {
             None => {

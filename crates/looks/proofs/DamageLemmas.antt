@@ -1,14 +1,16 @@
 -- Looks that are equal outside the box of the steps that differ.
-use Rattle.std.proofs.Common.{◌≡◌, ℕ, ◌+◌, ◌<◌, Bool, true, false, not, cond, ◌&&◌, ◌||◌, List, length, take, get_or, refl, sym, ap, ◌∙◌}
+use Rattle.std.proofs.Common.{◌≡◌, ℕ, zero, suc, ◌+◌, ◌<◌, Bool, true, false, not, cond, ◌&&◌, ◌||◌, if◌then◌else◌, List, [], ◌∷◌, length, take, get_or, refl, sym, ap, ◌∙◌, arith}
 use Rattle.std.proofs.lemmas.List.Sums.{fold_more}
 use Rattle.tb_geom.specs.declared.point.Point.{Point}
 use Rattle.tb_geom.specs.declared.rect.Rect.{Rect}
-use Rattle.tb_geom.specs.Rects.{rect_holds, IsBoxOf}
+use Rattle.tb_geom.specs.Rects.{rect_holds, IsBoxOf, is_empty_rect, empty_rect, shared_rect, rect_around}
+use Rattle.tb_geom.proofs.RectLemmas.{holds_none, holds-around, holds-shared}
 use Rattle.draw_port.specs.Ops.{frame_holds, is_end}
 use Rattle.looks.specs.declared.step.Step.{Step}
 use Rattle.looks.specs.declared.step.Mark.{Mark}
 use Rattle.looks.specs.declared.step.Mark.TheVariants.{Fill, Frame, Behind, Text, Cross}
 use Rattle.looks.specs.Same.{shows_text}
+use Rattle.looks.specs.Damages.{IsWithin, joined, draws_alike, look_damage, mark_reach, step_reach}
 use Rattle.looks.specs.Marks.{look_bit, step_value, step_holds, mark_holds, mark_value, cross_holds, on_diagonals}
 use Rattle.looks.specs.Letters.{Lettering}
 
@@ -91,3 +93,90 @@ alike old new false u t p d e k is = ap (λ s. step_value t p d s) (sym e) ∙ a
     by_mark (Cross r) k = refl
     by_mark (Behind plate) k = absurd (cc)
     by_mark (Text place) k = absurd (cc)
+
+-- ---- how small the damage is
+
+-- a rectangle around two has the pixels of both
+pub joined_holds : (a b : Rect) (p : Point) → (rect_holds a p || rect_holds b p) ≡ true → rect_holds (joined a b) p ≡ true
+unfolding joined
+joined_holds a b p e = by_tests (is_empty_rect a) (is_empty_rect b) refl refl
+  where
+    no_first : (x y : Bool) → x ≡ false → (x || y) ≡ true → y ≡ true
+    no_first false y f g = g
+    no_first true y f g = absurd (cc)
+
+    no_second : (x y : Bool) → y ≡ false → (x || y) ≡ true → x ≡ true
+    no_second true y f g = refl
+    no_second false y f g = absurd (cc)
+
+    by_tests : (x y : Bool) → is_empty_rect a ≡ x → is_empty_rect b ≡ y → rect_holds (if x then b else (if y then a else rect_around a b)) p ≡ true
+    by_tests true y f g = no_first (rect_holds a p) (rect_holds b p) (holds_none a f p) e
+    by_tests false true f g = no_second (rect_holds a p) (rect_holds b p) (holds_none b g p) e
+    by_tests false false f g = holds-around a b p e
+
+either : (x y : Bool) → x ≡ true → (x || y) ≡ true
+either true y e = refl
+either false y e = absurd (cc)
+
+other : (x y : Bool) → y ≡ true → (x || y) ≡ true
+other true y e = refl
+other false y e = e
+
+pub in_first : (a b : Rect) → IsWithin a (joined a b)
+in_first a b p e = joined_holds a b p (either (rect_holds a p) (rect_holds b p) e)
+
+pub in_second : (a b : Rect) → IsWithin b (joined a b)
+in_second a b p e = joined_holds a b p (other (rect_holds a p) (rect_holds b p) e)
+
+-- the box of two rectangles lies within each that both lie within
+pub box_within : (r a b q : Rect) → IsBoxOf r (λ p. rect_holds a p || rect_holds b p) → IsWithin a q → IsWithin b q → IsWithin r q
+box_within r a b q exact one two = exact.smallest q (λ p e. by_test (rect_holds a p) (rect_holds b p) (one p) (two p) e)
+  where
+    by_test : (x y : Bool) {z : Bool} → (x ≡ true → z ≡ true) → (y ≡ true → z ≡ true) → (x || y) ≡ true → z ≡ true
+    by_test true y f g e = f refl
+    by_test false y f g e = g e
+
+-- what a step that is on reaches, by its mark
+pub reach_on : (s : Step) (m : Mark) (p : Point) → s.on ≡ true → s.mark ≡ m → rect_holds (step_reach s) p ≡ rect_holds (mark_reach s.cut m) p
+unfolding step_reach
+reach_on s m p on is = ap (λ b. rect_holds (if b then mark_reach s.cut s.mark else empty_rect) p) on ∙ ap (λ k. rect_holds (mark_reach s.cut k) p) is
+
+-- and one that is off
+pub reach_off : (s : Step) (r : Rect) (p : Point) → r ≡ empty_rect → s.on ≡ false → rect_holds r p ≡ rect_holds (step_reach s) p
+unfolding step_reach
+reach_off s r p is off = ap (λ q. rect_holds q p) is ∙ sym (ap (λ b. rect_holds (if b then mark_reach s.cut s.mark else empty_rect) p) off)
+
+-- a mark in a rectangle
+pub reach_rect : (s : Step) (m : Mark) (cut r shared : Rect) (p : Point) → s.on ≡ true → s.mark ≡ m → mark_reach s.cut m ≡ shared_rect cut r
+    → rect_holds shared p ≡ (rect_holds cut p && rect_holds r p) → rect_holds shared p ≡ rect_holds (step_reach s) p
+reach_rect s m cut r shared p on is its both = both ∙ sym (holds-shared cut r p) ∙ ap (λ q. rect_holds q p) (sym its) ∙ sym (reach_on s m p on is)
+
+-- the damage of two looks has what their steps reach that do not draw alike
+pub reached : (same : Bool) (old new : List Step) (k : ℕ) (a b : Step) → k < length old → k < length new → draws_alike same (get_or old k a) (get_or new k b) ≡ false
+    → IsWithin (step_reach (get_or old k a)) (look_damage same old new) × IsWithin (step_reach (get_or new k b)) (look_damage same old new)
+unfolding look_damage
+reached same [] new k a b low high differ = absurd (omega arith)
+reached same (x ∷ xs) [] k a b low high differ = absurd (omega arith)
+reached same (x ∷ xs) (y ∷ ys) zero a b low high differ =
+    let both = joined (step_reach x) (step_reach y) in
+    rw differ (
+      λ p e. in_first both (look_damage same xs ys) p (in_first (step_reach x) (step_reach y) p e),
+      λ p e. in_first both (look_damage same xs ys) p (in_second (step_reach x) (step_reach y) p e),
+    )
+reached same (x ∷ xs) (y ∷ ys) (suc k) a b low high differ = by_test (draws_alike same x y) refl
+  where
+    rest : IsWithin (step_reach (get_or xs k a)) (look_damage same xs ys) × IsWithin (step_reach (get_or ys k b)) (look_damage same xs ys)
+    rest = reached same xs ys k a b (omega arith) (omega arith) differ
+
+    by_test : (t : Bool) → draws_alike same x y ≡ t
+        → IsWithin (step_reach (get_or xs k a)) (if t then look_damage same xs ys else joined (joined (step_reach x) (step_reach y)) (look_damage same xs ys))
+        × IsWithin (step_reach (get_or ys k b)) (if t then look_damage same xs ys else joined (joined (step_reach x) (step_reach y)) (look_damage same xs ys))
+    by_test true e = rest
+    by_test false e = (
+      λ p f. in_second (joined (step_reach x) (step_reach y)) (look_damage same xs ys) p (rest.0 p f),
+      λ p f. in_second (joined (step_reach x) (step_reach y)) (look_damage same xs ys) p (rest.1 p f),
+    )
+
+-- nothing lies in the empty rectangle
+pub nothing_within : (d r : Rect) → d ≡ empty_rect → IsWithin d r
+nothing_within d r is p e = absurd (cc (e, ap (λ q. rect_holds q p) is ∙ holds_none empty_rect refl p))

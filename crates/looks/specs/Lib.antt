@@ -1,8 +1,9 @@
--- What the contracts speak of: the text of a look, its steps, areas, and spots.
+-- What the contracts speak of: the text of a look, its steps, where looks differ, areas, and spots.
 pub mod Letters
 pub mod Marks
 pub mod Diagonals
 pub mod Same
+pub mod Damages
 pub mod Lettered
 pub mod Areas
 pub mod Spots

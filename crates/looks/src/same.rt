@@ -1,5 +1,6 @@
 //! Whether two steps are the same.
 ghost use Rattle.std.specs.Prelude.{◌≡◌, true, ◌||◌, ◌&&◌, not};
+ghost use Rattle.looks.specs.Damages.{same_steps};
 ghost use Rattle.looks.specs.Same.{same_rects, same_shades, same_marks, same_plates, same_pens, same_baselines, shows_text};
 
 use crate::pen::{Baseline, Pen, Place, Plate};
@@ -9,7 +10,8 @@ use tb_geom::Rect;
 
 /// Whether the two are the same step. Where it says so, they are.
 pub(crate) fn is_same(a: Step, b: Step) -> bool
-    ensures { result ≡ true → a ≡ b }
+    ensures same { result ≡ true → a ≡ b }
+    ensures exact { result ≡ same_steps a b }
 {
     a.on == b.on && (same_rects(a.cut, b.cut) && same_marks(a.mark, b.mark))
 }

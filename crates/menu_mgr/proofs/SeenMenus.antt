@@ -1,24 +1,30 @@
 -- The menu of a number and the menu of a title, as the code finds them and as they are seen.
-use Rattle.std.proofs.Common.{◌≡◌, ℕ, zero, suc, Bool, true, false, ◌==◌, if◌then◌else◌, ◌<◌, List, [], ◌∷◌, length, get_or, set, Option, Some, None, refl, sym, ap, ◌∙◌, subst}
+use Rattle.std.proofs.Common.{◌≡◌, ℕ, zero, suc, Bool, true, false, ◌&&◌, ◌==◌, if◌then◌else◌, ◌<◌, List, [], ◌∷◌, length, get_or, set, Option, Some, None, refl, sym, ap, ◌∙◌, subst}
 use Rattle.std.specs.Prelude.{ℤ, pos, slice_get}
 use Rattle.std.specs.Option.{option_map, option_and_then}
+use Rattle.tb_geom.specs.declared.rect.Rect.{Rect}
+use Rattle.tb_geom.specs.Points.{minus}
+use Rattle.tb_geom.specs.Rects.{rect_holds}
 use Rattle.bit_map.specs.Bits.{Bits}
+use Rattle.bit_blit.specs.Draws.{IsWritten}
+use Rattle.bit_blit.proofs.WrittenLemmas.{written_in}
 use Rattle.def_iface.specs.declared.window_def.Stage.TheVariants.{Live}
-use Rattle.def_iface.specs.MenuMeaning.{MenuLoan}
+use Rattle.def_iface.specs.MenuMeaning.{MenuLoan, no_menu_news, told_item}
+use Rattle.def_iface.specs.WindowMeaning.{IsWithin}
 use Rattle.desk_ground.specs.declared.bar.TitleHit.{TitleHit}
 use Rattle.menu_list.specs.declared.listed.Listed.{Listed}
 use Rattle.menu_list.specs.Lists.{edit_at, menu_index, menu_with}
 use Rattle.menu_list.specs.Seen.{seen, all_seen}
 use Rattle.menu_list.proofs.ListLemmas.{read_there}
 use Rattle.menu_list.proofs.SeenLemmas.{menu_with-seen, slice_get-seen}
-use Rattle.overlay.specs.Overlays.{IsShown}
+use Rattle.overlay.specs.Overlays.{IsShown, pulled_rect}
 use Rattle.desk_call.specs.declared.activity.PulledMenu.{PulledMenu}
 use Rattle.menu_list.proofs.Indices.{with_found, with_none}
 use Rattle.menu_mgr.specs.declared.pulling.Titled.{Titled}
 use Rattle.menu_mgr.specs.Leaving.{indexed, of_another}
 use Rattle.menu_mgr.specs.MenuDesks.{MenuRecord}
 use Rattle.menu_mgr.specs.MenuSteps.{IsItemTold, IsToldAt, other_title, with_definition}
-use Rattle.menu_mgr.specs.Pulling.{TitleOf, as_pulled, titled}
+use Rattle.menu_mgr.specs.Pulling.{TitleOf, as_pulled, item_damage, titled}
 use Rattle.menu_mgr.specs.WholeMenus.{AreLive}
 use Rattle.menu_mgr.proofs.Stocks.{live-at}
 use Rattle.menu_mgr.proofs.ToldMenus.{told_there}
@@ -74,6 +80,20 @@ module _ {B : Type 0} (g : B → MenuLoan) where
         ∙ ap (option_map (with_definition (g t).definition)) got in
         subst (λ o. IsShown font (option_map (as_pulled m) o) base now) (sym after)
         (shows (subst (λ o. IsShown font (option_map (as_pulled m) o) base front) got shown))
+
+    -- in the damage that it may answer, and nowhere else
+    pub written_here : (m : PulledMenu) (item : Option ℕ) (damage : Rect) (front now : Bits)
+        → IsWithin (rect_holds damage) ((g x.definition).definition.damage (told_item item no_menu_news))
+        → IsWritten (λ p. rect_holds (pulled_rect m.place m.size) p && rect_holds damage (minus p m.place)) front now
+        → IsWritten (item_damage m item (slice_get (all_seen g xs) at)) front now
+    written_here m item damage front now answered written =
+        subst (λ o. IsWritten (item_damage m item o) front now) (sym got)
+        (written_in _ _ front now (λ p on out. fewer (rect_holds (pulled_rect m.place m.size) p) (rect_holds damage (minus p m.place)) _ (answered (minus p m.place)) out) written)
+      where
+        fewer : (r d e : Bool) → (d ≡ true → e ≡ true) → (r && e) ≡ false → (r && d) ≡ false
+        fewer true true e more out = sym (more refl) ∙ out
+        fewer true false e more out = refl
+        fewer false d e more out = refl
 
   -- ---- titles
 

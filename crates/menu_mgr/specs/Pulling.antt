@@ -3,10 +3,11 @@ use Rattle.std.specs.Prelude.{ℕ, pos, Bool, false, not, ◌&&◌, if◌then◌
 use Rattle.std.specs.Option.{option_map, option_and_then}
 use Rattle.std.specs.Ordering.{int_eq}
 use Rattle.tb_geom.specs.declared.point.Point.{Point}
-use Rattle.tb_geom.specs.Points.{minus}
+use Rattle.tb_geom.specs.Points.{PixelSet, minus}
 use Rattle.tb_geom.specs.Rects.{rect_holds}
 use Rattle.desk_layers.specs.Desk.{on_screen}
 use Rattle.def_iface.specs.declared.size.Size.{Size}
+use Rattle.def_iface.specs.MenuMeaning.{no_menu_news, told_item}
 use Rattle.desk_ground.specs.declared.bar.TitleHit.{TitleHit}
 use Rattle.desk_ground.specs.Bars.{title_at}
 use Rattle.menu_list.specs.Lists.{menu_with}
@@ -63,6 +64,13 @@ as_pulled m l = record { definition = l.definition.definition; menu = l.menu; pl
 abbrev pub pulled_of : Activity → List MenuRecord → Option Pulled
 pulled_of (Pulling m) menus = option_map (as_pulled m) (menu_with (pos m.menu) menus)
 pulled_of _ menus = None
+
+-- the pixels of the map in front that this menu has, where it is pulled down, within the damage that its definition may answer
+-- where it is told which item is highlighted
+abbrev pub item_damage : PulledMenu → Option ℕ → Option MenuRecord → PixelSet
+item_damage m item None p = false
+item_damage m item (Some l) p =
+    rect_holds (pulled_rect m.place m.size) p && l.definition.definition.damage (told_item item no_menu_news) (minus p m.place)
 
 -- the item of a pulled menu that can be chosen at a point of the screen: the point is a pixel of the menu there
 abbrev pub item_of : FullDesk → PulledMenu → MenuRecord → Point → Option ℕ

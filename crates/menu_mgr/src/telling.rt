@@ -1,14 +1,16 @@
 //! What the pulled menu is told, and what it shows on the map in front.
-ghost use Rattle.std.specs.Prelude.{◌≡◌, ◌<◌, ◌≤◌, length, vec_capacity, Some, None, IfSome, true};
+ghost use Rattle.std.specs.Prelude.{◌≡◌, ◌<◌, ◌≤◌, length, vec_capacity, Some, None, IfSome, true, pos};
 ghost use Rattle.std.specs.Prelude.{slice_get};
 ghost use Rattle.std.specs.Option.{option_map};
 ghost use Rattle.bit_map.specs.Bits.{Bits};
+ghost use Rattle.bit_blit.specs.Draws.{IsWritten};
 ghost use Rattle.def_iface.specs.MenuMeaning.{is_menu_size};
 ghost use Rattle.desk_call.specs.declared.activity.Activity.TheVariants.{Pulling};
+ghost use Rattle.menu_list.specs.Lists.{menu_with};
 ghost use Rattle.menu_list.specs.Seen.{seen};
 ghost use Rattle.overlay.specs.Overlays.{IsShown, is_menu_place};
 ghost use Rattle.menu_mgr.specs.MenuSteps.{IsTold, IsToldAt};
-ghost use Rattle.menu_mgr.specs.Pulling.{as_pulled, pulled_of};
+ghost use Rattle.menu_mgr.specs.Pulling.{as_pulled, item_damage, pulled_of};
 ghost use Rattle.menu_mgr.specs.WholeMenus.{AreLive};
 
 use crate::{Menus, MenusOnStock};
@@ -62,7 +64,8 @@ impl Menus {
         }
     }
 
-    /// Tells the definition of the pulled menu which item is highlighted, and shows the menu so. Takes no memory.
+    /// Tells the definition of the pulled menu which item is highlighted, and shows the menu so, within the damage that it
+    /// answers: no other pixel of the map in front is written. Takes no memory.
     pub(crate) fn tell(
         &mut self,
         front: &mut Overlay,
@@ -84,6 +87,8 @@ impl Menus {
             (⟦<Self as MenusOnStock>⟧.menus self.old)) base front.old.front
             → IsShown font.now (pulled_of (Pulling pulled)
             (⟦<Self as MenusOnStock>⟧.menus self.new)) base front.new.front }
+        ensures within { IsWritten (item_damage pulled item
+            (menu_with (pos pulled.menu) (⟦<Self as MenusOnStock>⟧.menus self.old))) front.old.front front.new.front }
     {
         if let Some(at) = self.index_of(pulled.menu) {
             self.tell_at(front, font, at, pulled, item);
@@ -114,6 +119,8 @@ impl Menus {
             (slice_get (⟦<Self as MenusOnStock>⟧.menus self.old) at)) base front.old.front
             → IsShown font.now (option_map (as_pulled pulled)
             (slice_get (⟦<Self as MenusOnStock>⟧.menus self.new) at)) base front.new.front }
+        ensures within { IsWritten (item_damage pulled item (slice_get (⟦<Self as MenusOnStock>⟧.menus self.old) at))
+            front.old.front front.new.front }
     {
         let listed = &mut self.list.menus[at];
         let damage = listed.definition.told(MenuChange::Highlighted(item));

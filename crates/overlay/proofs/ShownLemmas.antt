@@ -10,10 +10,12 @@ use Rattle.bit_map.specs.Bits.{Bits, bit, on_map, is_below, bounds_of}
 use Rattle.bit_map.proofs.BitsLemmas.{on_map-same}
 use Rattle.std.specs.Prelude.{int_le}
 use Rattle.std.proofs.lemmas.Bool.{and_parts}
-use Rattle.bit_blit.specs.Draws.{Draws}
+use Rattle.bit_blit.specs.Draws.{Draws, IsWritten}
+use Rattle.bit_blit.proofs.WrittenLemmas.{written_in}
 use Rattle.bit_blit.proofs.DrawsLemmas.{Draws-same, Draws-on_map}
 use Rattle.scan_region.specs.declared.cut.Cut.{Cut}
 use Rattle.scan_region.specs.Cuts.{cut_holds}
+use Rattle.def_iface.specs.declared.size.Size.{Size}
 use Rattle.def_iface.specs.MenuMeaning.{MenuDefinition, IsMenuDamage, no_menu_news}
 use Rattle.overlay.specs.Overlays.{Pulled, IsShown, pulled_rect, pulled_bit, is_menu_place}
 
@@ -30,14 +32,18 @@ covered map base rect new w h drawn =
 abbrev pub whole : Cut
 whole = record { inside = None ∷ None ∷ None ∷ []; outside = None }
 
+nothing_cut : (b : Bool) → (b && ((true && (true && (true && true))) && not false)) ≡ b
+nothing_cut true = refl
+nothing_cut false = refl
+
 pub uncut : (within : Rect) (f : PixelSet) (old new end : Bits) → end ≡ new
     → Draws (λ p. rect_holds within p && cut_holds whole p) (λ p _. f p) old new → Draws (rect_holds within) (λ p _. f p) old end
 unfolding cut_holds
-uncut within f old new end is drawn = rw is (Draws-same _ (rect_holds within) _ (λ p _. f p) old new (λ p d on. ap (λ t. cond t (f p) d) (table (rect_holds within p))) drawn)
-  where
-    table : (b : Bool) → (b && ((true && (true && (true && true))) && not false)) ≡ b
-    table true = refl
-    table false = refl
+uncut within f old new end is drawn = rw is (Draws-same _ (rect_holds within) _ (λ p _. f p) old new (λ p d on. ap (λ t. cond t (f p) d) (nothing_cut (rect_holds within p))) drawn)
+
+pub uncut_written : (within : Rect) (old new end : Bits) → end ≡ new → IsWritten (λ p. rect_holds within p && cut_holds whole p) old new → IsWritten (rect_holds within) old end
+unfolding cut_holds
+uncut_written within old new end is written = rw is (written_in _ (rect_holds within) old new (λ p on out. nothing_cut (rect_holds within p) ∙ out) written)
 
 -- a copy of the base image shows it
 pub copied_shows : (font : List ℕ) (base before new : Bits) (rect : Rect) → rect ≡ bounds_of base → before.width ≡ base.width → before.height ≡ base.height
@@ -97,3 +103,10 @@ redrawn_shows font m old damage within base before after few at where_is drawn s
     table true true x y b e = refl
     table true false x y b e = sym (e refl)
     table false d x y b e = refl
+
+-- and nothing else is written
+pub redrawn_written : (place : Point) (size : Size) (damage within : Rect) (before after : Bits)
+    → ((p : Point) → rect_holds within p ≡ (rect_holds (pulled_rect place size) p && rect_holds damage (minus p place)))
+    → IsWritten (rect_holds within) before after
+    → IsWritten (λ p. rect_holds (pulled_rect place size) p && rect_holds damage (minus p place)) before after
+redrawn_written place size damage within before after where_is written = written_in (rect_holds within) _ before after (λ p on out. where_is p ∙ out) written

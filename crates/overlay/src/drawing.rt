@@ -2,7 +2,7 @@
 ghost use Rattle.std.specs.Prelude.{◌≡◌, true, ◌+ℤ◌};
 ghost use Rattle.tb_geom.specs.Points.{minus};
 ghost use Rattle.tb_geom.specs.Rects.{rect_holds};
-ghost use Rattle.bit_blit.specs.Draws.{Draws};
+ghost use Rattle.bit_blit.specs.Draws.{Draws, IsWritten};
 ghost use Rattle.def_iface.specs.MenuMeaning.{is_menu_size, no_menu_news};
 ghost use Rattle.overlay.specs.Overlays.{is_menu_place, pulled_rect};
 
@@ -25,10 +25,11 @@ pub(crate) fn draw_menu(
 )
     requires live { (⟦<TakenMenu as Defined>⟧.loan taken.now).definition.stage ≡ Stage.Live }
     requires place { is_menu_place place ≡ true }
-    ensures { Draws (rect_holds within)
+    ensures drawn { Draws (rect_holds within)
         (λ p _. (⟦<TakenMenu as Defined>⟧.loan taken.now).definition.picture no_menu_news font.now menu.now
         (minus p place))
         map.old map.new }
+    ensures written { IsWritten (rect_holds within) map.old map.new }
 {
     let cut = Cut {
         inside: [None, None, None],

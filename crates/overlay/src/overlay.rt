@@ -1,8 +1,11 @@
 //! The map in front.
 ghost use Rattle.std.specs.Prelude.{◌≡◌, ◌≤◌, true, None, Some, IfOk, List, ℕ, pos, ◌&&◌};
+ghost use Rattle.tb_geom.specs.Points.{minus};
+ghost use Rattle.tb_geom.specs.Rects.{rect_holds};
 ghost use Rattle.bit_map.specs.Bits.{Bits, is_side};
+ghost use Rattle.bit_blit.specs.Draws.{IsWritten};
 ghost use Rattle.def_iface.specs.MenuMeaning.{MenuDefinition, IsMenuDamage, is_menu_size};
-ghost use Rattle.overlay.specs.Overlays.{IsShown, is_menu_place};
+ghost use Rattle.overlay.specs.Overlays.{IsShown, is_menu_place, pulled_rect};
 
 use crate::base::cover;
 use crate::drawing::{draw_menu, draw_pulled, pulled_rect};
@@ -65,7 +68,8 @@ impl Overlay {
         draw_pulled(&mut self.front, taken, menu, place, size, font);
     }
 
-    /// Shows a menu anew whose definition was told something, and answered this damage, which is local to the menu.
+    /// Shows a menu anew whose definition was told something, and answered this damage, which is local to the menu. No other
+    /// pixel of the map is written.
     pub fn redraw(
         &mut self,
         taken: &TakenMenu,
@@ -79,7 +83,7 @@ impl Overlay {
         requires place { is_menu_place place ≡ true }
         requires size { is_menu_size size ≡ true }
         requires screen { (self.old.front.width ≤ 1024) × (self.old.front.height ≤ 1024) }
-        ensures { (base : Bits) (old : MenuDefinition)
+        ensures shown { (base : Bits) (old : MenuDefinition)
             → IsMenuDamage damage old (⟦<TakenMenu as Defined>⟧.loan taken.now).definition
             → IsShown font.now (Some (record { definition = old; menu = menu.now; place = place; size = size })) base
             self.old.front
@@ -89,6 +93,8 @@ impl Overlay {
               place = place;
               size = size;
             })) base self.new.front }
+        ensures within { IsWritten (λ p. rect_holds (pulled_rect place size) p && rect_holds damage (minus p place))
+            self.old.front self.new.front }
     {
         let within = placed_within(pulled_rect(place, size), damage, place);
         draw_menu(&mut self.front, within, taken, menu, place, font);

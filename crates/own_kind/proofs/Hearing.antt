@@ -1,5 +1,5 @@
 -- What a hollow window and a ring show once they were told of a change.
-use Rattle.std.proofs.Common.{refl}
+use Rattle.std.proofs.Common.{true, refl}
 use Rattle.def_iface.specs.declared.control_def.ControlChange.{ControlChange}
 use Rattle.def_iface.specs.declared.window_def.WindowChange.{WindowChange}
 use Rattle.def_iface.specs.ControlMeaning.{ControlHears}
@@ -21,5 +21,5 @@ hollow_hears change w = kept_hears
     w.flags w.title w.size change (window_meaning w) (window_meaning (told_window change w)) refl refl refl refl
 
 pub ring_hears : (change : ControlChange) (r : RingControl) → ControlHears (told_control change) (ring_meaning r) (ring_meaning (told_ring change r))
-ring_hears change r = kept_control_hears ring_seen ring_part ring_value
-    r.kept change (ring_meaning r) (ring_meaning (told_ring change r)) refl refl refl refl refl refl
+ring_hears change r = kept_control_hears ring_seen ring_part ring_value (λ old new p. true)
+    r.kept change (ring_meaning r) (ring_meaning (told_ring change r)) refl refl refl refl refl refl refl refl

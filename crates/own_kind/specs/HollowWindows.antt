@@ -1,5 +1,5 @@
 -- The hollow window as plain data. Rectangles are box left top right bottom, local to the window, whose size is w by h.
-use Rattle.std.specs.Prelude.{ℕ, nat_abs, ◌&&◌, if◌then◌else◌, List, [], ◌∷◌, ◌++◌}
+use Rattle.std.specs.Prelude.{ℕ, nat_abs, true, ◌&&◌, if◌then◌else◌, List, [], ◌∷◌, ◌++◌}
 use Rattle.std.specs.Prelude.{ℤ, pos, ◌+ℤ◌, ◌-ℤ◌}
 use Rattle.std.specs.Int.{int_div_euclid}
 use Rattle.tb_geom.specs.declared.point.Point.{Point}
@@ -99,7 +99,7 @@ hollow_spots f s =
 abbrev pub hollow_hit : Flags → Size → Point → Hit
 hollow_hit f s p = if area_holds (hollow_content s) p then InContent else first_part (hollow_spots f s) InDrag p
 
--- a hollow window's definition as a value
+-- a hollow window's definition as a value, which leaves open how large its damage is
 abbrev pub hollow_window : Stage → Flags → List ℕ → Size → WindowDefinition
 hollow_window stage f title size = record {
   stage = stage;
@@ -110,6 +110,7 @@ hollow_window stage f title size = record {
   grow_lines = λ s. frame_lines (outline s);
   picture = λ n font. look_bit (lettering font (title_in n title)) (hollow_look (flags_in n f) (size_in n size));
   hit = λ n. hollow_hit (flags_in n f) (size_in n size);
+  damage = λ n p. true;
 }
 
 -- what the window is

@@ -90,7 +90,7 @@ ring_part k = ring_hit k.size
 abbrev pub ring_value : KeptControl → Point → Point → ℤ
 ring_value k from to = k.values.value
 
--- what the control is
+-- what the control is, which leaves open how large its damage is
 abbrev pub ring_meaning : RingControl → ControlDefinition
 ring_meaning r = record {
   stage = r.stage;
@@ -100,6 +100,7 @@ ring_meaning r = record {
   picture = kept_control_picture ring_seen r.kept;
   hit = kept_control_hit ring_part r.kept;
   thumb_value = kept_thumb_value ring_value r.kept;
+  damage = λ told more p. true;
 }
 
 -- the control after a change

@@ -7,6 +7,7 @@ use Rattle.tb_geom.specs.declared.rect.Rect.{Rect}
 use Rattle.tb_geom.specs.Points.{PixelSet}
 use Rattle.tb_geom.specs.Rects.{rect_holds}
 use Rattle.looks.specs.declared.step.Step.{Step}
+use Rattle.looks.specs.Damages.{joined}
 use Rattle.looks.specs.Letters.{lettering}
 use Rattle.looks.specs.Marks.{black_frame, box, inverted, look_bit}
 use Rattle.menu_record.specs.declared.menu.Menu.{Menu}
@@ -54,11 +55,12 @@ place_of p = nat_abs (p.h -ℤ pos 1) / 12
 abbrev pub chosen : Menu → Point → Option ℕ
 chosen menu p = if rect_holds all_cells p then choice_at menu (place_of p) else None
 
--- of which item is highlighted it goes by what it is told last
+-- of which item is highlighted it goes by what it is told last, and no more is drawn anew than what lies around both cells
 abbrev pub strip_meaning : StripMenu → MenuDefinition
 strip_meaning m = record {
   stage = m.stage;
   size = λ font menu. strip_size menu;
   choose = λ font menu. chosen menu;
   picture = λ n font menu. strip_bit (unwrap_or n.highlighted m.highlighted) font menu;
+  damage = λ n. rect_holds (joined (lit_cell m.highlighted) (lit_cell (unwrap_or n.highlighted m.highlighted)));
 }

@@ -3,9 +3,9 @@
 ghost use Rattle.std.specs.Prelude.{◌≡◌, true, false};
 ghost use Rattle.tb_geom.specs.declared.point.Point.{Point};
 ghost use Rattle.tb_geom.specs.Rects.{in_plane, rect_holds};
-ghost use Rattle.def_iface.specs.WindowNews.{told_change};
+ghost use Rattle.def_iface.specs.WindowNews.{no_news, told_change};
 ghost use Rattle.def_iface.specs.Sizes.{is_size};
-ghost use Rattle.def_iface.specs.WindowMeaning.{SameLook, SameRegions, WindowHears, IsDamage, is_fitting, size_after};
+ghost use Rattle.def_iface.specs.WindowMeaning.{SameLook, SameRegions, WindowHears, IsDamage, IsWithin, is_fitting, size_after};
 ghost use Rattle.looks.specs.Letters.{Lettering};
 ghost use Rattle.looks.specs.Marks.{look_bit};
 ghost use Rattle.own_kind.specs.HollowWindows.{hollow_look, window_meaning, told_window, window_at};
@@ -95,6 +95,7 @@ impl WindowDef for HollowWindow {
         ensures regions { SameRegions (window_meaning self.old) (window_meaning self.new) }
         ensures heard { WindowHears (told_change change.entry) (window_meaning self.old) (window_meaning self.new) }
         ensures damage { IsDamage result (window_meaning self.old) (window_meaning self.new) }
+        ensures answered { IsWithin (rect_holds result) ((window_meaning self.old).damage (told_change change.entry no_news)) }
         ensures kept { self.new ≡ told_window change.entry self.old }
     {
         let old = Shown {

@@ -3,10 +3,11 @@
 ghost use Rattle.std.specs.Prelude.{◌≡◌, true, false};
 ghost use Rattle.tb_geom.specs.declared.point.Point.{Point};
 ghost use Rattle.tb_geom.specs.Rects.{in_plane, rect_holds};
-ghost use Rattle.def_iface.specs.ControlNews.{told_control};
+ghost use Rattle.def_iface.specs.ControlNews.{no_control_news, told_control};
 ghost use Rattle.def_iface.specs.ControlMeaning.{SameControlLook, SameControlRegions, ControlHears, IsControlDamage};
 ghost use Rattle.def_iface.specs.ControlMeaning.{is_fitting_control, control_size_after};
 ghost use Rattle.def_iface.specs.Sizes.{is_size};
+ghost use Rattle.def_iface.specs.WindowMeaning.{IsWithin};
 ghost use Rattle.looks.specs.Letters.{Lettering};
 ghost use Rattle.looks.specs.Marks.{look_bit};
 ghost use Rattle.own_kind.specs.Rings.{ring_look, ring_meaning, told_ring, ring_at};
@@ -86,6 +87,8 @@ impl ControlDef for RingControl {
         ensures regions { SameControlRegions (ring_meaning self.old) (ring_meaning self.new) }
         ensures heard { ControlHears (told_control change.now) (ring_meaning self.old) (ring_meaning self.new) }
         ensures damage { IsControlDamage result (ring_meaning self.old) (ring_meaning self.new) }
+        ensures answered { IsWithin (rect_holds result) ((ring_meaning self.old).damage no_control_news
+            (told_control change.now no_control_news)) }
         ensures kept { self.new ≡ told_ring change.now self.old }
     {
         let kept = self.kept.after(change);

@@ -3,6 +3,7 @@ ghost use Rattle.std.specs.Prelude.{◌≡◌, ◌<◌, true, false};
 ghost use Rattle.tb_geom.specs.declared.point.Point.{Point};
 ghost use Rattle.tb_geom.specs.Rects.{in_plane, rect_holds};
 ghost use Rattle.def_iface.specs.MenuMeaning.{is_choice, is_menu_size};
+ghost use Rattle.looks.specs.Damages.{IsWithin, joined};
 ghost use Rattle.own_kind.specs.Strips.{all_cells, cell, choice_at, chosen, is_lit, lit_cell, place_of, strip_look, strip_meaning, strip_size};
 
 use def_iface::{MenuChange, MenuDef, Size, Stage};
@@ -72,8 +73,9 @@ fn strip_look(size: Size, highlighted: Option<u8>) -> [Step; 2]
 
 /// A rectangle outside which a strip looks the same with another item highlighted: both cells.
 fn cells_damage(old: Option<u8>, new: Option<u8>) -> Rect
-    ensures { (p : Point) → in_plane p ≡ true → rect_holds result p ≡ false
+    ensures alike { (p : Point) → in_plane p ≡ true → rect_holds result p ≡ false
         → (is_lit old p ≡ false) × (is_lit new p ≡ false) }
+    ensures small { IsWithin result (joined (lit_cell old) (lit_cell new)) }
 {
     lit_cell(old).union(lit_cell(new))
 }

@@ -5,7 +5,7 @@ ghost use Rattle.tb_geom.specs.Rects.{in_plane, rect_holds};
 ghost use Rattle.def_iface.specs.Sizes.{is_size};
 ghost use Rattle.looks.specs.Letters.{lettering};
 ghost use Rattle.looks.specs.Marks.{look_bit};
-ghost use Rattle.own_window.specs.Banners.{banner_of, box_of, banner_look, banner_hit, banner_window, word};
+ghost use Rattle.own_window.specs.Banners.{banner_damage, banner_of, box_of, banner_look, banner_hit, banner_window, word};
 
 use def_iface::{Hit, Size, Stage, WindowChange, WindowDef, WindowRegions, frame_lines};
 use draw_port::Canvas;
@@ -84,8 +84,9 @@ fn hit_of(size: Size, point: Point) -> Hit
 /// old one is no size, and all may change.
 fn damage_of(old: Size, new: Size) -> Rect
     requires { is_size new ≡ true }
-    ensures { (font : List ℕ) (p : Point) → in_plane p ≡ true → rect_holds result p ≡ false
+    ensures alike { (font : List ℕ) (p : Point) → in_plane p ≡ true → rect_holds result p ≡ false
         → look_bit (lettering font word) (banner_look new) p ≡ look_bit (lettering font word) (banner_look old) p }
+    ensures small { (p : Point) → rect_holds result p ≡ true → banner_damage old new p ≡ true }
 {
     if old.is_in_range() {
         damage_between(&look_of(old), &look_of(new), true)
@@ -107,7 +108,7 @@ impl WindowDef for Banner {
         self.stage = Stage::Live;
     }
 
-    // The answer is the damage, outside which the picture is as it was.
+    // The answer is the damage, outside which the picture is as it was, and within which the window is drawn anew.
     fn told(&mut self, change: WindowChange<'_>) -> Rect {
         let size = change.size_after(self.size);
         let damage = damage_of(self.size, size);

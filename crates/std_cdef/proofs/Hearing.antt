@@ -14,10 +14,13 @@ use Rattle.looks.specs.Letters.{lettering}
 use Rattle.std_cdef.specs.declared.control.StdControl.{StdControl}
 use Rattle.std_cdef.specs.Told.{std_meaning, told_std}
 
-module _ {L : Type 0} (seen : L → KeptControl → List ℕ → PixelSet) (part : L → KeptControl → Point → Option ControlPart) (value : L → KeptControl → Point → Point → ℤ) where
+module _ {L : Type 0} (seen : L → KeptControl → List ℕ → PixelSet) (part : L → KeptControl → Point → Option ControlPart) (value : L → KeptControl → Point → Point → ℤ)
+    (damaged : L → KeptControl → KeptControl → PixelSet) where
   -- nothing that it is told is forgotten
-  pub std_hears : (change : ControlChange) (b : StdControl L) → ControlHears (told_control change) (std_meaning seen part value b) (std_meaning seen part value (told_std change b))
-  std_hears change b = kept_control_hears (seen b.look) (part b.look) (value b.look) b.kept change (std_meaning seen part value b) (std_meaning seen part value (told_std change b)) refl refl refl refl refl refl
+  pub std_hears : (change : ControlChange) (b : StdControl L) → ControlHears (told_control change) (std_meaning seen part value damaged b) (std_meaning seen part value damaged (told_std change b))
+  std_hears change b =
+      kept_control_hears (seen b.look) (part b.look) (value b.look) (damaged b.look) b.kept change (std_meaning seen part value damaged b) (std_meaning seen part value damaged (told_std change b))
+      refl refl refl refl refl refl refl refl
 
 -- titles that are the same are written the same
 pub same_letters : (font old new : List ℕ) (same : Bool) → same ≡ bytes_eq old new → same ≡ true → lettering font new ≡ lettering font old

@@ -13,13 +13,14 @@ use Rattle.std_cdef.specs.declared.button.ButtonLook.{ButtonLook}
 use Rattle.std_cdef.specs.declared.check.Variation.{Variation}
 use Rattle.std_cdef.specs.declared.control.StdControl.{StdControl}
 use Rattle.std_cdef.specs.declared.scroll.ScrollLook.{ScrollLook}
-use Rattle.std_cdef.specs.Controls.{std_control, same_value, button_seen, button_part, box_seen, box_part, scroll_seen, scroll_part, scrolled_value}
+use Rattle.std_cdef.specs.Controls.{std_control, same_value, button_seen, button_part, button_damaged, box_seen, box_part, box_damaged}
+use Rattle.std_cdef.specs.Controls.{scroll_seen, scroll_part, scrolled_value, scroll_damaged}
 
 module _ {L : Type 0} where
-  -- what one is, by what it looks like, its parts, and where a dragged thumb leads
+  -- what one is, by what it looks like, its parts, where a dragged thumb leads, and how much of it is drawn anew
   abbrev pub std_meaning : (L → KeptControl → List ℕ → PixelSet) → (L → KeptControl → Point → Option ControlPart)
-      → (L → KeptControl → Point → Point → ℤ) → StdControl L → ControlDefinition
-  std_meaning seen part value b = std_control (seen b.look) (part b.look) (value b.look) b.stage b.kept
+      → (L → KeptControl → Point → Point → ℤ) → (L → KeptControl → KeptControl → PixelSet) → StdControl L → ControlDefinition
+  std_meaning seen part value damaged b = std_control (seen b.look) (part b.look) (value b.look) (damaged b.look) b.stage b.kept
 
   -- one that was told nothing yet
   abbrev pub fresh_std : L → StdControl L
@@ -35,13 +36,13 @@ module _ {L : Type 0} where
 
 -- what buttons, check boxes and radio buttons, and scroll bars are
 abbrev pub button_meaning : StdControl ButtonLook → ControlDefinition
-button_meaning = std_meaning (λ _. button_seen) (λ _. button_part) (λ _. same_value)
+button_meaning = std_meaning (λ _. button_seen) (λ _. button_part) (λ _. same_value) (λ _. button_damaged)
 
 abbrev pub check_meaning : StdControl Variation → ControlDefinition
-check_meaning = std_meaning box_seen (λ _. box_part) (λ _. same_value)
+check_meaning = std_meaning box_seen (λ _. box_part) (λ _. same_value) box_damaged
 
 abbrev pub scroll_meaning : StdControl ScrollLook → ControlDefinition
-scroll_meaning = std_meaning (λ _. scroll_seen) (λ _. scroll_part) (λ _. scrolled_value)
+scroll_meaning = std_meaning (λ _. scroll_seen) (λ _. scroll_part) (λ _. scrolled_value) (λ _. scroll_damaged)
 
 -- those that were told nothing yet
 abbrev pub fresh_button : StdControl ButtonLook

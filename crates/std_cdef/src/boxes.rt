@@ -1,15 +1,17 @@
 //! What check boxes and radio buttons look like.
 ghost use Rattle.std.specs.Prelude.{◌≡◌, true, false};
+ghost use Rattle.std.specs.Str.{bytes_eq};
 ghost use Rattle.tb_geom.specs.declared.point.Point.{Point};
 ghost use Rattle.tb_geom.specs.Rects.{in_plane, is_coordinate, rect_holds};
 ghost use Rattle.bit_blit.specs.Draws.{Draws};
 ghost use Rattle.draw_port.specs.Canvases.{canvas_holds, canvas_point, SameFrame};
 ghost use Rattle.def_iface.specs.ControlMeaning.{is_control_size};
+ghost use Rattle.looks.specs.Damages.{IsWithin, look_damage};
 ghost use Rattle.looks.specs.Letters.{Lettering};
 ghost use Rattle.looks.specs.Marks.{look_bit};
 ghost use Rattle.std_cdef.specs.Axes.{box_top, by_box};
 ghost use Rattle.std_cdef.specs.Looks.{check_text, lit_box, gray_all, is_on, check_look, radio_look, box_look};
-ghost use Rattle.std_cdef.specs.Controls.{box_seen};
+ghost use Rattle.std_cdef.specs.Controls.{box_damaged, box_seen};
 
 use crate::check::Variation;
 use crate::rects::{is_control_size, middle};
@@ -135,10 +137,12 @@ pub(crate) fn box_damage(
     same_title: bool,
 ) -> Rect
     requires { is_control_size new.now.size ≡ true }
-    ensures { (u t : Lettering) → (same_title ≡ true → t ≡ u) → (p : Point) → in_plane p ≡ true
+    ensures alike { (u t : Lettering) → (same_title ≡ true → t ≡ u) → (p : Point) → in_plane p ≡ true
         → rect_holds result p ≡ false
         → look_bit t (box_look variation new.now.size new.now.values new.now.highlight) p
         ≡ look_bit u (box_look variation old.now.size old.now.values old.now.highlight) p }
+    ensures small { (p : Point) → rect_holds result p ≡ true → same_title ≡ bytes_eq old.now.title new.now.title
+        → box_damaged variation old.now new.now p ≡ true }
 {
     if is_control_size(old.size) {
         match variation {
@@ -154,9 +158,12 @@ pub(crate) fn box_damage(
 fn check_damage(old: &KeptControl, new: &KeptControl, same_title: bool) -> Rect
     requires old { is_control_size old.now.size ≡ true }
     requires new { is_control_size new.now.size ≡ true }
-    ensures { (u t : Lettering) → (same_title ≡ true → t ≡ u) → (p : Point) → rect_holds result p ≡ false
+    ensures alike { (u t : Lettering) → (same_title ≡ true → t ≡ u) → (p : Point) → rect_holds result p ≡ false
         → look_bit t (check_look new.now.size new.now.values new.now.highlight) p
         ≡ look_bit u (check_look old.now.size old.now.values old.now.highlight) p }
+    ensures small { IsWithin result (look_damage same_title
+        (check_look old.now.size old.now.values old.now.highlight)
+        (check_look new.now.size new.now.values new.now.highlight)) }
 {
     damage_between(
         &check_look(old.size, old.values, old.highlight),
@@ -169,9 +176,12 @@ fn check_damage(old: &KeptControl, new: &KeptControl, same_title: bool) -> Rect
 fn radio_damage(old: &KeptControl, new: &KeptControl, same_title: bool) -> Rect
     requires old { is_control_size old.now.size ≡ true }
     requires new { is_control_size new.now.size ≡ true }
-    ensures { (u t : Lettering) → (same_title ≡ true → t ≡ u) → (p : Point) → rect_holds result p ≡ false
+    ensures alike { (u t : Lettering) → (same_title ≡ true → t ≡ u) → (p : Point) → rect_holds result p ≡ false
         → look_bit t (radio_look new.now.size new.now.values new.now.highlight) p
         ≡ look_bit u (radio_look old.now.size old.now.values old.now.highlight) p }
+    ensures small { IsWithin result (look_damage same_title
+        (radio_look old.now.size old.now.values old.now.highlight)
+        (radio_look new.now.size new.now.values new.now.highlight)) }
 {
     damage_between(
         &radio_look(old.size, old.values, old.highlight),

@@ -1,12 +1,13 @@
 //! What a simple button looks like.
 ghost use Rattle.std.specs.Prelude.{◌≡◌, true, false};
+ghost use Rattle.std.specs.Str.{bytes_eq};
 ghost use Rattle.tb_geom.specs.declared.point.Point.{Point};
 ghost use Rattle.tb_geom.specs.Rects.{in_plane, rect_holds};
 ghost use Rattle.def_iface.specs.ControlMeaning.{is_control_size};
 ghost use Rattle.looks.specs.Letters.{Lettering};
 ghost use Rattle.looks.specs.Marks.{look_bit};
 ghost use Rattle.std_cdef.specs.Looks.{button_look};
-ghost use Rattle.std_cdef.specs.Controls.{button_part, button_seen, same_value};
+ghost use Rattle.std_cdef.specs.Controls.{button_damaged, button_part, button_seen, same_value};
 ghost use Rattle.std_cdef.specs.Told.{fresh_button};
 
 use crate::control::{ControlLook, StdControl};
@@ -57,10 +58,12 @@ fn button_look(size: Size, highlight: Highlight) -> [Step; 4]
 /// The damage of a button (`ControlLook::damage`). The titles are equal where `same_title` says so.
 fn button_damage(old: &KeptControl, new: &KeptControl, same_title: bool) -> Rect
     requires { is_control_size new.now.size ≡ true }
-    ensures { (u t : Lettering) → (same_title ≡ true → t ≡ u) → (p : Point) → in_plane p ≡ true
+    ensures alike { (u t : Lettering) → (same_title ≡ true → t ≡ u) → (p : Point) → in_plane p ≡ true
         → rect_holds result p ≡ false
         → look_bit t (button_look new.now.size new.now.highlight) p
         ≡ look_bit u (button_look old.now.size old.now.highlight) p }
+    ensures small { (p : Point) → rect_holds result p ≡ true → same_title ≡ bytes_eq old.now.title new.now.title
+        → button_damaged old.now new.now p ≡ true }
 {
     if is_control_size(old.size) {
         damage_between(
@@ -79,6 +82,8 @@ impl ControlLook for ButtonLook {
     ghost part = { λ _. button_part };
 
     ghost value = { λ _. same_value };
+
+    ghost damaged = { λ _. button_damaged };
 
     fn damage(&self, old: &KeptControl, new: &KeptControl) -> Rect {
         button_damage(old, new, same_title(old, new))

@@ -1,6 +1,6 @@
 //! Check boxes and radio buttons: which of the two one is, and what it looks like.
 ghost use Rattle.std.specs.Prelude.{◌≡◌};
-ghost use Rattle.std_cdef.specs.Controls.{box_part, box_seen, same_value};
+ghost use Rattle.std_cdef.specs.Controls.{box_damaged, box_part, box_seen, same_value};
 ghost use Rattle.std_cdef.specs.Told.{fresh_check};
 
 use crate::boxes::{box_damage, draw_box};
@@ -44,6 +44,8 @@ impl ControlLook for Variation {
     ghost part = { λ _. box_part };
 
     ghost value = { λ _. same_value };
+
+    ghost damaged = { box_damaged };
 
     fn damage(&self, old: &KeptControl, new: &KeptControl) -> Rect {
         box_damage(*self, old, new, same_title(old, new))

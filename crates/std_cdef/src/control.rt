@@ -7,9 +7,10 @@ ghost use Rattle.bit_blit.specs.Draws.{Draws};
 ghost use Rattle.draw_port.specs.Canvases.{canvas_holds, canvas_point, SameFrame};
 ghost use Rattle.control_values.specs.declared.part.ControlPart.{ControlPart};
 ghost use Rattle.def_iface.specs.declared.control_keeping.KeptControl.{KeptControl};
-ghost use Rattle.def_iface.specs.ControlNews.{told_control};
+ghost use Rattle.def_iface.specs.ControlNews.{no_control_news, told_control};
 ghost use Rattle.def_iface.specs.ControlMeaning.{SameControlLook, SameControlRegions, ControlHears, IsControlDamage};
 ghost use Rattle.def_iface.specs.ControlMeaning.{is_control_size, is_fitting_control, control_size_after};
+ghost use Rattle.def_iface.specs.WindowMeaning.{IsWithin};
 ghost use Rattle.std_cdef.specs.Told.{std_at, std_meaning, told_std};
 
 use crate::rects::region_of;
@@ -20,8 +21,8 @@ use scan_region::Region;
 use std::alloc::{AllocError, Global};
 use tb_geom::{Point, Rect};
 
-/// What differs between standard controls, by what each keeps of what it was told: what it shows in a font, its parts, and the
-/// value that it has once its thumb was dragged from one point to another. Points are local to the control.
+/// What differs between standard controls, by what each keeps of what it was told: what it shows in a font, its parts, the value
+/// that it has once its thumb was dragged from one point to another, and how much of it is drawn anew. Points are local to the control.
 pub trait ControlLook: Drop {
     /// What it shows in a font.
     ghost seen: { Self → KeptControl → List ℕ → PixelSet };
@@ -32,12 +33,16 @@ pub trait ControlLook: Drop {
     /// The value once its thumb was dragged from one point to another.
     ghost value: { Self → KeptControl → Point → Point → ℤ };
 
+    /// The pixels that the damage may have.
+    ghost damaged: { Self → KeptControl → KeptControl → PixelSet };
+
     /// A rectangle outside which a control that was told something looks the same, in every font and within the range of
     /// coordinates. The old size is none before the first one was told: then all may change.
     fn damage(&self, old: &KeptControl, new: &KeptControl) -> Rect
         requires { is_control_size new.now.size ≡ true }
-        ensures { (font : List ℕ) (p : Point) → in_plane p ≡ true → rect_holds result p ≡ false
-            → seen self.now new.now font p ≡ seen self.now old.now font p };
+        ensures alike { (font : List ℕ) (p : Point) → in_plane p ≡ true → rect_holds result p ≡ false
+            → seen self.now new.now font p ≡ seen self.now old.now font p }
+        ensures small { (p : Point) → rect_holds result p ≡ true → damaged self.now old.now new.now p ≡ true };
 
     /// The part that a point lies in.
     fn hit(&self, kept: &KeptControl, point: Point) -> Option<ControlPart>
@@ -71,19 +76,19 @@ pub struct StdControl<L> {
 }
 
 impl<L: ControlLook> ControlDef for StdControl<L> {
-    ghost control_meaning = { std_meaning L.seen L.part L.value };
+    ghost control_meaning = { std_meaning L.seen L.part L.value L.damaged };
 
     fn stage(&self) -> Stage {
         self.stage
     }
 
     fn begin(&mut self)
-        requires { (std_meaning L.seen L.part L.value self.old).stage ≡ Stage.Fresh }
-        ensures live { (std_meaning L.seen L.part L.value self.new).stage ≡ Stage.Live }
-        ensures regions { SameControlRegions (std_meaning L.seen L.part L.value self.old)
-            (std_meaning L.seen L.part L.value self.new) }
-        ensures look { ControlHears (λ n. n) (std_meaning L.seen L.part L.value self.old)
-            (std_meaning L.seen L.part L.value self.new) }
+        requires { (std_meaning L.seen L.part L.value L.damaged self.old).stage ≡ Stage.Fresh }
+        ensures live { (std_meaning L.seen L.part L.value L.damaged self.new).stage ≡ Stage.Live }
+        ensures regions { SameControlRegions (std_meaning L.seen L.part L.value L.damaged self.old)
+            (std_meaning L.seen L.part L.value L.damaged self.new) }
+        ensures look { ControlHears (λ n. n) (std_meaning L.seen L.part L.value L.damaged self.old)
+            (std_meaning L.seen L.part L.value L.damaged self.new) }
         ensures kept { self.new ≡ std_at Stage.Live self.old }
     {
         self.stage = Stage::Live;
@@ -91,18 +96,20 @@ impl<L: ControlLook> ControlDef for StdControl<L> {
 
     /// Nothing that it is told is forgotten: the clause `kept`, over those of the trait.
     fn told(&mut self, change: &ControlChange<'_>) -> Rect
-        requires live { (std_meaning L.seen L.part L.value self.old).stage ≡ Stage.Live }
-        requires fits { is_fitting_control (std_meaning L.seen L.part L.value self.old)
-            (control_size_after change.now (std_meaning L.seen L.part L.value self.old).size) ≡ true }
-        ensures stays { (std_meaning L.seen L.part L.value self.new).stage ≡ Stage.Live }
-        ensures size { (std_meaning L.seen L.part L.value self.new).size
-            ≡ control_size_after change.now (std_meaning L.seen L.part L.value self.old).size }
-        ensures regions { SameControlRegions (std_meaning L.seen L.part L.value self.old)
-            (std_meaning L.seen L.part L.value self.new) }
-        ensures heard { ControlHears (told_control change.now) (std_meaning L.seen L.part L.value self.old)
-            (std_meaning L.seen L.part L.value self.new) }
-        ensures damage { IsControlDamage result (std_meaning L.seen L.part L.value self.old)
-            (std_meaning L.seen L.part L.value self.new) }
+        requires live { (std_meaning L.seen L.part L.value L.damaged self.old).stage ≡ Stage.Live }
+        requires fits { is_fitting_control (std_meaning L.seen L.part L.value L.damaged self.old)
+            (control_size_after change.now (std_meaning L.seen L.part L.value L.damaged self.old).size) ≡ true }
+        ensures stays { (std_meaning L.seen L.part L.value L.damaged self.new).stage ≡ Stage.Live }
+        ensures size { (std_meaning L.seen L.part L.value L.damaged self.new).size
+            ≡ control_size_after change.now (std_meaning L.seen L.part L.value L.damaged self.old).size }
+        ensures regions { SameControlRegions (std_meaning L.seen L.part L.value L.damaged self.old)
+            (std_meaning L.seen L.part L.value L.damaged self.new) }
+        ensures heard { ControlHears (told_control change.now) (std_meaning L.seen L.part L.value L.damaged self.old)
+            (std_meaning L.seen L.part L.value L.damaged self.new) }
+        ensures damage { IsControlDamage result (std_meaning L.seen L.part L.value L.damaged self.old)
+            (std_meaning L.seen L.part L.value L.damaged self.new) }
+        ensures answered { IsWithin (rect_holds result) ((std_meaning L.seen L.part L.value L.damaged self.old).damage
+            no_control_news (told_control change.now no_control_news)) }
         ensures kept { self.new ≡ told_std change.now self.old }
     {
         let kept = self.kept.after(change);
@@ -132,10 +139,10 @@ impl<L: ControlLook> ControlDef for StdControl<L> {
     }
 
     fn dispose(&mut self)
-        requires { (std_meaning L.seen L.part L.value self.old).stage ≡ Stage.Live }
-        ensures closed { (std_meaning L.seen L.part L.value self.new).stage ≡ Stage.Closed }
-        ensures same { SameControlLook (std_meaning L.seen L.part L.value self.old)
-            (std_meaning L.seen L.part L.value self.new) }
+        requires { (std_meaning L.seen L.part L.value L.damaged self.old).stage ≡ Stage.Live }
+        ensures closed { (std_meaning L.seen L.part L.value L.damaged self.new).stage ≡ Stage.Closed }
+        ensures same { SameControlLook (std_meaning L.seen L.part L.value L.damaged self.old)
+            (std_meaning L.seen L.part L.value L.damaged self.new) }
         ensures kept { self.new ≡ std_at Stage.Closed self.old }
     {
         self.stage = Stage::Closed;

@@ -1,6 +1,6 @@
 //! What a scroll bar looks like.
 ghost use Rattle.std.specs.Prelude.{◌≡◌};
-ghost use Rattle.std_cdef.specs.Controls.{scroll_part, scroll_seen, scrolled_value};
+ghost use Rattle.std_cdef.specs.Controls.{scroll_damaged, scroll_part, scroll_seen, scrolled_value};
 ghost use Rattle.std_cdef.specs.Told.{fresh_scroll};
 
 use crate::control::{ControlLook, StdControl};
@@ -40,6 +40,8 @@ impl ControlLook for ScrollLook {
     ghost part = { λ _. scroll_part };
 
     ghost value = { λ _. scrolled_value };
+
+    ghost damaged = { λ _. scroll_damaged };
 
     fn damage(&self, old: &KeptControl, new: &KeptControl) -> Rect {
         scroll_damage(old, new, same_title(old, new))

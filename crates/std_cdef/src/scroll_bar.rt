@@ -1,5 +1,6 @@
 //! What a scroll bar looks like, and its parts.
 ghost use Rattle.std.specs.Prelude.{◌≡◌, true, false};
+ghost use Rattle.std.specs.Str.{bytes_eq};
 ghost use Rattle.tb_geom.specs.declared.point.Point.{Point};
 ghost use Rattle.tb_geom.specs.Rects.{in_plane, rect_holds};
 ghost use Rattle.def_iface.specs.ControlMeaning.{is_control_size};
@@ -7,7 +8,7 @@ ghost use Rattle.looks.specs.Letters.{Lettering};
 ghost use Rattle.looks.specs.Marks.{look_bit};
 ghost use Rattle.std_cdef.specs.Looks.{scroll_look};
 ghost use Rattle.std_cdef.specs.Hits.{scroll_spots};
-ghost use Rattle.std_cdef.specs.Controls.{scroll_part};
+ghost use Rattle.std_cdef.specs.Controls.{scroll_damaged, scroll_part};
 
 use crate::axis::{first_box, is_long, last_box, track};
 use crate::rects::is_control_size;
@@ -79,10 +80,12 @@ pub(crate) fn scroll_hit(kept: &KeptControl, point: Point) -> Option<ControlPart
 /// The damage of a scroll bar (`ControlLook::damage`). The titles are equal where `same_title` says so.
 pub(crate) fn scroll_damage(old: &KeptControl, new: &KeptControl, same_title: bool) -> Rect
     requires { is_control_size new.now.size ≡ true }
-    ensures { (u t : Lettering) → (same_title ≡ true → t ≡ u) → (p : Point) → in_plane p ≡ true
+    ensures alike { (u t : Lettering) → (same_title ≡ true → t ≡ u) → (p : Point) → in_plane p ≡ true
         → rect_holds result p ≡ false
         → look_bit t (scroll_look new.now.size new.now.values new.now.highlight) p
         ≡ look_bit u (scroll_look old.now.size old.now.values old.now.highlight) p }
+    ensures small { (p : Point) → rect_holds result p ≡ true → same_title ≡ bytes_eq old.now.title new.now.title
+        → scroll_damaged old.now new.now p ≡ true }
 {
     if is_control_size(old.size) {
         damage_between(

@@ -10,7 +10,7 @@ use Rattle.looks.specs.declared.pen.Baseline.TheVariants.{At as AtRow}
 use Rattle.looks.specs.declared.step.Step.{Step}
 use Rattle.looks.specs.Letters.{lettering}
 use Rattle.looks.specs.Lettered.{lettered_value}
-use Rattle.looks.specs.Marks.{black_fill, black_frame, box, grayed, inverted, look_bit, text_at, when}
+use Rattle.looks.specs.Marks.{black_fill, black_frame, box, grayed, inverted, look_bit, neg, text_at, when}
 use Rattle.menu_record.specs.declared.item.MenuItem.{MenuItem}
 use Rattle.menu_record.specs.declared.menu.Menu.{Menu}
 use Rattle.menu_record.specs.Menus.{is_line, is_bright, can_choose}
@@ -118,3 +118,8 @@ chosen font menu p = chosen_from menu (menu_size font menu) 0 menu.items p
 abbrev pub in_band : Option ℕ → PixelSet
 in_band None p = false
 in_band (Some n) p = between (pos (16 * n) -ℤ pos 15) p.v (pos (16 * n) +ℤ pos 1)
+
+-- those rows, across the range of coordinates
+abbrev pub band : Option ℕ → Rect
+band None = box (pos 0) (pos 0) (pos 0) (pos 0)
+band (Some n) = box (neg 16384) (pos (16 * n) -ℤ pos 15) (pos 16384) (pos (16 * n) +ℤ pos 1)

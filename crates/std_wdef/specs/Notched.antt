@@ -1,19 +1,22 @@
 -- The notched window: its upper right corner is cut out.
-use Rattle.std.specs.Prelude.{List, [], ◌∷◌, ℤ, pos, ◌+ℤ◌, ◌-ℤ◌, if◌then◌else◌}
+use Rattle.std.specs.Prelude.{true, List, [], ◌∷◌, ℤ, pos, ◌+ℤ◌, ◌-ℤ◌, if◌then◌else◌}
 use Rattle.std.specs.Int.{int_min, int_div_euclid}
 use Rattle.tb_geom.specs.declared.point.Point.{Point}
+use Rattle.tb_geom.specs.Points.{PixelSet}
+use Rattle.tb_geom.specs.Rects.{rect_holds}
 use Rattle.def_iface.specs.declared.size.Size.{Size}
 use Rattle.def_iface.specs.declared.window_def.Stage.{Stage}
 use Rattle.def_iface.specs.declared.window_def.Stage.TheVariants.{Fresh}
 use Rattle.def_iface.specs.declared.window_def.WindowChange.{WindowChange}
 use Rattle.def_iface.specs.declared.window_def.Hit.{Hit}
 use Rattle.def_iface.specs.declared.window_def.Hit.TheVariants.{NoHit, InContent}
-use Rattle.def_iface.specs.Sizes.{rect_of}
+use Rattle.def_iface.specs.Sizes.{is_size, rect_of}
 use Rattle.def_iface.specs.Lines.{frame_lines}
 use Rattle.def_iface.specs.WindowMeaning.{WindowDefinition, size_after}
 use Rattle.looks.specs.declared.area.Piece.{Piece}
 use Rattle.looks.specs.Areas.{added_rect, removed_rect, area_holds}
 use Rattle.looks.specs.declared.step.Step.{Step}
+use Rattle.looks.specs.Damages.{look_damage}
 use Rattle.looks.specs.Letters.{lettering}
 use Rattle.looks.specs.Marks.{box, neg, black_fill, look_bit}
 use Rattle.std_wdef.specs.declared.notched_window.NotchedWindow.{NotchedWindow}
@@ -45,6 +48,10 @@ notched_look s = black_fill (ring 1 s) ∷ []
 abbrev pub notched_hit : Size → Point → Hit
 notched_hit s p = if area_holds (notched_content s) p then InContent else NoHit
 
+-- the pixels that the damage may have of a window that gets another size
+abbrev pub notched_damage : (old new : Size) → PixelSet
+notched_damage old new p = if is_size old then rect_holds (look_damage true (notched_look old) (notched_look new)) p else true
+
 -- a notched window's definition as a value
 abbrev pub notched_window : Stage → Size → WindowDefinition
 notched_window stage size = record {
@@ -56,6 +63,7 @@ notched_window stage size = record {
   grow_lines = λ s. frame_lines (ring 1 s);
   picture = λ n font. look_bit (lettering font []) (notched_look (size_in n size));
   hit = λ n. notched_hit (size_in n size);
+  damage = λ n. notched_damage size (size_in n size);
 }
 
 -- what the window is

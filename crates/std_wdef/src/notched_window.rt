@@ -2,12 +2,12 @@
 ghost use Rattle.std.specs.Prelude.{◌≡◌, true, false, pos, ◌≤ℤ◌, ◌+ℤ◌, ◌-ℤ◌};
 ghost use Rattle.tb_geom.specs.declared.point.Point.{Point};
 ghost use Rattle.tb_geom.specs.Rects.{in_plane, is_coordinate, rect_holds};
-ghost use Rattle.def_iface.specs.WindowNews.{told_change};
-ghost use Rattle.def_iface.specs.WindowMeaning.{SameLook, SameRegions, WindowHears, IsDamage, is_fitting, size_after};
+ghost use Rattle.def_iface.specs.WindowNews.{no_news, told_change};
+ghost use Rattle.def_iface.specs.WindowMeaning.{SameLook, SameRegions, WindowHears, IsDamage, IsWithin, is_fitting, size_after};
 ghost use Rattle.def_iface.specs.Sizes.{is_size};
 ghost use Rattle.looks.specs.Letters.{Lettering};
 ghost use Rattle.looks.specs.Marks.{box, neg, look_bit};
-ghost use Rattle.std_wdef.specs.Notched.{notch, notched_structure, notched_content, notched_look, notched_meaning};
+ghost use Rattle.std_wdef.specs.Notched.{notch, notched_structure, notched_content, notched_damage, notched_look, notched_meaning};
 ghost use Rattle.std_wdef.specs.Notched.{fresh_notched, told_notched, notched_at};
 
 use crate::rects::ring;
@@ -112,8 +112,9 @@ fn notched_look(size: Size) -> [Step; 1]
 /// coordinates. The old size may be none.
 fn notched_damage(old: Size, new: Size) -> Rect
     requires { is_size new ≡ true }
-    ensures { (t : Lettering) (p : Point) → in_plane p ≡ true → rect_holds result p ≡ false
+    ensures alike { (t : Lettering) (p : Point) → in_plane p ≡ true → rect_holds result p ≡ false
         → look_bit t (notched_look new) p ≡ look_bit t (notched_look old) p }
+    ensures small { (p : Point) → rect_holds result p ≡ true → notched_damage old new p ≡ true }
 {
     if old.is_in_range() {
         damage_between(&notched_look(old), &notched_look(new), true)
@@ -149,6 +150,7 @@ impl WindowDef for NotchedWindow {
         ensures regions { SameRegions (notched_meaning self.old) (notched_meaning self.new) }
         ensures heard { WindowHears (told_change change.entry) (notched_meaning self.old) (notched_meaning self.new) }
         ensures damage { IsDamage result (notched_meaning self.old) (notched_meaning self.new) }
+        ensures answered { IsWithin (rect_holds result) ((notched_meaning self.old).damage (told_change change.entry no_news)) }
         ensures kept { self.new ≡ told_notched change.entry self.old }
     {
         let size = change.size_after(self.size);

@@ -5,9 +5,11 @@ ghost use Rattle.tb_geom.specs.Rects.{rect_holds, in_plane};
 ghost use Rattle.bit_blit.specs.Draws.{Draws};
 ghost use Rattle.draw_port.specs.Canvases.{canvas_holds, canvas_point, SameFrame};
 ghost use Rattle.def_iface.specs.Sizes.{is_size};
+ghost use Rattle.looks.specs.Damages.{IsWithin, look_damage};
 ghost use Rattle.looks.specs.Letters.{Lettering, lettering};
 ghost use Rattle.looks.specs.Marks.{look_bit};
 ghost use Rattle.std_wdef.specs.Looks.{look_of, document_look};
+ghost use Rattle.std_wdef.specs.Windows.{shown_damage};
 
 use crate::kind::{Shown, Variation};
 use crate::tables::{dialog_look, document_look, plain_look, shadow_look};
@@ -41,9 +43,11 @@ pub(crate) fn draw_window(canvas: &mut Canvas<'_>, variation: Variation, shown: 
 fn window_damage(variation: Variation, old: Shown, new: Shown, same_title: bool) -> Rect
     requires old { is_size old.size ≡ true }
     requires new { is_size new.size ≡ true }
-    ensures { (u t : Lettering) → (same_title ≡ true → t ≡ u) → (p : Point) → rect_holds result p ≡ false
+    ensures alike { (u t : Lettering) → (same_title ≡ true → t ≡ u) → (p : Point) → rect_holds result p ≡ false
         → look_bit t (look_of variation new.flags new.titled new.size) p
         ≡ look_bit u (look_of variation old.flags old.titled old.size) p }
+    ensures small { IsWithin result (look_damage same_title (look_of variation old.flags old.titled old.size)
+        (look_of variation new.flags new.titled new.size)) }
 {
     match variation {
         Variation::Plain => {
@@ -65,9 +69,11 @@ fn window_damage(variation: Variation, old: Shown, new: Shown, same_title: bool)
 fn document_damage(variation: Variation, old: Shown, new: Shown, same_title: bool) -> Rect
     requires old { is_size old.size ≡ true }
     requires new { is_size new.size ≡ true }
-    ensures { (u t : Lettering) → (same_title ≡ true → t ≡ u) → (p : Point) → rect_holds result p ≡ false
+    ensures alike { (u t : Lettering) → (same_title ≡ true → t ≡ u) → (p : Point) → rect_holds result p ≡ false
         → look_bit t (document_look variation new.flags new.titled new.size) p
         ≡ look_bit u (document_look variation old.flags old.titled old.size) p }
+    ensures small { IsWithin result (look_damage same_title (document_look variation old.flags old.titled old.size)
+        (document_look variation new.flags new.titled new.size)) }
 {
     damage_between(
         document_look(variation, old).steps(),
@@ -80,10 +86,11 @@ fn document_damage(variation: Variation, old: Shown, new: Shown, same_title: boo
 /// coordinates. The old size is none of a window before the first one was told: then all may change.
 pub(crate) fn told_damage(variation: Variation, old: Shown, new: Shown, same_title: bool) -> Rect
     requires { is_size new.size ≡ true }
-    ensures { (u t : Lettering) → (same_title ≡ true → t ≡ u) → (p : Point) → in_plane p ≡ true
+    ensures alike { (u t : Lettering) → (same_title ≡ true → t ≡ u) → (p : Point) → in_plane p ≡ true
         → rect_holds result p ≡ false
         → look_bit t (look_of variation new.flags new.titled new.size) p
         ≡ look_bit u (look_of variation old.flags old.titled old.size) p }
+    ensures small { (p : Point) → rect_holds result p ≡ true → shown_damage variation same_title old new p ≡ true }
 {
     if old.size.is_in_range() {
         window_damage(variation, old, new, same_title)

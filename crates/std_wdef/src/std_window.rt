@@ -1,7 +1,8 @@
 //! The definition of the standard windows.
 ghost use Rattle.std.specs.Prelude.{◌≡◌, true};
-ghost use Rattle.def_iface.specs.WindowNews.{told_change};
-ghost use Rattle.def_iface.specs.WindowMeaning.{SameLook, SameRegions, WindowHears, IsDamage, is_fitting, size_after};
+ghost use Rattle.tb_geom.specs.Rects.{rect_holds};
+ghost use Rattle.def_iface.specs.WindowNews.{no_news, told_change};
+ghost use Rattle.def_iface.specs.WindowMeaning.{SameLook, SameRegions, WindowHears, IsDamage, IsWithin, is_fitting, size_after};
 ghost use Rattle.std_wdef.specs.Told.{window_meaning, fresh_window, told_window, window_at};
 
 use crate::areas::{content_of, structure_box, structure_of};
@@ -71,6 +72,7 @@ impl WindowDef for StdWindow {
         ensures regions { SameRegions (window_meaning self.old) (window_meaning self.new) }
         ensures heard { WindowHears (told_change change.entry) (window_meaning self.old) (window_meaning self.new) }
         ensures damage { IsDamage result (window_meaning self.old) (window_meaning self.new) }
+        ensures answered { IsWithin (rect_holds result) ((window_meaning self.old).damage (told_change change.entry no_news)) }
         ensures kept { self.new ≡ told_window change.entry self.old }
     {
         let old = Shown {

@@ -2,13 +2,14 @@
 use Rattle.std.proofs.Common.{◌≡◌, ℕ, Bool, true, List, refl, ap, ◌∙◌, subst}
 use Rattle.std.specs.Prelude.{slice_set}
 use Rattle.tb_geom.specs.declared.rect.Rect.{Rect}
+use Rattle.tb_geom.specs.Rects.{rect_holds}
 use Rattle.def_iface.specs.declared.size.Size.{Size}
 use Rattle.def_iface.specs.Slots.{TakenBox}
 use Rattle.def_iface.specs.declared.window_def.Stage.TheVariants.{Live}
 use Rattle.def_iface.specs.declared.window_def.WindowChange.{WindowChange}
 use Rattle.def_iface.specs.declared.window_def.WindowChange.TheVariants.{Resized, Titled, Highlighted, Closable, Zoomed, Tracked}
-use Rattle.def_iface.specs.WindowNews.{told_change, told_placed}
-use Rattle.def_iface.specs.WindowMeaning.{WindowDefinition, WindowLoan, SameRegions, WindowHears, IsDamage, size_after}
+use Rattle.def_iface.specs.WindowNews.{no_news, told_change, told_placed}
+use Rattle.def_iface.specs.WindowMeaning.{WindowDefinition, WindowLoan, SameRegions, WindowHears, IsDamage, IsWithin, size_after}
 use Rattle.window_list.specs.declared.window.Window.{Window}
 use Rattle.window_list.specs.Changes.{keeps_size, with_change, IsNotifiedAt}
 
@@ -49,8 +50,9 @@ module _ {V : Type 0} {H : V → Type 0} where
       → WindowHears (told_change change) (loan kept.taken).definition (loan taken).definition
       → (loan taken).slot ≡ (loan kept.taken).slot
       → IsDamage damage (loan kept.taken).definition (loan taken).definition
+      → IsWithin (rect_holds damage) ((loan kept.taken).definition.damage (told_change change no_news))
       → IsNotifiedAt loan i change damage w old (slice_set old i (record kept { taken = taken }))
-  told_at loan i change damage w kept taken old keeps is live size regions heard slot damaged =
+  told_at loan i change damage w kept taken old keeps is live size regions heard slot damaged answered =
       let was : kept.taken ≡ w.taken = ap (λ (x : Window V H). x.taken) is ∙ same_taken change w in
       record {
         taken = taken;
@@ -61,4 +63,5 @@ module _ {V : Type 0} {H : V → Type 0} where
         heard = subst (λ x. WindowHears (told_change change) (loan x).definition (loan taken).definition) was heard;
         slot = slot ∙ ap (λ x. (loan x).slot) was;
         damaged = subst (λ x. IsDamage damage (loan x).definition (loan taken).definition) was damaged;
+        answered = subst (λ x. IsWithin (rect_holds damage) ((loan x).definition.damage (told_change change no_news))) was answered;
       }

@@ -11,6 +11,8 @@ use Rattle.tb_geom.specs.Pixels.{holds}
 use Rattle.tb_geom.specs.Rects.{in_plane, is_in_range, moved_rect, rect_holds}
 use Rattle.bit_map.specs.Bits.{Bits, on_map, bit}
 use Rattle.bit_blit.specs.Draws.{Draws, IsWritten}
+use Rattle.bit_blit.proofs.WrittenLemmas.{written_in}
+use Rattle.window_mgr.specs.DrawnWithin.{WritesFrame}
 use Rattle.window_mgr.specs.Sparing.{IsRepainted, Repaints}
 use Rattle.def_iface.specs.WindowNews.{no_news, told_change}
 use Rattle.def_iface.specs.declared.size.Size.{Size}
@@ -196,14 +198,18 @@ module _ {V : Type 0} {H : V → Type 0} (loan : TakenBox V H → WindowLoan) wh
 
       -- ---- the screen
 
+      -- its pixels are the map's
+      of_map : (p : Point) → layers.on_screen was p ≡ on_map t.screen p
+      unfolding on_map
+      of_map p = λ i. between-is_below t.screen.width p.h i && between-is_below t.screen.height p.v i
+
       module _ (screen : Bits) (drawn : Draws (λ p. holds a.frame p && rect_holds damage (minus p x.place)) (λ p _. d.picture no_news t.font (minus p x.place)) t.screen screen)
           (near : (p : Point) → holds a.frame p ≡ true → in_plane (minus p x.place) ≡ true) (p : Point) (on : layers.on_screen was p ≡ true) where
         abbrev now : LayeredDesk
         now = layered_desk (desk_noted before whole.sound.distinct at w rest windows_were (notified_record change w) d T.regions)
 
         on_map_is : layers.on_screen was p ≡ on_map t.screen p
-        unfolding on_map
-        on_map_is = λ i. between-is_below t.screen.width p.h i && between-is_below t.screen.height p.v i
+        on_map_is = of_map p
 
         bit_is : bit screen p ≡ (if same_owner (owner was p) (Frame x.serial) && rect_holds damage (minus p x.place) then d.picture no_news t.font (minus p x.place) else bit t.screen p)
         bit_is =
@@ -374,6 +380,31 @@ module _ {V : Type 0} {H : V → Type 0} (loan : TakenBox V H → WindowLoan) wh
             by_test p none true e = sym (same_number x.serial) ∙ none x.serial e
             by_test p none false e = refl
 
+        -- nor of these but in the damage that the definition may answer
+        pub written_within : IsWritten (λ p. holds a.frame p && rect_holds damage (minus p x.place)) t.screen screen
+            → WritesFrame loan x.serial x.place ((loan x.taken).definition.damage (told_change change no_news)) t (with_frame screen)
+        written_within written = written_in _ _ t.screen screen (λ p there out. by_tests p there out (rect_holds damage (minus p x.place)) refl) written
+          where
+            last : (b : Bool) → (b && true) ≡ b
+            last true = refl
+            last false = refl
+
+            none : (b : Bool) → (b && false) ≡ false
+            none true = refl
+            none false = refl
+
+            by_tests : (p : Point) → on_map t.screen p ≡ true
+                → (same_owner (owner was p) (Frame x.serial) && (loan x.taken).definition.damage (told_change change no_news) (minus p x.place)) ≡ false
+                → (b : Bool) → rect_holds damage (minus p x.place) ≡ b → (holds a.frame p && b) ≡ false
+            by_tests p there out false e = none (holds a.frame p)
+            by_tests p there out true e =
+                last (holds a.frame p)
+                ∙ area_is.frame p
+                ∙ ap (λ b. b && same_owner (owner was p) (Frame x.serial)) (of_map p ∙ there)
+                ∙ sym (last (same_owner (owner was p) (Frame x.serial)))
+                ∙ ap (λ b. same_owner (owner was p) (Frame x.serial) && b) (sym (T.answered (minus p x.place) e))
+                ∙ out
+
         -- it is whole again, the definition was told, and the frame drawn
         pub frame_told : IsWholeManager loan (with_frame screen) slots × IsFrameNotified x.serial (λ _. told_change change) (notified_record change) (state_of loan t slots) (state_of loan (with_frame screen) slots)
         frame_told = (
@@ -416,10 +447,22 @@ module _ {V : Type 0} {H : V → Type 0} (loan : TakenBox V H → WindowLoan) wh
           others
 
       pub frame_repainted_by : (screen : Bits) → Draws (λ p. holds a.frame p && rect_holds damage (minus p z.place)) (λ p _. (loan z.taken).definition.picture no_news t.font (minus p z.place)) t.screen screen
-          → ((p : Point) → holds a.frame p ≡ true → in_plane (minus p z.place) ≡ true) → list ≡ record t.windows { records = list.records } → IsWritten (holds a.frame) t.screen screen
+          → ((p : Point) → holds a.frame p ≡ true → in_plane (minus p z.place) ≡ true) → list ≡ record t.windows { records = list.records }
+          → IsWritten (λ p. holds a.frame p && rect_holds damage (minus p z.place)) t.screen screen
           → Repaints loan (λ n. n == x.serial) t (record t { screen = screen; windows = list })
       frame_repainted_by screen drawn near others written =
           repainted a read screen
           (subst (λ (y : WindowRecord). Draws (λ p. holds a.frame p && rect_holds damage (minus p y.place)) (λ p _. y.definition.picture no_news t.font (minus p y.place)) t.screen screen) as_drawn drawn)
           (subst (λ (y : WindowRecord). (p : Point) → holds a.frame p ≡ true → in_plane (minus p y.place) ≡ true) as_drawn near)
-          others written
+          others (written_in _ (holds a.frame) t.screen screen (λ p there out. ap (λ b. b && rect_holds damage (minus p z.place)) out) written)
+
+      pub frame_written_by : (screen : Bits) → Draws (λ p. holds a.frame p && rect_holds damage (minus p z.place)) (λ p _. (loan z.taken).definition.picture no_news t.font (minus p z.place)) t.screen screen
+          → ((p : Point) → holds a.frame p ≡ true → in_plane (minus p z.place) ≡ true) → list ≡ record t.windows { records = list.records }
+          → IsWritten (λ p. holds a.frame p && rect_holds damage (minus p z.place)) t.screen screen
+          → WritesFrame loan x.serial x.place ((loan x.taken).definition.damage (told_change change no_news)) t (record t { screen = screen; windows = list })
+      frame_written_by screen drawn near others written =
+          written_within a read screen
+          (subst (λ (y : WindowRecord). Draws (λ p. holds a.frame p && rect_holds damage (minus p y.place)) (λ p _. y.definition.picture no_news t.font (minus p y.place)) t.screen screen) as_drawn drawn)
+          (subst (λ (y : WindowRecord). (p : Point) → holds a.frame p ≡ true → in_plane (minus p y.place) ≡ true) as_drawn near)
+          others
+          (subst (λ (y : WindowRecord). IsWritten (λ p. holds a.frame p && rect_holds damage (minus p y.place)) t.screen screen) as_drawn written)

@@ -7,8 +7,9 @@ use Rattle.tb_geom.specs.declared.rect.Rect.{Rect}
 use Rattle.tb_geom.specs.Points.{PixelSet, minus}
 use Rattle.tb_geom.specs.Pixels.{holds}
 use Rattle.tb_geom.specs.Rects.{rect_holds}
-use Rattle.bit_map.specs.Bits.{Bits, bit}
-use Rattle.bit_blit.specs.Draws.{Draws}
+use Rattle.bit_map.specs.Bits.{Bits, on_map, bit}
+use Rattle.bit_blit.specs.Draws.{Draws, IsWritten}
+use Rattle.bit_blit.proofs.WrittenLemmas.{written_in}
 use Rattle.desk_layers.specs.declared.part.Part.{Part}
 use Rattle.desk_layers.specs.declared.part.Part.TheVariants as part
 use Rattle.def_iface.specs.Slots.{TakenBox}
@@ -30,6 +31,7 @@ use Rattle.vis_update.specs.Areas.{is_content_of, stale_in}
 use Rattle.window_list.specs.declared.window.Window.{Window}
 use Rattle.window_paint.specs.Shown.{part_shown}
 use Rattle.window_mgr.specs.declared.manager.WindowManager.{WindowManager}
+use Rattle.window_mgr.specs.DrawnWithin.{WritesPart}
 use Rattle.window_mgr.specs.Edits.{IsWindowAt}
 use Rattle.window_mgr.specs.FullDesk.{FullDesk, FullState, IsRightState, layered_desk, layered_state}
 use Rattle.window_mgr.specs.Relayered.{IsLayerDrawnWithin, IsLayerRedrawn, redrawn_change}
@@ -42,6 +44,22 @@ use Rattle.window_mgr.proofs.Repicturing.{no_content}
 use Rattle.window_mgr.proofs.Remarked.{unless}
 use Rattle.window_mgr.proofs.LayerThere as here
 use Rattle.window_mgr.proofs.LayerThere.{no_part}
+
+-- the pixels that the layer owns and that are not to be redrawn
+module _ {V : Type 0} {H : V → Type 0} (loan : TakenBox V H → WindowLoan) (t : WindowManager V H) (slots : List WindowSlot) (whole : IsWholeManager loan t slots) (at : ℕ) (low : at < length t.windows.records.items) (w : Window V H) (there : IsWindowAt t.windows.records.items at w) (a : Area) (read : a ≡ get_or t.areas.items at a)
+    (was now : List ℕ → Part → PixelSet) (q : Part) (p : Point) (on : layers.on_screen (layered_desk (desk_showing now (desk_of loan t slots))) p ≡ true) where
+  abbrev fresh_owner : Owner
+  fresh_owner = owner (layered_desk (desk_showing now (desk_of loan t slots))) p
+
+  fresh_is : ((holds a.visible p && belongs_to q w.layers.layers (minus p w.layers.place)) && not (holds a.update p)) ≡ (same_owner fresh_owner (Content w.serial q) && not (stale_in t.areas.items p))
+  fresh_is = by_test (is_content_of w.serial fresh_owner) refl
+    where
+      by_test : (b : Bool) → is_content_of w.serial fresh_owner ≡ b
+          → ((holds a.visible p && belongs_to q w.layers.layers (minus p w.layers.place)) && not (holds a.update p)) ≡ (same_owner fresh_owner (Content w.serial q) && not (stale_in t.areas.items p))
+      by_test true e = λ i. here.own_is loan t slots whole at low w there a read was now q p on i && not ((here.update_is loan t slots whole at low w there a read was now q p on ∙ ap (λ b. b && stale_in t.areas.items p) e) i)
+      by_test false e =
+          ap (λ b. b && not (holds a.update p)) (here.own_is loan t slots whole at low w there a read was now q p on ∙ no_part w.serial q fresh_owner e)
+          ∙ sym (ap (λ b. b && not (stale_in t.areas.items p)) (no_part w.serial q fresh_owner e))
 
 module _ {V : Type 0} {H : V → Type 0} (loan : TakenBox V H → WindowLoan) (t : WindowManager V H) (slots : List WindowSlot) (whole : IsWholeManager loan t slots) (at : ℕ) (low : at < length t.windows.records.items) (w : Window V H) (there : IsWindowAt t.windows.records.items at w) (a : Area) (read : a ≡ get_or t.areas.items at a)
     (was now : List ℕ → Part → PixelSet) (q : Part) (layered : same_part q part.Picture ≡ false) (within : Rect) (screen : Bits)
@@ -87,14 +105,7 @@ module _ {V : Type 0} {H : V → Type 0} (loan : TakenBox V H → WindowLoan) (t
 
     -- what is drawn
     drawn_is : ((holds a.visible p && belongs_to q w.layers.layers (minus p w.layers.place)) && not (holds a.update p)) ≡ (mine its && not (stale p))
-    drawn_is = by_test (is_content_of w.serial its) refl
-      where
-        by_test : (b : Bool) → is_content_of w.serial its ≡ b
-            → ((holds a.visible p && belongs_to q w.layers.layers (minus p w.layers.place)) && not (holds a.update p)) ≡ (mine its && not (stale p))
-        by_test true e = λ i. here.own_is loan t slots whole at low w there a read was now q p on i && not ((here.update_is loan t slots whole at low w there a read was now q p on ∙ ap (λ b. b && stale p) e) i)
-        by_test false e =
-            ap (λ b. b && not (holds a.update p)) (here.own_is loan t slots whole at low w there a read was now q p on ∙ no_part w.serial q its e)
-            ∙ sym (ap (λ b. b && not (stale p)) (no_part w.serial q its e))
+    drawn_is = fresh_is loan t slots whole at low w there a read was now q p on
 
     bit_is : bit screen p ≡ (if (mine its && not (stale p)) && rect_holds within (minus p w.place) then now t.font q (minus p w.place) else bit t.screen p)
     bit_is = drawn.pixels p (here.on_screen loan t slots whole at low w there a read was now q p on) ∙ ap (λ b. if b && rect_holds within (minus p w.place) then now t.font q (minus p w.place) else bit t.screen p) drawn_is
@@ -202,3 +213,23 @@ index_redrawn {V} {H} loan t slots whole at low w there a read was now index the
     drawn_so : Draws (λ p. ((holds a.visible p && belongs_to l.part w.layers.layers (minus p w.layers.place)) && not (holds a.update p)) && rect_holds within (minus p w.place)) (λ p _. now t.font l.part (minus p w.place)) t.screen screen
     drawn_so = (subst (λ (z : Window V H). (k : Layer) → k ≡ get_or z.layers.layers index k → Draws (λ p. ((holds a.visible p && belongs_to k.part z.layers.layers (minus p z.layers.place)) && not (holds a.update p)) && rect_holds within (minus p z.place)) (λ p _. now t.font k.part (minus p z.place)) t.screen screen)
         (same_at t.windows.records.items at v w low v_read there) drawn) l l_read
+
+-- and no other pixel was written
+pub index_written : {V : Type 0} {H : V → Type 0} (loan : TakenBox V H → WindowLoan) (t : WindowManager V H) (slots : List WindowSlot) (whole : IsWholeManager loan t slots) (at : ℕ) → at < length t.windows.records.items
+    → (w : Window V H) → IsWindowAt t.windows.records.items at w → (a : Area) → a ≡ get_or t.areas.items at a → (now : List ℕ → Part → PixelSet)
+    → (index : ℕ) (l : Layer) → l ≡ get_or w.layers.layers index l → (v : Window V H) → IsWindowAt t.windows.records.items at v → (within : Rect) (screen : Bits)
+    → ((k : Layer) → k ≡ get_or v.layers.layers index k → IsWritten (λ p. ((holds a.visible p && belongs_to k.part v.layers.layers (minus p v.layers.place)) && not (holds a.update p)) && rect_holds within (minus p v.place)) t.screen screen)
+    → WritesPart loan w.serial l.part w.place (rect_holds within) t (record t { screen = screen })
+index_written {V} {H} loan t slots whole at low w there a read now index l l_read v v_read within screen written =
+    written_in _ _ t.screen screen (λ p on out. (λ i. fresh p on i && rect_holds within (minus p w.place)) ∙ out) written_so
+  where
+    fresh : (p : Point) → on_map t.screen p ≡ true
+        → ((holds a.visible p && belongs_to l.part w.layers.layers (minus p w.layers.place)) && not (holds a.update p))
+        ≡ (same_owner (owner (layered_desk (desk_of loan t slots)) p) (Content w.serial l.part) && not (stale_in t.areas.items p))
+    fresh p on =
+        fresh_is loan t slots whole at low w there a read now now l.part p (here.on_map_is loan t slots whole at low w there a read now now l.part p ∙ on)
+        ∙ ap (λ o. same_owner o (Content w.serial l.part) && not (stale_in t.areas.items p)) (owner_showing now (desk_of loan t slots) p)
+
+    written_so : IsWritten (λ p. ((holds a.visible p && belongs_to l.part w.layers.layers (minus p w.layers.place)) && not (holds a.update p)) && rect_holds within (minus p w.place)) t.screen screen
+    written_so = (subst (λ (z : Window V H). (k : Layer) → k ≡ get_or z.layers.layers index k → IsWritten (λ p. ((holds a.visible p && belongs_to k.part z.layers.layers (minus p z.layers.place)) && not (holds a.update p)) && rect_holds within (minus p z.place)) t.screen screen)
+        (same_at t.windows.records.items at v w low v_read there) written) l l_read

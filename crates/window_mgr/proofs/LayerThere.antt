@@ -69,7 +69,7 @@ module _ {V : Type 0} {H : V → Type 0} (loan : TakenBox V H → WindowLoan) (t
   plain_area : IsArea (layered_desk full) stale w.serial a
   plain_area = remarked.area_is loan t slots whole at low w there a read
 
-  on_map_is : (p : Point) → layers.on_screen desk p ≡ on_map t.screen p
+  pub on_map_is : (p : Point) → layers.on_screen desk p ≡ on_map t.screen p
   unfolding on_map
   on_map_is p = λ i. between-is_below t.screen.width p.h i && between-is_below t.screen.height p.v i
 

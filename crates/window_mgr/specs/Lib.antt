@@ -27,4 +27,5 @@ pub mod Begin
 pub mod Closing
 pub mod Relayered
 pub mod Sparing
+pub mod DrawnWithin
 pub mod Boxed

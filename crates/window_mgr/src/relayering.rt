@@ -2,10 +2,12 @@
 //! their place, which does not.
 ghost use Rattle.std.specs.Prelude.{◌≡◌, ◌<◌, ℕ, slice_index_or, List, length, Option, IfOk, IfSome};
 ghost use Rattle.tb_geom.specs.Points.{PixelSet};
+ghost use Rattle.tb_geom.specs.Rects.{rect_holds};
 ghost use Rattle.desk_layers.specs.declared.part.Part.{Part};
 ghost use Rattle.def_iface.specs.WindowSlots.{WindowSlot};
 ghost use Rattle.window_list.specs.declared.layer.Layer.{Layer};
 ghost use Rattle.window_list.specs.Holders.{ArePartsApart};
+ghost use Rattle.window_mgr.specs.DrawnWithin.{WritesPart};
 ghost use Rattle.window_mgr.specs.Edits.{IsWindowAt};
 ghost use Rattle.window_mgr.specs.Records.{state_showing};
 ghost use Rattle.window_mgr.specs.Relayered.{IsPartAt, MayHaveLayers, IsGainedAt, IsPlanOfLayers, AreLayersSet};
@@ -52,14 +54,14 @@ impl WindowManager {
     }
 
     /// Draws the layer at this index of a window within a rectangle of the window, on the pixels that it owns and that are not to
-    /// be redrawn. Where the screen was right, and the layer shows outside of the rectangle what it showed, it is shown anew so. It
-    /// takes no memory.
+    /// be redrawn, and writes no other pixel. Where the screen was right, and the layer shows outside of the rectangle what it
+    /// showed, it is shown anew so. It takes no memory.
     pub fn show_layer<S: Showing>(&mut self, at: usize, index: usize, within: Rect, showing: &S)
         requires kept { ⟦<Self as DeskWindows>⟧.IsKept self.old }
         requires at { at < length self.old.windows.records.items }
         requires index { (w : _) → IsWindowAt self.old.windows.records.items at w → index < length w.layers.layers }
         requires whole { S.is_whole showing.now }
-        ensures { (w : _) → IsWindowAt self.old.windows.records.items at w
+        ensures drawn { (w : _) → IsWindowAt self.old.windows.records.items at w
             → (l : Layer) → l ≡ slice_index_or w.layers.layers index l
             → (was : List ℕ → Part → PixelSet) (slots : List WindowSlot)
             → ⟦<Self as DeskWindows>⟧.IsWholeOver self.old slots
@@ -67,6 +69,9 @@ impl WindowManager {
             × IsLayerDrawnWithin within w.serial l
             (state_showing was (⟦<Self as DeskWindows>⟧.state_over self.old slots))
             (state_showing (S.shows showing.now) (⟦<Self as DeskWindows>⟧.state_over self.new slots)) }
+        ensures within { (w : _) → IsWindowAt self.old.windows.records.items at w
+            → (l : Layer) → l ≡ slice_index_or w.layers.layers index l
+            → WritesPart ⟦<TakenWindow as Defined>⟧.loan w.serial l.part w.place (rect_holds within) self.old self.new }
     {
         let area = &self.areas[at];
         show_layer(

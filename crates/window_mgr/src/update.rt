@@ -36,14 +36,15 @@ impl WindowManager {
         false
     }
 
-    /// Makes these pixels of a window's visible content its update region, and draws nothing.
+    /// Makes these pixels of a window's visible content its update region, and draws nothing: no pixel is written.
     pub fn set_update(&mut self, at: usize, update: Region)
         requires kept { ⟦<Self as DeskWindows>⟧.IsKept self.old }
         requires at { at < length self.old.windows.records.items }
         requires within { (a : Area) → a ≡ slice_index_or self.old.areas.items at a
             → (p : Point) → holds update p ≡ true → holds a.visible p ≡ true }
-        ensures { (w : _) → IsWindowAt self.old.windows.records.items at w
+        ensures remarked { (w : _) → IsWindowAt self.old.windows.records.items at w
             → ⟦<Self as DeskWindows>⟧.LeavesState (IsRemarked w.serial update) self.old self.new }
+        ensures quiet { self.new.screen ≡ self.old.screen }
     {
         self.put_update(at, update);
     }

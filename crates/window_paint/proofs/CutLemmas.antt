@@ -72,16 +72,13 @@ painted_within cut shown clip f g old new end is_shown is_end within same drawn 
     held : (p : Point) → (rect_holds clip p && cut_holds cut p) ≡ shown p
     held p = ap (λ b. rect_holds clip p && b) (is_shown p) ∙ clipped (shown p) (rect_holds clip p) (within p)
 
--- what was drawn on a region, in a clip that has of a box around it just these
-pub painted_placed : (cut : Cut) (shown these : PixelSet) (clip box : Rect) (f : Point → Bool → Bool) (old new end : Bits)
+-- a clip that has of a box around a region just these has them of the region
+placed_is : (cut : Cut) (shown these : PixelSet) (clip box : Rect)
     → ((p : Point) → cut_holds cut p ≡ shown p)
-    → end ≡ new
     → ((p : Point) → shown p ≡ true → rect_holds box p ≡ true)
     → ((p : Point) → rect_holds clip p ≡ (rect_holds box p && these p))
-    → Draws (λ p. rect_holds clip p && cut_holds cut p) f old new
-    → Draws (λ p. shown p && these p) f old end
-painted_placed cut shown these clip box f old new end is_shown is_end within clipped_is drawn = rw is_end (
-    Draws-where _ (λ p. shown p && these p) f old new (λ p on. (λ i. clipped_is p i && is_shown p i) ∙ turned (rect_holds box p) (these p) (shown p) (within p)) drawn)
+    → (p : Point) → (rect_holds clip p && cut_holds cut p) ≡ (shown p && these p)
+placed_is cut shown these clip box is_shown within clipped_is p = (λ i. clipped_is p i && is_shown p i) ∙ turned (rect_holds box p) (these p) (shown p) (within p)
   where
     turned : (b t s : Bool) → (s ≡ true → b ≡ true) → ((b && t) && s) ≡ (s && t)
     turned true true true e = refl
@@ -91,6 +88,27 @@ painted_placed cut shown these clip box f old new end is_shown is_end within cli
     turned false t true e = absurd (false≢true (e refl))
     turned false t false e = refl
 
+-- what was drawn on a region, in such a clip
+pub painted_placed : (cut : Cut) (shown these : PixelSet) (clip box : Rect) (f : Point → Bool → Bool) (old new end : Bits)
+    → ((p : Point) → cut_holds cut p ≡ shown p)
+    → end ≡ new
+    → ((p : Point) → shown p ≡ true → rect_holds box p ≡ true)
+    → ((p : Point) → rect_holds clip p ≡ (rect_holds box p && these p))
+    → Draws (λ p. rect_holds clip p && cut_holds cut p) f old new
+    → Draws (λ p. shown p && these p) f old end
+painted_placed cut shown these clip box f old new end is_shown is_end within clipped_is drawn = rw is_end (
+    Draws-where _ (λ p. shown p && these p) f old new (λ p on. placed_is cut shown these clip box is_shown within clipped_is p) drawn)
+
+-- and written
+pub written_placed : (cut : Cut) (shown these : PixelSet) (clip box : Rect) (old new : Bits)
+    → ((p : Point) → cut_holds cut p ≡ shown p)
+    → ((p : Point) → shown p ≡ true → rect_holds box p ≡ true)
+    → ((p : Point) → rect_holds clip p ≡ (rect_holds box p && these p))
+    → IsWritten (λ p. rect_holds clip p && cut_holds cut p) old new
+    → IsWritten (λ p. shown p && these p) old new
+written_placed cut shown these clip box old new is_shown within clipped_is written =
+    written_in _ (λ p. shown p && these p) old new (λ p on out. placed_is cut shown these clip box is_shown within clipped_is p ∙ out) written
+
 -- what was drawn by a value that is another's
 pub drawn_as : (shown : PixelSet) (f g : Point → Bool → Bool) (old new end : Bits)
     → end ≡ new
@@ -98,6 +116,10 @@ pub drawn_as : (shown : PixelSet) (f g : Point → Bool → Bool) (old new end :
     → Draws shown f old new
     → Draws shown g old end
 drawn_as shown f g old new end is_end same drawn = rw is_end (Draws-value shown f g old new same drawn)
+
+-- and what was written
+pub written_as : (shown : PixelSet) (old new end : Bits) → end ≡ new → IsWritten shown old new → IsWritten shown old end
+written_as shown old new end is_end written = rw is_end written
 
 -- what was drawn on a region within a rectangle
 pub inside_drawn : (cut : Cut) (r : Bor Pixels) (clip : Rect) (f : Point → Bool → Bool) (old new end : Bits)
@@ -117,14 +139,20 @@ pub all_drawn : (region : Pixels) (clip : Rect) (f : Point → Bool → Bool) (o
 all_drawn region clip f old new within drawn =
     Draws-where _ (holds region) f old new (λ p on. clipped (holds region p) (rect_holds clip p) (within p)) drawn
 
--- what was written within a cut that leaves a region was written of the region
+-- and what was written
 pub inside_written : (cut : Cut) (r : Bor Pixels) (clip : Rect) (old new end : Bits)
     → cut ≡ cut_inside r
     → end ≡ new
     → IsWritten (λ p. rect_holds clip p && cut_holds cut p) old new
-    → IsWritten (holds r.now) old end
-inside_written cut r clip old new end is_cut is_end written = rw is_end (written_in (λ p. rect_holds clip p && cut_holds cut p) (holds r.now) old new
-    (λ p on out. ap (λ b. rect_holds clip p && b) (ap (λ k. cut_holds k p) is_cut ∙ cut_holds-one r p ∙ out) ∙ none (rect_holds clip p)) written)
+    → IsWritten (λ p. rect_holds clip p && holds r.now p) old end
+inside_written cut r clip old new end is_cut is_end written = rw is_end (
+    written_in (λ p. rect_holds clip p && cut_holds cut p) (λ p. rect_holds clip p && holds r.now p) old new
+    (λ p on out. ap (λ b. rect_holds clip p && b) (ap (λ k. cut_holds k p) is_cut ∙ cut_holds-one r p) ∙ out) written)
+
+-- and that was written of the region
+pub region_written : (region : Pixels) (clip : Rect) (old new : Bits) → IsWritten (λ p. rect_holds clip p && holds region p) old new → IsWritten (holds region) old new
+region_written region clip old new written =
+    written_in _ (holds region) old new (λ p on out. ap (λ b. rect_holds clip p && b) out ∙ none (rect_holds clip p)) written
   where
     none : (b : Bool) → (b && false) ≡ false
     none true = refl

@@ -9,8 +9,9 @@ use Rattle.tb_geom.specs.Pixels.{Pixels, holds}
 use Rattle.tb_geom.specs.Rects.{rect_holds, is_in_range, is_coordinate, in_plane, moved_rect, is_empty_rect, empty_rect}
 use Rattle.tb_geom.proofs.RectLemmas.{sides_of, sides_rise, is_around}
 use Rattle.bit_map.specs.Bits.{Bits}
-use Rattle.bit_blit.specs.Draws.{Draws}
+use Rattle.bit_blit.specs.Draws.{Draws, IsWritten}
 use Rattle.bit_blit.proofs.DrawsLemmas.{Draws-where, Draws-on_map}
+use Rattle.bit_blit.proofs.WrittenLemmas.{written_in}
 use Rattle.def_iface.specs.WindowMeaning.{WindowDefinition}
 use Rattle.def_iface.specs.WindowNews.{no_news}
 use Rattle.window_paint.specs.Frames.{IsPainted}
@@ -74,19 +75,28 @@ pub shared_is : (a b : Bool) → b ≡ true → (a && b) ≡ a
 shared_is true b e = e
 shared_is false b e = refl
 
--- what was drawn on a region in a clip that has of its pixels just these
+-- the pixels of a clip and of a region, where the clip has of those of the region just these
+turned : (h c t : Bool) → (h ≡ true → c ≡ t) → (c && h) ≡ (h && t)
+turned true true t e = e refl
+turned true false t e = e refl
+turned false true t e = refl
+turned false false t e = refl
+
+-- what was drawn on them
 pub framed_within : (region : Pixels) (clip : Rect) (these : PixelSet) (f : Point → Bool → Bool) (old new : Bits)
     → ((p : Point) → holds region p ≡ true → rect_holds clip p ≡ these p)
     → Draws (λ p. rect_holds clip p && holds region p) f old new
     → Draws (λ p. holds region p && these p) f old new
 framed_within region clip these f old new clips drawn =
     Draws-where _ (λ p. holds region p && these p) f old new (λ p on. turned (holds region p) (rect_holds clip p) (these p) (clips p)) drawn
-  where
-    turned : (h c t : Bool) → (h ≡ true → c ≡ t) → (c && h) ≡ (h && t)
-    turned true true t e = e refl
-    turned true false t e = e refl
-    turned false true t e = refl
-    turned false false t e = refl
+
+-- and written
+pub written_within : (region : Pixels) (clip : Rect) (these : PixelSet) (old new : Bits)
+    → ((p : Point) → holds region p ≡ true → rect_holds clip p ≡ these p)
+    → IsWritten (λ p. rect_holds clip p && holds region p) old new
+    → IsWritten (λ p. holds region p && these p) old new
+written_within region clip these old new clips written =
+    written_in _ (λ p. holds region p && these p) old new (λ p on out. turned (holds region p) (rect_holds clip p) (these p) (clips p) ∙ out) written
 
 -- white where content is new, and a frame drawn over that
 pub painted_by : (font : List ℕ) (d : WindowDefinition) (place : Point) (new frame : Pixels) (old mid end : Bits)

@@ -31,7 +31,7 @@ pub fn paint_frame(map: &mut BitMap, region: &Region, window: &Window, within: R
         (λ p _. (⟦<TakenWindow as Defined>⟧.loan window.now.taken).definition.picture no_news font.now
         (minus p window.now.place))
         map.old map.new }
-    ensures written { IsWritten (holds region.now) map.old map.new }
+    ensures written { IsWritten (λ p. holds region.now p && rect_holds within (minus p window.now.place)) map.old map.new }
     ensures near { (p : Point) → holds region.now p ≡ true → in_plane (minus p window.now.place) ≡ true }
 {
     let clip = on_screen(window, within);
@@ -76,7 +76,7 @@ fn draw_clipped(map: &mut BitMap, region: &Region, clip: Rect, window: &Window, 
         (λ p _. (⟦<TakenWindow as Defined>⟧.loan window.now.taken).definition.picture no_news font.now
         (minus p window.now.place))
         map.old map.new }
-    ensures written { IsWritten (holds region.now) map.old map.new }
+    ensures written { IsWritten (λ p. rect_holds clip p && holds region.now p) map.old map.new }
 {
     if !region.meets_rect(clip) {
         return;

@@ -5,7 +5,7 @@ ghost use Rattle.tb_geom.specs.Pixels.{holds};
 ghost use Rattle.tb_geom.specs.Rects.{in_plane, rect_holds};
 ghost use Rattle.scan_region.specs.Cuts.{cut_holds, cut_meeting};
 ghost use Rattle.tb_geom.specs.declared.point.Point.{Point};
-ghost use Rattle.bit_blit.specs.Draws.{Draws};
+ghost use Rattle.bit_blit.specs.Draws.{Draws, IsWritten};
 ghost use Rattle.window_list.specs.declared.layer.Layer.{Layer};
 ghost use Rattle.window_list.specs.Holders.{belongs_to, ArePartsApart};
 ghost use Rattle.window_paint.specs.Shown.{content_shown};
@@ -58,11 +58,16 @@ pub fn show_layer<S: Showing>(
     requires at { at < length window.now.layers.layers }
     requires apart { ArePartsApart window.now.layers.layers }
     requires whole { S.is_whole layers.now }
-    ensures { (l : Layer) → l ≡ slice_index_or window.now.layers.layers at l
+    ensures drawn { (l : Layer) → l ≡ slice_index_or window.now.layers.layers at l
         → Draws (λ p. ((holds region.now p && belongs_to l.part window.now.layers.layers
         (minus p window.now.layers.place))
         && not (holds but.now p)) && rect_holds within (minus p window.now.place))
         (λ p _. S.shows layers.now font.now l.part (minus p window.now.place))
+        map.old map.new }
+    ensures written { (l : Layer) → l ≡ slice_index_or window.now.layers.layers at l
+        → IsWritten (λ p. ((holds region.now p && belongs_to l.part window.now.layers.layers
+        (minus p window.now.layers.place))
+        && not (holds but.now p)) && rect_holds within (minus p window.now.place))
         map.old map.new }
 {
     let cut = meeting_but(region, window.layers.owned(at), but);
@@ -115,10 +120,11 @@ fn draw_layer<S: Showing>(
     requires placed { in_plane window.now.place ≡ true }
     requires at { at < length window.now.layers.layers }
     requires whole { S.is_whole layers.now }
-    ensures { (l : Layer) → l ≡ slice_index_or window.now.layers.layers at l
+    ensures drawn { (l : Layer) → l ≡ slice_index_or window.now.layers.layers at l
         → Draws (λ p. rect_holds clip p && cut_holds cut.now p)
         (λ p _. S.shows layers.now font.now l.part (minus p window.now.place))
         map.old map.new }
+    ensures written { IsWritten (λ p. rect_holds clip p && cut_holds cut.now p) map.old map.new }
 {
     let layer = window.layers.at(at);
     let mut canvas = Canvas {

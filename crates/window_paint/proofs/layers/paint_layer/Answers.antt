@@ -11,4 +11,4 @@ returns g c l read =
     (λ p. ap (λ k. cut_holds k p) c.meeting-cut.ensures ∙ cut_holds-both c.args.region c.owned.result p ∙ ap (λ b. holds c.args.region.now p && b) (c.owned.ensures l read p))
     refl (λ p e. c.bbox.ensures.exact.holds p (and_parts _ _ e).0)
     (λ p value. refl)
-    (c.draw_layer.ensures l read)
+    (c.draw_layer.ensures.drawn l read)

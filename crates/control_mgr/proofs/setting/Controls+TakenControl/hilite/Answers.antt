@@ -28,4 +28,4 @@ returns g c o =
     (λ others slots kept. number_fits _ _ set.control c.args.windows.now c.args.self.now spot is (is_highlight set.number) fits)
     (λ x e. highlight_agrees c.in_ok-state.field-0 c.state-state.result _ x (state_read _ _ set.control c.args.windows.now c.args.self.now spot is c.state-state.result c.state-state.ensures x e) refl refl refl)
     (λ before after h. (c.in_ok-state.field-0, sym value, h))
-    (c.put.ensures set.control is o o)
+    (c.put.ensures.put set.control is o o)

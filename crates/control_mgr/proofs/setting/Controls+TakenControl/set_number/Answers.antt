@@ -48,4 +48,4 @@ returns g c o =
     (λ x e. values_agree (with_number which set.number) c.state-state.result _ x (state_read _ _ set.control c.args.windows.now c.args.self.now spot is c.state-state.result c.state-state.ensures x e)
     (chosen (may_have_number which set.number c.state-state.result.values) _ _ _ setting fits) refl refl)
     (number_effect which set)
-    (c.put.ensures set.control is o o)
+    (c.put.ensures.put set.control is o o)

@@ -17,4 +17,4 @@ returns g c o =
     (λ others slots kept. title_fits _ _ set.control c.args.windows.now c.args.self.now spot is (nat_lt 255 (length set.title)) short)
     (λ x e. title_agrees set.title c.state-state.result _ x (state_read _ _ set.control c.args.windows.now c.args.self.now spot is c.state-state.result c.state-state.ensures x e) refl refl (made.0 ∙ c.as_slice.ensures))
     (λ before after h. h)
-    (c.put.ensures set.control is o o)
+    (c.put.ensures.put set.control is o o)

@@ -20,4 +20,4 @@ returns-clause-step g c begun =
     (λ o r. leaves_alike _ _ k.control c.args.windows.now c.args.self.now spot is _ (released k c.args.point part) c.put.new.windows c.put.new.self o r
     (λ x e. released_agrees k c.args.point part c.state-state.result _ x (state_read _ _ k.control c.args.windows.now c.args.self.now spot is c.state-state.result c.state-state.ensures x e)
     (subst (λ q. IfSome q (λ y. c.released_values-state.result ≡ released_setting k c.args.point part y)) e c.released_values-state.ensures) c.highlight_after-state.ensures refl)
-    (c.put.ensures k.control is o r))
+    (c.put.ensures.put k.control is o r))

@@ -98,4 +98,4 @@ returns g c =
     (c.cell_rect-within.ensures.sides ∙ ap (λ y. cell_rect y.kept.view cell) (one_item m.list.items.items spot.list c.index-2.result.now x is.low c.index-2.ensures read)) (cell_of_allowed x.kept.cells cell 0 (length set.text) allowed) settled) c.in_ok-mark.mark (not c.is_empty-changes.result) c.in_ok-mark.ensures
     (subst (λ b. IsSameOrNot b (appended cell set.text x.kept.cells) x.kept.cells) changes
     (added_or_not x.kept.cells cell set.text (read_grid _ (list.loan-value g.dyn-1).it set.cell.list t m spot is x read c.requires.beside) (cell_of_allowed x.kept.cells cell 0 (length set.text) allowed)))
-    c.show.new.windows c.show.ensures)
+    c.show.new.windows c.show.ensures.shown)

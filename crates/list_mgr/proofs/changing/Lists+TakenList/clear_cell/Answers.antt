@@ -82,4 +82,4 @@ returns g c =
     (subst (λ b. IsSameOrNot (not b) (with_bytes x.kept.cells cell []) x.kept.cells) (sym c.is_empty-changes.ensures)
     (cleared_or_not x.kept.cells cell c.in_ok-cell.field-0.now (c.in_ok-cell.ensures.bytes ∙ ap (λ y. (content_of y.kept.cells cell).bytes) same)
     (read_grid _ (list.loan-value g.dyn-1).it named.list t m spot is x read c.requires.beside) has))
-    c.show.new.windows c.show.ensures)
+    c.show.new.windows c.show.ensures.shown)

@@ -125,4 +125,4 @@ returns g c =
     (c.cell_rect-within.ensures.sides ∙ ap (λ y. cell_rect y.kept.view cell) (one_item m.list.items.items spot.list c.index-3.result.now x is.low c.index-3.ensures read)) (cell_of_allowed x.kept.cells cell (length (content_of x.kept.cells cell).bytes) (length set.text) allowed) settled) c.in_ok-mark.mark c.differ-changes.result c.in_ok-mark.ensures
     (subst (λ b. IsSameOrNot b (with_bytes x.kept.cells cell set.text) x.kept.cells) changes
     (set_or_not x.kept.cells cell set.text (read_grid _ (list.loan-value g.dyn-1).it set.cell.list t m spot is x read c.requires.beside) (cell_of_allowed x.kept.cells cell (length (content_of x.kept.cells cell).bytes) (length set.text) allowed)))
-    c.show.new.windows c.show.ensures)
+    c.show.new.windows c.show.ensures.shown)

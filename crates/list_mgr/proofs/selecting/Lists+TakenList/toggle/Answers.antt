@@ -54,7 +54,7 @@ returns-then-changes_by g c =
       true,
       subst (λ b. IsChange b x.kept.cells (selected_by c.args.selecting x.kept.cells)) c.if-changes_by.true (c.changes_by.ensures (selected_by c.args.selecting x.kept.cells) (selecting_by x.kept.cells c.args.selecting)),
       marked_by loan list_loan t m s spot (seen list_loan x) (list_read loan list_loan spot.of t m s spot.is x c.index-list.ensures) c.in-Some.update mark.1
-          (area_there loan t c.requires.kept s.window spot.is.window.0) c.set_update.new.self c.set_update.ensures,
+          (area_there loan t c.requires.kept s.window spot.is.window.0) c.set_update.new.self c.set_update.ensures.remarked,
     ))
 
 pub returns-else-changes_by : goal.returns-else-changes_by

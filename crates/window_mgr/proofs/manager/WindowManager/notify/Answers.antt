@@ -49,3 +49,9 @@ returns-clause-repainted g c w there =
     let told = rw (read_at c.args.self.now.windows.records.items c.args.at w c.requires.at there) at c.notify-damage.ensures.told in
     telling.frame_repainted_by _ c.args.self.now c.requires.kept.slots c.requires.kept.whole c.args.at c.requires.at w there c.args.change c.requires.size c.notify-damage.result c.notify-damage.new.self told c.at.result.now c.at.ensures c.index.result.now c.index.ensures
     c.paint_frame.new.map c.paint_frame.ensures.drawn c.paint_frame.ensures.near c.notify-damage.ensures.others c.paint_frame.ensures.written
+
+pub returns-clause-within : goal.returns-clause-within
+returns-clause-within g c w there =
+    let told = rw (read_at c.args.self.now.windows.records.items c.args.at w c.requires.at there) at c.notify-damage.ensures.told in
+    telling.frame_written_by _ c.args.self.now c.requires.kept.slots c.requires.kept.whole c.args.at c.requires.at w there c.args.change c.requires.size c.notify-damage.result c.notify-damage.new.self told c.at.result.now c.at.ensures c.index.result.now c.index.ensures
+    c.paint_frame.new.map c.paint_frame.ensures.drawn c.paint_frame.ensures.near c.notify-damage.ensures.others c.paint_frame.ensures.written

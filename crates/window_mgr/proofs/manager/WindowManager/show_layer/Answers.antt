@@ -1,5 +1,5 @@
 use Rattle.window_mgr.proofs.Contents.{layers_apart}
-use Rattle.window_mgr.proofs.LayerRedrawn.{index_redrawn}
+use Rattle.window_mgr.proofs.LayerRedrawn.{index_redrawn, index_written}
 use Rattle.window_mgr.proofs.Remarked.{area_kept, settled_there}
 use Rattle.window_mgr.proofs.manager.WindowManager.show_layer.Goals as goal
 
@@ -15,6 +15,10 @@ show_layer-requires-clause-at g c = c.requires.index c.at.result.now c.at.ensure
 pub show_layer-requires-clause-apart : goal.show_layer-requires-clause-apart
 show_layer-requires-clause-apart g c = layers_apart _ c.args.self.now c.requires.kept.slots c.requires.kept.whole c.args.at c.requires.at c.at.result.now c.at.ensures (g.S.Showing.shows c.args.showing.now)
 
-pub returns : goal.returns
-returns g c w there l read was slots whole =
-    index_redrawn _ c.args.self.now slots whole c.args.at c.requires.at w there c.index-area.result.now c.index-area.ensures was (g.S.Showing.shows c.args.showing.now) c.args.index (c.requires.index w there) l read c.at.result.now c.at.ensures c.args.within c.show_layer.new.map c.show_layer.ensures
+pub returns-clause-drawn : goal.returns-clause-drawn
+returns-clause-drawn g c w there l read was slots whole =
+    index_redrawn _ c.args.self.now slots whole c.args.at c.requires.at w there c.index-area.result.now c.index-area.ensures was (g.S.Showing.shows c.args.showing.now) c.args.index (c.requires.index w there) l read c.at.result.now c.at.ensures c.args.within c.show_layer.new.map c.show_layer.ensures.drawn
+
+pub returns-clause-within : goal.returns-clause-within
+returns-clause-within g c w there l read =
+    index_written _ c.args.self.now c.requires.kept.slots c.requires.kept.whole c.args.at c.requires.at w there c.index-area.result.now c.index-area.ensures (g.S.Showing.shows c.args.showing.now) c.args.index l read c.at.result.now c.at.ensures c.args.within c.show_layer.new.map c.show_layer.ensures.written
