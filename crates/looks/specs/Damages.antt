@@ -39,7 +39,7 @@ draws_alike same_text a b = same_steps a b && (same_text || not (shows_text a.ma
 
 -- around what the steps of two looks reach that do not draw alike
 unfoldable pub look_damage : Bool → List Step → List Step → Rect
-look_damage same_text (a ∷ as) (b ∷ bs) =
-    if draws_alike same_text a b then look_damage same_text as bs
-    else joined (joined (step_reach a) (step_reach b)) (look_damage same_text as bs)
+look_damage same_text (a ∷ rest) (b ∷ others) =
+    if draws_alike same_text a b then look_damage same_text rest others
+    else joined (joined (step_reach a) (step_reach b)) (look_damage same_text rest others)
 look_damage same_text _ _ = empty_rect
