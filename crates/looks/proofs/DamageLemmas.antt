@@ -163,16 +163,13 @@ reached same (x ∷ xs) (y ∷ ys) zero a b low high differ =
       λ p e. in_first both (look_damage same xs ys) p (in_first (step_reach x) (step_reach y) p e),
       λ p e. in_first both (look_damage same xs ys) p (in_second (step_reach x) (step_reach y) p e),
     )
-reached same (x ∷ xs) (y ∷ ys) (suc k) a b low high differ = by_test (draws_alike same x y) refl
+reached same (x ∷ xs) (y ∷ ys) (suc k) a b low high differ = by_test (draws_alike same x y) (reached same xs ys k a b (omega arith) (omega arith) differ)
   where
-    rest : IsWithin (step_reach (get_or xs k a)) (look_damage same xs ys) × IsWithin (step_reach (get_or ys k b)) (look_damage same xs ys)
-    rest = reached same xs ys k a b (omega arith) (omega arith) differ
-
-    by_test : (t : Bool) → draws_alike same x y ≡ t
+    by_test : (t : Bool) → IsWithin (step_reach (get_or xs k a)) (look_damage same xs ys) × IsWithin (step_reach (get_or ys k b)) (look_damage same xs ys)
         → IsWithin (step_reach (get_or xs k a)) (if t then look_damage same xs ys else joined (joined (step_reach x) (step_reach y)) (look_damage same xs ys))
         × IsWithin (step_reach (get_or ys k b)) (if t then look_damage same xs ys else joined (joined (step_reach x) (step_reach y)) (look_damage same xs ys))
-    by_test true e = rest
-    by_test false e = (
+    by_test true rest = rest
+    by_test false rest = (
       λ p f. in_second (joined (step_reach x) (step_reach y)) (look_damage same xs ys) p (rest.0 p f),
       λ p f. in_second (joined (step_reach x) (step_reach y)) (look_damage same xs ys) p (rest.1 p f),
     )

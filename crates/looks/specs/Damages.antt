@@ -1,6 +1,6 @@
 -- The rectangle around what those steps of two looks can draw on that do not draw alike.
-use Rattle.std.specs.Prelude.{◌≡◌, Bool, true, not, ◌&&◌, ◌||◌, if◌then◌else◌, List, [], ◌∷◌}
-use Rattle.std.specs.Cmp.{beq}
+use Rattle.std.specs.Prelude.{◌≡◌, Bool, true, not, ◌&&◌, ◌||◌, if◌then◌else◌, List, ◌∷◌}
+use Rattle.std.specs.Bool.{beq}
 use Rattle.tb_geom.specs.declared.point.Point.{Point}
 use Rattle.tb_geom.specs.declared.rect.Rect.{Rect}
 use Rattle.tb_geom.specs.Rects.{rect_holds, is_empty_rect, empty_rect, shared_rect, rect_around}

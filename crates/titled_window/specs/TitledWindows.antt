@@ -1,9 +1,9 @@
 -- The titled window: a frame of four pixels on top of its content, and of one elsewhere.
-use Rattle.std.specs.Prelude.{pos, negsuc, not, ◌+ℤ◌, if◌then◌else◌}
+use Rattle.std.specs.Prelude.{pos, negsuc, true, not, ◌+ℤ◌, if◌then◌else◌}
 use Rattle.std.specs.Option.{unwrap_or}
 use Rattle.tb_geom.specs.declared.point.Point.{Point}
 use Rattle.tb_geom.specs.declared.rect.Rect.{Rect}
-use Rattle.tb_geom.specs.Rects.{rect_holds, rect_around}
+use Rattle.tb_geom.specs.Rects.{rect_holds}
 use Rattle.def_iface.specs.declared.size.Size.{Size}
 use Rattle.def_iface.specs.declared.window_def.Hit.{Hit}
 use Rattle.def_iface.specs.declared.window_def.Hit.TheVariants.{InContent, InDrag}
@@ -31,5 +31,5 @@ titled_window stage size = record {
   grow_lines = λ s. frame_lines (titled_box s);
   picture = λ n font p. not (rect_holds (rect_of (unwrap_or n.size size)) p);
   hit = λ n. titled_hit (unwrap_or n.size size);
-  damage = λ n. rect_holds (rect_around (rect_of size) (rect_of (unwrap_or n.size size)));
+  damage = λ n p. true;
 }

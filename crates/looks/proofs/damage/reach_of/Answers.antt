@@ -1,4 +1,5 @@
-use Rattle.std.proofs.Common.{◌∙◌, sym, ap, refl}
+use Rattle.std.proofs.Common.{◌∙◌, inl, inr, sym, ap, refl}
+use Rattle.looks.specs.declared.step.Mark.TheVariants.{Behind, Text}
 use Rattle.looks.specs.Marks.{mark_holds}
 use Rattle.looks.proofs.DamageLemmas.{none_off, none_cut_off, none_off_mark, frame_in, cross_in, reach_off, reach_on, reach_rect}
 use Rattle.looks.proofs.damage.reach_of.Goals as goal
@@ -37,3 +38,10 @@ returns-in-Cross-clause-exact c = λ p. reach_rect c.args.step _ c.args.step.cut
 
 pub returns-else-step-clause-exact : goal.returns-else-step-clause-exact
 returns-else-step-clause-exact c = λ p. reach_off c.args.step _ p c.sides.ensures c.if-step.false
+
+pub returns-in-Behind-clause-exact : goal.returns-in-Behind-clause-exact
+returns-in-Behind-clause-exact c = λ p.
+    elim c.in-Behind.is [
+      | inl (plate, is) ↦ sym (reach_on c.args.step (Behind plate) p c.if-step.true is)
+      | inr (place, is) ↦ sym (reach_on c.args.step (Text place) p c.if-step.true is)
+    ]
