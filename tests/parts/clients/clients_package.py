@@ -69,7 +69,8 @@ def it_is_described_as_it_is(_):
     inner = sorted(it for it in os.listdir(kit) if os.path.isfile(os.path.join(kit, it, "__init__.py")))
     others = [it for it in os.listdir(kit) if not it.endswith(".py") and it not in ("__pycache__", *inner)]
     data = {name: sorted(files) for name, files in parts["package-data"].items()}
-    same("what it has", (parts["packages"], data), (["desk_kit", *[f"desk_kit.{it}" for it in inner]], {"desk_kit": sorted(others)}))
+    packages = ["desk_kit", *[f"desk_kit.{it}" for it in inner]]
+    same("what it has", (parts["packages"], data), (packages, {"desk_kit": sorted(others)}))
 
 
 def it_is_installed_by_pip(place):
