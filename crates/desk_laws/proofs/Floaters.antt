@@ -1,5 +1,5 @@
 -- How many windows float: no more than before, but for a call that asks for one.
-use Rattle.std.proofs.Common.{◌≡◌, ℕ, ◌+◌, ◌≤◌, Bool, true, false, if◌then◌else◌, List, [], ◌∷◌, map, Option, None, Some, Result, Ok, Err, refl, sym, ap, ◌∙◌, subst, arith}
+use Rattle.std.proofs.Common.{◌≡◌, ℕ, ◌+◌, ◌≤◌, Bool, true, false, if◌then◌else◌, List, [], ◌∷◌, map, Option, None, Some, Result, Ok, Err, refl, sym, ap, ◌∙◌, arith}
 use Rattle.std.specs.Prelude.{All}
 use Rattle.std.proofs.lemmas.List.Elements.{All-cons, All-head, All-nil, All-tail}
 use Rattle.tb_geom.specs.declared.refusal.Refusal.{Refusal}
@@ -25,7 +25,7 @@ use Rattle.window_frame.proofs.ToldSteps.{HoldsOfFrames, of_frame}
 use Rattle.control_mgr.proofs.ControlFacts.{control_facts}
 use Rattle.list_mgr.proofs.ListFacts.{list_facts}
 use Rattle.menu_mgr.proofs.MenuKeeps.{menu_keeps}
-use Rattle.desk_toolbox.specs.Run.{IsRunOfCalls, IsStep, IsWindowAnswer, IsWindowMade, put_down}
+use Rattle.desk_toolbox.specs.Run.{IsRunOfCalls, IsWindowAnswer, IsWindowMade, put_down}
 use Rattle.desk_toolbox.specs.ToolboxStates.{ToolboxState, with_controls, with_lists, with_menus}
 use Rattle.desk_toolbox.proofs.EachManager.{HoldsOfEach, of_step}
 use Rattle.desk_toolbox.proofs.KeptDesks.{refused_keeps_desk}
@@ -60,7 +60,7 @@ none_floats (w ∷ ws) few = All-cons (λ (v : WindowRecord). v.floating ≡ fal
 none_counts : (ws : List WindowRecord) → AreOrdinary ws → total floater ws ≤ 0
 none_counts [] all = omega arith
 none_counts (w ∷ ws) all =
-    let first : (if w.floating then 1 else 0) ≡ 0 = ap (λ (b : Bool). if b then 1 else 0) (All-head (λ (v : WindowRecord). v.floating ≡ false) w ws all) in
+    let first : weight_of floater w ≡ 0 = ap (λ (b : Bool). if b then 1 else 0) (All-head (λ (v : WindowRecord). v.floating ≡ false) w ws all) in
     let rest = none_counts ws (All-tail (λ (v : WindowRecord). v.floating ≡ false) w ws all) in
     omega arith
 
@@ -87,32 +87,32 @@ placed_floats None before after kept = kept_floats before after kept
 placed_floats (Some p) before after kept = kept_floats before after kept
 
 call_floats : (call : WindowCall) (desk before after : FullDesk) → asks_to_float (calls.Window call) ≡ false → Counts (effect_of call desk) before after → floaters after ≤ floaters before
-call_floats (asks.New w) desk before after no (n, added, its) =
+call_floats (asks.New w) desk before after ordinary (n, added, its) =
     let count = added.all floater in
     let none : floater n false added.floating ≡ 0 = ap (λ (b : Bool). if b then 1 else 0) its in
     omega arith
-call_floats (asks.NewFloating w) desk before after no counts = absurd (cc)
-call_floats (asks.Dispose s) desk before after no removed = let count = removed.all floater in omega arith
-call_floats (asks.Size z) desk before after no kept = placed_floats (sized z (record_with z.window desk.windows)) before after kept
-call_floats (asks.Zoom z) desk before after no kept = placed_floats (zoomed z (record_with z.window desk.windows) desk) before after kept
-call_floats _ desk before after no kept = kept_floats before after kept
+call_floats (asks.NewFloating w) desk before after ordinary counts = absurd (cc)
+call_floats (asks.Dispose s) desk before after ordinary removed = let count = removed.all floater in omega arith
+call_floats (asks.Size z) desk before after ordinary kept = placed_floats (sized z (record_with z.window desk.windows)) before after kept
+call_floats (asks.Zoom z) desk before after ordinary kept = placed_floats (zoomed z (record_with z.window desk.windows) desk) before after kept
+call_floats _ desk before after ordinary kept = kept_floats before after kept
 
 still_floats : (before after : FullDesk) → after ≡ before → floaters after ≤ floaters before
 still_floats before after same = let count : floaters after ≡ floaters before = ap (λ (d : FullDesk). floaters d) same in omega arith
 
 answer_floats : (asked : Option PixelSet) (call : WindowCall) (answer : WindowReply) (before after : DeskState) → asks_to_float (calls.Window call) ≡ false → IsWindowAnswer asked call (Ok answer) before after → floaters after.windows.desk ≤ floaters before.windows.desk
-answer_floats None call answer before after no step =
-    call_floats call before.windows.desk before.windows.desk after.windows.desk no (done_counts call answer before.windows after.windows step.1.1)
-answer_floats (Some set) call answer before after no step = still_floats before.windows.desk after.windows.desk step.1.windows.desk
+answer_floats None call answer before after ordinary step =
+    call_floats call before.windows.desk before.windows.desk after.windows.desk ordinary (done_counts call answer before.windows after.windows step.1.1)
+answer_floats (Some set) call answer before after ordinary step = still_floats before.windows.desk after.windows.desk step.1.windows.desk
 
 window_floats : (call : WindowCall) (answer : Result WindowReply Refusal) (before after : ToolboxState) → asks_to_float (calls.Window call) ≡ false → IsWindowMade call answer before after → Floaters after ≤ Floaters before
-window_floats call (Ok answer) before after no made =
+window_floats call (Ok answer) before after ordinary made =
     let asked = narrowed call before.desk.activity before.desk.begun in
-    let first = answer_floats asked call answer before.desk made.middle no made.answered in
+    let first = answer_floats asked call answer before.desk made.middle ordinary made.answered in
     let told : floaters made.told.desk ≡ floaters made.middle.windows.desk = caught_up_total floater (window_standing call) made.middle.windows made.told made.caught_up in
     let shown : Floaters after ≡ floaters made.told.desk = ap (λ (s : FullState). floaters s.desk) made.shown in
     omega arith
-window_floats call (Err e) before after no step =
+window_floats call (Err e) before after ordinary step =
     let asked = narrowed call before.desk.activity before.desk.begun in
     still_floats before.desk.windows.desk after.desk.windows.desk (refused_keeps_desk asked call e before.desk after.desk step.0)
 
@@ -146,24 +146,24 @@ alike_floats before after same =
 
 each_floats_no_more : HoldsOfEach FloatsNoMore
 each_floats_no_more = record {
-  unchanged = λ call e before after same no. still_floats before.desk.windows.desk after.desk.windows.desk same.desk.windows.desk;
-  covered = λ p before after same no. still_floats before.desk.windows.desk after.desk.windows.desk same.desk.windows.desk;
-  hidden = λ p before after same no. still_floats before.desk.windows.desk after.desk.windows.desk same.desk.windows.desk;
-  window = λ call answer before after may step no. window_floats call answer before after no step;
-  update = λ call answer before after may step rest no. still_floats before.desk.windows.desk after.desk.windows.desk (update_keeps_desk call answer before.desk after.desk step);
-  frame = λ call answer before after may step rest no. of_frame StaysFloating frames_float call answer before.desk after.desk step;
-  control = λ call answer before after may step events lists menus no.
+  unchanged = λ call e before after same ordinary. still_floats before.desk.windows.desk after.desk.windows.desk same.desk.windows.desk;
+  covered = λ p before after same ordinary. still_floats before.desk.windows.desk after.desk.windows.desk same.desk.windows.desk;
+  hidden = λ p before after same ordinary. still_floats before.desk.windows.desk after.desk.windows.desk same.desk.windows.desk;
+  window = λ call answer before after may step ordinary. window_floats call answer before after ordinary step;
+  update = λ call answer before after may step rest ordinary. still_floats before.desk.windows.desk after.desk.windows.desk (update_keeps_desk call answer before.desk after.desk step);
+  frame = λ call answer before after may step rest ordinary. of_frame StaysFloating frames_float call answer before.desk after.desk step;
+  control = λ call answer before after may step events lists menus ordinary.
       let facts = (control_facts call answer (with_controls before) (with_controls after) step).0 in
       alike_floats before after (bare_alike before.desk.windows.desk.windows after.desk.windows.desk.windows facts.windows);
-  list = λ call answer before after may step events menus no.
+  list = λ call answer before after may step events menus ordinary.
       let facts = (list_facts call answer (with_lists before) (with_lists after) step).0 in
       alike_floats before after (bare_alike before.desk.windows.desk.windows after.desk.windows.desk.windows facts.windows);
-  menu = λ call answer before after may step events controls lists no.
+  menu = λ call answer before after may step events controls lists ordinary.
       let count : Floaters after ≡ Floaters before = menu_keeps (λ d. floaters d) (λ d titles. refl) call answer (with_menus before) (with_menus after) step in
       omega arith;
-  outline = λ call answer before after may step rest no. still_floats before.desk.windows.desk after.desk.windows.desk (outline_keeps_desk call answer before.desk after.desk step);
-  moved = λ call move before after may step no. window_floats (asks.Move move) (Ok window_reply.Done) (put_down before) after refl step;
-  event = λ call answer before after step no. still_floats before.desk.windows.desk after.desk.windows.desk step.desk.windows.desk;
+  outline = λ call answer before after may step rest ordinary. still_floats before.desk.windows.desk after.desk.windows.desk (outline_keeps_desk call answer before.desk after.desk step);
+  moved = λ call move before after may step ordinary. window_floats (asks.Move move) (Ok window_reply.Done) (put_down before) after refl step;
+  event = λ call answer before after step ordinary. still_floats before.desk.windows.desk after.desk.windows.desk step.desk.windows.desk;
 }
 
 run_floats_no_more : (first last : ToolboxState) (calls : List Call) (answers : List (Result Reply Refusal)) → IsRunOfCalls first calls answers last → All (λ call. asks_to_float call ≡ false) calls → Floaters last ≤ Floaters first

@@ -70,7 +70,6 @@ pub fn without_floating_windows_there_is_one_class()
 
 /// Where no call of a run asks for a window that floats, and none floats at first, none does at the end. So what holds of one
 /// class holds of a script that has no such call.
-#[tactic(auto, using(crate::proofs::Floaters::run_stays_ordinary))]
 pub fn windows_float_only_where_asked()
     ensures { (first last : ToolboxState) (calls : List Call) (answers : List (Result Reply Refusal))
         → IsRunOfCalls first calls answers last → All (λ call. asks_to_float call ≡ false) calls

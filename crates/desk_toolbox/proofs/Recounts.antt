@@ -111,6 +111,7 @@ arranged_counts a before after reordered arranged = record {
 }
 
 effect_counts : (effect : Effect) (answer : WindowReply) (before after : FullState) → IsReordered effect before.desk → IsEffect effect answer before after → Counts effect before.desk after.desk
+unfolding made_counts
 effect_counts (Makes floating w) answer before after all (n, is, new) = (n, made_counts floating w n before after new, refl)
 effect_counts (Draws d) answer before after all (is, drawn) = record {
   next = ap (λ (x : FullDesk). x.next) drawn.desk;

@@ -79,7 +79,7 @@ all_heard_rightly activity (w ∷ ws) none =
 -- ---- what calls on windows leave
 
 pub counted_none : (g : Weight) (effect : Effect) (before after : FullDesk) → ((n : ℕ) (floating : Bool) → g n false floating ≡ 0) → Counts effect before after → total g before.windows ≡ 0 → total g after.windows ≡ 0
-counted_none g (Makes floating w) before after new (n, added) none = let all = added.all g in let first = new n added.floating in omega arith
+counted_none g (Makes floating w) before after new (n, added, its) none = let all = added.all g in let first = new n added.floating in omega arith
 counted_none g (Draws d) before after new kept none = kept.all g ∙ none
 counted_none g (Pictures n) before after new kept none = kept.all g ∙ none
 counted_none g (Scrolls m) before after new kept none = kept.all g ∙ none

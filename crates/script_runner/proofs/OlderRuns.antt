@@ -11,10 +11,9 @@ use Rattle.script_text.specs.declared.command.Command.TheVariants.{Version, Call
 use Rattle.script_text.specs.Lines.{said}
 use Rattle.script_text.proofs.FirstVersion.{said_without_floating}
 use Rattle.script_text.proofs.Versions.{line_had}
-use Rattle.line_words.specs.Replies.{done_text}
 use Rattle.script_runner.specs.OlderVersions.{AnswersAs, WrittenAs, WrittenBefore, WrittenInVersion2, said_before, said_behind, says_version, begins_with_version, BeginsWith}
 use Rattle.script_runner.specs.Script.{ScriptState, first_state, Takes, SaidAnswers, Written, why_unread}
-use Rattle.script_runner.specs.Session.{SessionState, unmade, Obeys, reply_shown}
+use Rattle.script_runner.specs.Session.{unmade, Obeys}
 
 -- what a line says in version 1 is no floating window
 no_floating : (line : List ℕ) (w : NewWindow) → said (pos 1) line ≡ Some (Ok (Call (Window (NewFloating w)))) → ⊥

@@ -1,5 +1,5 @@
 -- How a script takes a command that is asked of its desk.
-use Rattle.std.proofs.Common.{◌≡◌, ◌≢◌, ℤ, Bool, inl, inr, Option, None, Some, Result, Ok, Err, refl, sym, ap, subst}
+use Rattle.std.proofs.Common.{◌≡◌, ◌≢◌, ℤ, Bool, true, inl, inr, Option, None, Some, Result, Ok, Err, refl, sym, ap, subst}
 use Rattle.tb_geom.specs.declared.refusal.Refusal.{Refusal}
 use Rattle.script_text.specs.declared.command.Command.{Command}
 use Rattle.script_text.specs.declared.command.Command.TheVariants.{Version}

@@ -22,7 +22,6 @@ pub fn checks_find_no_pixel()
 
 /// Whatever lines a script has, a raw run of them writes an image for each line that asks for one, in the format P4, and
 /// nothing else. Which version the lines are read in says nothing of that.
-#[tactic(auto, using(crate::proofs::RawRuns::written_images))]
 pub fn raw_runs_write_images_alone()
     ensures { (font : List ℕ) (stocks : AllSlots) (lines : List (List ℕ)) (text : List ℕ)
         (state : ScriptState) (version : ℤ) → Written true (first_state font stocks) lines text state

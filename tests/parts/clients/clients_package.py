@@ -65,9 +65,12 @@ def it_is_described_as_it_is(_):
     project, parts = made["project"], made["tool"]["setuptools"]
     same("its name and what it wants", (project["name"], project["dependencies"]), ("desk_kit", []))
     same("its version", project["version"], re.search(r"(?m)^## ([0-9.]+)", read("CHANGELOG.md"))[1])
-    others = [it for it in os.listdir(os.path.join(TOP, "desk_kit")) if not it.endswith(".py") and it != "__pycache__"]
+    kit = os.path.join(TOP, "desk_kit")
+    inner = sorted(it for it in os.listdir(kit) if os.path.isfile(os.path.join(kit, it, "__init__.py")))
+    others = [it for it in os.listdir(kit) if not it.endswith(".py") and it not in ("__pycache__", *inner)]
     data = {name: sorted(files) for name, files in parts["package-data"].items()}
-    same("what it has", (parts["packages"], data), (["desk_kit"], {"desk_kit": sorted(others)}))
+    packages = ["desk_kit", *[f"desk_kit.{it}" for it in inner]]
+    same("what it has", (parts["packages"], data), (packages, {"desk_kit": sorted(others)}))
 
 
 def it_is_installed_by_pip(place):

@@ -7,8 +7,10 @@ import subprocess
 
 from documents_read import Document
 
-# Folders of a walk that hold nothing of the tree.
-LEFT_OUT = {".git", "out", "differences", "__pycache__"}
+# Folders of a walk that hold nothing of the tree; the pictures of desk-test lie in one beside a script, and not below crates, where
+# a function has that name.
+LEFT_OUT = {".git", "out", "__pycache__"}
+PICTURES = "differences"
 WORD = re.compile(r"[A-Za-z_][A-Za-z0-9_]*(?:-[A-Za-z0-9_]+)*")
 # The files of this program: the words that it allows, and those of its tests, are no words of the tree.
 OWN = "tests/documents"
@@ -33,7 +35,8 @@ def names_of(top):
 
 def walked(top):
     for folder, inner, files in os.walk(top):
-        inner[:] = [it for it in inner if it not in LEFT_OUT]
+        left_out = LEFT_OUT if os.path.relpath(folder, top).startswith("crates") else {*LEFT_OUT, PICTURES}
+        inner[:] = [it for it in inner if it not in left_out]
         for name in files:
             yield os.path.relpath(os.path.join(folder, name), top)
 

@@ -1,8 +1,8 @@
-use Rattle.std.proofs.Common.{◌≡◌, ◌+◌, ◌<◌, [], length, take, subst, refl, ap, ◌∙◌, arith}
+use Rattle.std.proofs.Common.{◌≡◌, ◌+◌, ◌<◌, [], length, take, SFits, w32, subst, refl, ap, ◌∙◌, arith, rules}
+use Rattle.std.proofs.lemmas.Int.{to_z-of_z}
 use Rattle.std.proofs.lemmas.List.{length-take}
 use Rattle.std.proofs.lemmas.Result.{err_from_is_err_and}
 use Rattle.watched_io.specs.Reads.{Gave}
-use Rattle.script_text.specs.Held.{said_last}
 use Rattle.script_runner.proofs.Ends.{start, read_more, finished}
 use Rattle.script_runner.proofs.runner.answer_all.Goals as goal
 
@@ -18,7 +18,9 @@ loop-read-init g c = record {
 pub returns-then-count-eq0-clause-ends : goal.returns-then-count-eq0-clause-ends
 returns-then-count-eq0-clause-ends g c =
     let none : take c.in_ok-count.count c.read_some.new.buffer ≡ [] = rw c.if-count-eq0.true refl in
-    finished c.args.writer.now.raw _ _ _ _ _ _ _ _ c.loop-read.invariant.so_far (subst (Gave _ _) none c.in_ok-count.ensures.bytes) _ _ c.answer.result c.said_last.result (c.said_last.ensures ∙ ap (λ v. said_last v _) c.version-version.ensures) (rw c.loop-read.invariant.same.1 at c.answer.ensures.ends)
+    let fits : SFits w32 c.version-version.result = search rules in
+    let said = simp to_z-of_z at c.said_last.ensures in
+    finished c.args.writer.now.raw _ _ _ _ _ _ _ _ c.loop-read.invariant.so_far (subst (Gave _ _) none c.in_ok-count.ensures.bytes) _ _ c.answer.result c.said_last.result (rw c.version-version.ensures at said) (rw c.loop-read.invariant.same.1 at c.answer.ensures.ends)
 
 pub returns-in_err-take_all-clause-ends : goal.returns-in_err-take_all-clause-ends
 returns-in_err-take_all-clause-ends g c =

@@ -1,4 +1,5 @@
 use Rattle.std.proofs.Common.{Some, sym, subst}
+use Rattle.tb_geom.specs.Rects.{rect_holds}
 use Rattle.def_iface.specs.contracts.taken_window.TakenWindowDefined.TheImpl as window
 use Rattle.def_iface.specs.contracts.taken_list.TakenListDefined.TheImpl as list
 use Rattle.desk_layers.specs.declared.part.Part.TheVariants as part
@@ -37,4 +38,4 @@ pub returns-in-None-clause-within : goal.returns-in-None-clause-within
 returns-in-None-clause-within g c x there = written_by _ _ c.args.windows.now c.args.self.now c.args.spot c.requires.spot x there c.args.within c.layer-layer.result c.layer-layer.ensures c.show_layer.new.self c.show_layer.ensures.within
 
 pub returns-then-changes-clause-within : goal.returns-then-changes-clause-within
-returns-then-changes-clause-within g c x there w lies = none_written _ w.serial (part.List x.serial) w.place _ c.args.windows.now c.set_update.new.self c.set_update.ensures.quiet
+returns-then-changes-clause-within g c x there w lies = none_written _ w.serial (part.List x.serial) w.place (rect_holds c.args.within) c.args.windows.now c.set_update.new.self c.set_update.ensures.quiet
