@@ -16,8 +16,14 @@
 //! and those on bytes in `specs::Told`.
 #![tactic(auto)]
 
+mod columns;
+mod combination;
+mod combined;
 mod frame;
 mod making;
+mod moved;
+mod pixel_rows;
+mod region_row;
 mod round;
 mod rows;
 mod strip;
@@ -25,10 +31,13 @@ mod turns;
 mod two_runs;
 mod writing;
 
+pub use combination::Combination;
+pub use combined::combined_bytes;
 pub use frame::{
     Frame, frame_oval_region, frame_rect_region, frame_round_rect_region, inside_region,
 };
 pub use making::form_region;
+pub use moved::{can_move, moved_bytes};
 pub use round::{oval_region, round_rect_region};
 pub use rows::{Rows, Solid};
 pub use strip::strip_region;

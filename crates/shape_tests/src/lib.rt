@@ -9,6 +9,8 @@
 #[cfg(test)]
 mod bytes;
 #[cfg(test)]
+mod combined;
+#[cfg(test)]
 mod forms;
 #[cfg(test)]
 mod regions;

@@ -1,0 +1,60 @@
+//! The rows of a region whose bytes are read where they lie.
+ghost use Rattle.std.specs.Prelude.{◌≡◌, ℤ};
+ghost use Rattle.tb_geom.specs.declared.point.Point.{Point};
+ghost use Rattle.tb_geom.specs.Pixels.{holds};
+ghost use Rattle.region_bytes.specs.Edges.{differ};
+ghost use Rattle.region_rows.specs.Edges.{IsCoordinate};
+ghost use Rattle.shape_region.specs.Rows.{AreBounds};
+ghost use Rattle.shape_region.specs.Columns.{has_column, is_edge};
+
+use crate::columns::Columns;
+use region_bytes::{Form, RegionBytes};
+use tb_geom::Rect;
+
+/// A rectangle in range around the pixels of a region.
+pub fn region_bounds(region: &RegionBytes<'_>) -> Rect
+    ensures { AreBounds (holds region.now) result }
+{
+    match region.form() {
+        Form::Rect(rect) => rect,
+        Form::Rows(_) => region.bbox(),
+    }
+}
+
+/// The columns in which the row `v` of a region has its pixels. All points of the region are gone through.
+pub fn region_row(region: &RegionBytes<'_>, v: i32) -> Columns
+    ensures { (h : ℤ) → has_column result h ≡ holds region.now (record { h = h; v = v }) }
+{
+    let bounds = region_bounds(region);
+    let edges = row_edges(region, v);
+    let mut row = Columns::none();
+    let mut within = false;
+    for h in bounds.left..bounds.right {
+        within = differ(within, edges.has(h));
+        if within {
+            row.flip(h);
+        }
+    }
+    row
+}
+
+/// The columns at which the runs of the row `v` of a region begin and end: those at which an odd number of points lies
+/// in the row or above it.
+fn row_edges(region: &RegionBytes<'_>, v: i32) -> Columns
+    ensures { (h : ℤ) → IsCoordinate h → has_column result h ≡ is_edge (holds region.now) h v }
+{
+    let mut edges = Columns::none();
+    for p in region.points() {
+        if p.v <= v {
+            edges.flip(p.h);
+        }
+    }
+    edges
+}
+
+/// One of the two, and not both.
+fn differ(a: bool, b: bool) -> bool
+    ensures { result ≡ differ a b }
+{
+    a != b
+}
