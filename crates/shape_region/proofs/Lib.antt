@@ -1,5 +1,8 @@
--- Lemmas on the rows of shapes: their runs, how far they are made, and how they are written.
+-- Lemmas on the rows of shapes: their runs, how far they are made, and how they are written; on the columns of any row, and the bounds of sets.
 pub mod RunLemmas
 pub mod MadeLemmas
 pub mod TurnLemmas
 pub mod WrittenLemmas
+pub mod ColumnLemmas
+pub mod ChangeLemmas
+pub mod BoxLemmas

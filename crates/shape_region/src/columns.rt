@@ -3,7 +3,7 @@ ghost use Rattle.std.specs.Prelude.{◌≡◌, ◌<◌, ◌*◌, ℕ, length, na
 ghost use Rattle.tb_geom.specs.Rects.{is_coordinate};
 ghost use Rattle.region_rows.specs.Bits.{has_bit};
 ghost use Rattle.region_rows.specs.Counts.{count_to};
-ghost use Rattle.region_rows.specs.Edges.{differ, IsCoordinate};
+ghost use Rattle.region_rows.specs.Edges.{differ};
 
 use tb_geom::{FIRST_SIDE, LAST_SIDE};
 
@@ -46,8 +46,15 @@ impl Columns {
     pub fn differs_at(&self, other: &Columns, h: i32) -> bool
         ensures { result ≡ changes self.now other.now h }
     {
-        self.has(h) != other.has(h)
+        differ(self.has(h), other.has(h))
     }
+}
+
+/// One of the two, and not both.
+pub fn differ(a: bool, b: bool) -> bool
+    ensures { result ≡ differ a b }
+{
+    a != b
 }
 
 /// Whether a column lies in -16384..=16383.

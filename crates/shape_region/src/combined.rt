@@ -1,5 +1,5 @@
 //! The bytes of what two regions make together.
-ghost use Rattle.std.specs.Prelude.{◌≡◌, ◌&&◌, true, ℤ, MatchResult};
+ghost use Rattle.std.specs.Prelude.{◌≡◌, true, false, ℤ, MatchResult};
 ghost use Rattle.tb_geom.specs.Pixels.{holds};
 ghost use Rattle.tb_geom.specs.Rects.{between, is_in_range};
 ghost use Rattle.shape_region.specs.Columns.{has_column};
@@ -35,11 +35,12 @@ impl PixelRows for Combined<'_, '_> {
     }
 }
 
-/// The columns that are meant of two rows, as far as they lie within the bounds.
+/// The columns that are meant of two rows, all of which lie within the bounds.
 fn meant_columns(how: Combination, first: &Columns, second: &Columns, bounds: Rect) -> Columns
-    requires { is_in_range bounds ≡ true }
-    ensures { (h : ℤ) → has_column result h
-        ≡ (between bounds.left h bounds.right && means how (has_column first.now h) (has_column second.now h)) }
+    requires in_range { is_in_range bounds ≡ true }
+    requires within { (h : ℤ) → between bounds.left h bounds.right ≡ false
+        → means how (has_column first.now h) (has_column second.now h) ≡ false }
+    ensures { (h : ℤ) → has_column result h ≡ means how (has_column first.now h) (has_column second.now h) }
 {
     let mut row = Columns::none();
     for h in bounds.left..bounds.right {

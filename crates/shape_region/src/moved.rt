@@ -1,5 +1,5 @@
 //! The bytes of a region that is moved.
-ghost use Rattle.std.specs.Prelude.{◌≡◌, ◌&&◌, true, ℤ, ◌-ℤ◌, ◌↔◌, IsTrue, MatchResult};
+ghost use Rattle.std.specs.Prelude.{◌≡◌, true, false, ℤ, ◌-ℤ◌, ◌↔◌, IsTrue, MatchResult};
 ghost use Rattle.tb_geom.specs.declared.point.Point.{Point};
 ghost use Rattle.tb_geom.specs.Pixels.{holds};
 ghost use Rattle.tb_geom.specs.Rects.{between, is_in_range};
@@ -47,12 +47,12 @@ impl PixelRows for Moved<'_, '_> {
     }
 }
 
-/// The columns moved `dh` to the right, as far as they lie within the bounds.
+/// The columns moved `dh` to the right, all of which lie within the bounds.
 fn moved_columns(columns: &Columns, dh: i32, bounds: Rect) -> Columns
     requires across { IsWord dh }
     requires in_range { is_in_range bounds ≡ true }
-    ensures { (h : ℤ) → has_column result h
-        ≡ (between bounds.left h bounds.right && has_column columns.now (h -ℤ dh)) }
+    requires within { (h : ℤ) → between bounds.left h bounds.right ≡ false → has_column columns.now (h -ℤ dh) ≡ false }
+    ensures { (h : ℤ) → has_column result h ≡ has_column columns.now (h -ℤ dh) }
 {
     let mut row = Columns::none();
     for h in bounds.left..bounds.right {

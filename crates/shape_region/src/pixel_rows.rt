@@ -12,7 +12,7 @@ ghost use Rattle.shape_region.specs.Columns.{AreWithin, changes, has_column};
 ghost use Rattle.shape_region.specs.Told.{AreRegionBytes, IsNotTold};
 ghost use Rattle.shape_region.specs.Written.{AreWrittenChanges, AreWrittenRows};
 
-use crate::columns::Columns;
+use crate::columns::{Columns, differ};
 use region_bytes::{END, RegionWriter};
 use std::alloc::Global;
 use tb_geom::{Point, Rect, Refusal};
@@ -98,10 +98,10 @@ fn write_points(out: &mut RegionWriter, v: i32, above: &Columns, row: &Columns, 
 {
     let mut turned = false;
     for h in bounds.left..bounds.right + 1 {
-        if above.differs_at(row, h) == turned {
-            continue;
+        let turns = differ(above.differs_at(row, h), turned);
+        if turns {
+            out.point(Point { h, v });
+            turned = !turned;
         }
-        out.point(Point { h, v });
-        turned = !turned;
     }
 }

@@ -2,18 +2,19 @@
 ghost use Rattle.std.specs.Prelude.{◌≡◌, ℤ};
 ghost use Rattle.tb_geom.specs.declared.point.Point.{Point};
 ghost use Rattle.tb_geom.specs.Pixels.{holds};
-ghost use Rattle.region_bytes.specs.Edges.{differ};
+ghost use Rattle.tb_geom.specs.Rects.{IsBoxOf};
 ghost use Rattle.region_rows.specs.Edges.{IsCoordinate};
 ghost use Rattle.shape_region.specs.Rows.{AreBounds};
 ghost use Rattle.shape_region.specs.Columns.{has_column, is_edge};
 
-use crate::columns::Columns;
+use crate::columns::{Columns, differ};
 use region_bytes::{Form, RegionBytes};
 use tb_geom::Rect;
 
-/// A rectangle in range around the pixels of a region.
+/// The smallest rectangle around the pixels of a region, which is in range.
 pub fn region_bounds(region: &RegionBytes<'_>) -> Rect
-    ensures { AreBounds (holds region.now) result }
+    ensures bounds { AreBounds (holds region.now) result }
+    ensures exact { IsBoxOf result (holds region.now) }
 {
     match region.form() {
         Form::Rect(rect) => rect,
@@ -25,7 +26,14 @@ pub fn region_bounds(region: &RegionBytes<'_>) -> Rect
 pub fn region_row(region: &RegionBytes<'_>, v: i32) -> Columns
     ensures { (h : ℤ) → has_column result h ≡ holds region.now (record { h = h; v = v }) }
 {
-    let bounds = region_bounds(region);
+    row_within(region, v, region_bounds(region))
+}
+
+/// The columns in which the row `v` of a region has its pixels, which lie within the bounds.
+fn row_within(region: &RegionBytes<'_>, v: i32, bounds: Rect) -> Columns
+    requires { AreBounds (holds region.now) bounds }
+    ensures { (h : ℤ) → has_column result h ≡ holds region.now (record { h = h; v = v }) }
+{
     let edges = row_edges(region, v);
     let mut row = Columns::none();
     let mut within = false;
@@ -50,11 +58,4 @@ fn row_edges(region: &RegionBytes<'_>, v: i32) -> Columns
         }
     }
     edges
-}
-
-/// One of the two, and not both.
-fn differ(a: bool, b: bool) -> bool
-    ensures { result ≡ differ a b }
-{
-    a != b
 }
