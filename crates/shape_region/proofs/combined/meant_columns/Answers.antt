@@ -25,7 +25,7 @@ loop-h-preserved c =
     let column = column_in c.args.bounds h c.requires.in_range low below in
     let row : ℤ → Bool = λ x. means c.args.how (has_column c.args.first.now x) (has_column c.args.second.now x) in
     let kept = c.loop-h.invariant.kept in
-    let here : c.means.result ≡ row h = c.means.ensures ∙ (λ i. means c.args.how (c.has.ensures i) (c.has-2.ensures i)) in
+    let here : c.means.result ≡ row h = c.means.ensures ∙ (λ i. means c.args.how (c.has.ensures i) (c.has-in-loop-h.ensures i)) in
     let more : AreKept row c.args.bounds.left (h +ℤ pos 1) c.if-means.row = elim c.if-means.branch [
       | then-means w ↦ subst (AreKept row c.args.bounds.left (h +ℤ pos 1)) (sym w.row-is) (one_kept row c.args.bounds.left h c.loop-h.row w.flip.new.self kept low column (sym here ∙ w.if-means.true) w.flip.ensures)
       | else-means w ↦ subst (AreKept row c.args.bounds.left (h +ℤ pos 1)) (sym w.row-is) (one_passed row c.args.bounds.left h c.loop-h.row kept (sym here ∙ w.if-means.false))

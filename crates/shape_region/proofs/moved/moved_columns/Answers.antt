@@ -34,6 +34,18 @@ loop-h-preserved c =
     ] in
     simp to_z-of_z (record { low = omega (arith, ints); kept = more })
 
+pub overflow_sub-h : goal.overflow_sub-h
+overflow_sub-h c =
+    let fits_dh = c.ranges.dh in
+    let fits_left : SFits w32 c.args.bounds.left = search rules in
+    let fits_right : SFits w32 c.args.bounds.right = search rules in
+    let h : ℤ = to_z w32 c.loop-h.h-bits in
+    let fits_h : SFits w32 h = search rules in
+    let low = c.loop-h.invariant.low in
+    let below : h <ℤ c.args.bounds.right = search (rules, ints) in
+    let fits : SFits w32 (h -ℤ c.args.dh) = word_apart h c.args.dh (column_in c.args.bounds h c.requires.in_range low below) c.requires.across in
+    simp to_z-of_z fits
+
 pub returns : goal.returns
 returns c =
     let fits_dh = c.ranges.dh in

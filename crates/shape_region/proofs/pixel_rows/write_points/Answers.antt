@@ -55,6 +55,20 @@ loop-h-preserved c =
     ] in
     simp to_z-of_z (record { low = omega (arith, ints); high = omega (arith, ints); so_far = more })
 
+pub point-requires : goal.point-requires
+point-requires c =
+    let fits_left : SFits w32 c.args.bounds.left = search rules in
+    let fits_right : SFits w32 c.args.bounds.right = search rules in
+    let h : ℤ = to_z w32 c.loop-h.h-bits in
+    let fits_h : SFits w32 h = search rules in
+    let sides = sides_in c.args.bounds c.requires.in_range in
+    let first = sides.left_low in
+    let last = sides.right_high in
+    let fits_end : SFits w32 (c.args.bounds.right +ℤ pos 1) = sum_fits c.args.bounds.right 1 sides.right_low last (omega arith) in
+    let low = c.loop-h.invariant.low in
+    let below : h <ℤ (c.args.bounds.right +ℤ pos 1) = search (rules, ints) in
+    (omega (arith, ints), omega (arith, ints))
+
 pub returns : goal.returns
 returns c =
     let fits_v = c.ranges.v in
