@@ -21,7 +21,7 @@ use Rattle.region_rows.proofs.WrittenColumns.{columns_none}
 use Rattle.shape_strips.proofs.RangeLemmas.{sides_in}
 use Rattle.shape_strips.proofs.RunLemmas.{between_before, between_past}
 use Rattle.shape_region.specs.declared.columns.Columns.{Columns}
-use Rattle.shape_region.specs.Columns.{changes, has_column, AreWithin}
+use Rattle.shape_region.specs.Columns.{changes, has_column, row_turns, AreWithin, IsSteady}
 use Rattle.shape_region.specs.Rows.{AreBounds}
 use Rattle.shape_region.specs.Written.{AreWrittenChanges}
 use Rattle.shape_region.proofs.ColumnLemmas.{beside_bounds}
@@ -106,7 +106,7 @@ other_than true false e = refl
 other_than false true e = refl
 other_than false false e = absurd (false≢true e)
 
-same_as : (a b : Bool) → differ a b ≡ false → a ≡ b
+pub same_as : (a b : Bool) → differ a b ≡ false → a ≡ b
 same_as true true e = refl
 same_as true false e = absurd (true≢false e)
 same_as false true e = absurd (true≢false e)
@@ -170,10 +170,6 @@ pub record AreRowsTo (s : PixelSet) (out : RegionWriter) (v : ℤ) : Type 0 wher
   pub made : AreMadeTo s rows v
   pub written : AreWritten out rows
 
--- where a set has other pixels than in the row above
-abbrev pub turns_at : PixelSet → ℤ → ℤ → Bool
-turns_at s v h = differ (s (record { h = h; v = v -ℤ pos 1 })) (s (record { h = h; v = v }))
-
 above_bounds : (s : PixelSet) (r : Rect) → AreBounds s r → (h w : ℤ) → w <ℤ r.top → s (record { h = h; v = w }) ≡ false
 above_bounds s r b h w l = b.around (record { h = h; v = w }) (and_right (between r.left h r.right) (between r.top w r.bottom) (between_before r.top w r.bottom l))
 
@@ -188,19 +184,19 @@ none_made s r b = record {
   ahead = λ h w l. nil_has h w ∙ sym (above_bounds s r b h (r.top -ℤ pos 1) (omega (arith, ints)));
 }
 
-pub one_made : (s : PixelSet) (old new : List EdgeRow) (v : ℤ) → AreMadeTo s old v → IsCoordinate v → IsPushed old new v (turns_at s v) → AreMadeTo s new (v +ℤ pos 1)
+pub one_made : (s : PixelSet) (old new : List EdgeRow) (v : ℤ) → AreMadeTo s old v → IsCoordinate v → IsPushed old new v (row_turns s v) → AreMadeTo s new (v +ℤ pos 1)
 one_made s old new v made top p = record {
-  are_stacked = rw (sym (here_again v)) (stacked old new (v -ℤ pos 1) v (turns_at s v) made.are_stacked (omega (arith, ints)) top p);
+  are_stacked = rw (sym (here_again v)) (stacked old new (v -ℤ pos 1) v (row_turns s v) made.are_stacked (omega (arith, ints)) top p);
   passed = λ h w l. by_lt_z w v
-      (λ less. unturned old new v (turns_at s v) p h w less ∙ made.passed h w less)
+      (λ less. unturned old new v (row_turns s v) p h w less ∙ made.passed h w less)
       (λ from. let here : v ≡ w = omega (arith, ints) in turned h w from ∙ ap (λ z. s (record { h = h; v = z })) here);
   ahead = λ h w l. turned h w (omega (arith, ints)) ∙ ap (λ z. s (record { h = h; v = z })) (here_again v);
 }
   where
     turned : (h w : ℤ) → v ≤ℤ w → in_rows new h w ≡ s (record { h = h; v = v })
     turned h w l =
-        pushed_pixel old new v (turns_at s v) p h w
-        ∙ (λ i. differ (int_le-true v w l i && turns_at s v h) (made.ahead h w l i))
+        pushed_pixel old new v (row_turns s v) p h w
+        ∙ (λ i. differ (int_le-true v w l i && row_turns s v h) (made.ahead h w l i))
         ∙ differ_back (s (record { h = h; v = v -ℤ pos 1 })) (s (record { h = h; v = v }))
 
 -- all rows are made
@@ -217,9 +213,17 @@ module _ (s : PixelSet) (r : Rect) (rows : List EdgeRow) (v : ℤ) (b : AreBound
 
 -- a row of columns that the set has, and the one above
 pub set_turns : (s : PixelSet) (above row : Columns) (old new : List EdgeRow) (v : ℤ) → ((h : ℤ) → has_column above h ≡ s (record { h = h; v = v -ℤ pos 1 }))
-    → ((h : ℤ) → has_column row h ≡ s (record { h = h; v = v })) → IsPushed old new v (changes above row) → IsPushed old new v (turns_at s v)
-set_turns s above row old new v a b p = pushed_as old new v (changes above row) (turns_at s v) p (λ h i. differ (a h i) (b h i))
+    → ((h : ℤ) → has_column row h ≡ s (record { h = h; v = v })) → IsPushed old new v (changes above row) → IsPushed old new v (row_turns s v)
+set_turns s above row old new v a b p = pushed_as old new v (changes above row) (row_turns s v) p (λ h i. differ (a h i) (b h i))
 
 -- they lie within its bounds
 pub set_within : (s : PixelSet) (r : Rect) (v : ℤ) (row : Columns) → AreBounds s r → ((h : ℤ) → has_column row h ≡ s (record { h = h; v = v })) → AreWithin r.left r.right row
 set_within s r v row b pixels h out = pixels h ∙ beside_bounds s r v h b out
+
+-- a row that is steady has no points
+pub steady_points : (s : PixelSet) (rows : List EdgeRow) (v : ℤ) → IsSteady s v → IsPushed rows rows v (row_turns s v)
+steady_points s rows v steady = no_points rows v (row_turns s v) (λ h. ap (differ (s (record { h = h; v = v -ℤ pos 1 }))) (steady h) ∙ alike (s (record { h = h; v = v -ℤ pos 1 })))
+  where
+    alike : (a : Bool) → differ a a ≡ false
+    alike true = refl
+    alike false = refl

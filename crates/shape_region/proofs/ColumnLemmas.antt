@@ -25,7 +25,8 @@ use Rattle.region_rows.proofs.Counts.{count-is}
 use Rattle.shape_strips.proofs.RangeLemmas.{coordinate_from, coordinate_high, coordinate_low, row_of, sides_in}
 use Rattle.shape_strips.proofs.RunLemmas.{between_before, between_past}
 use Rattle.shape_region.specs.declared.columns.Columns.{Columns}
-use Rattle.shape_region.specs.Columns.{has_column, is_edge}
+use Rattle.shape_region.specs.Columns.{has_column, is_edge, row_turns, IsSteady}
+use Rattle.shape_region.specs.Combined.{moved}
 use Rattle.shape_region.specs.Rows.{AreBounds}
 use Rattle.shape_region.proofs.RunLemmas.{between_same}
 
@@ -225,6 +226,59 @@ turned_there true true = refl
 turned_there true false = refl
 turned_there false true = refl
 turned_there false false = refl
+
+-- ---- rows without points
+
+-- what the points that are left turn in the row v is what the set turns there
+pub record AreTurnsWith (rest : List Point) (s : PixelSet) (v : ℤ) : Type 0 where
+  pub each : (h : ℤ) → row_turns (inverted rest) v h ≡ row_turns s v h
+
+pub no_turns : (rest : List Point) (s : PixelSet) (v : ℤ) → ((p : Point) → inverted rest p ≡ s p) → AreTurnsWith rest s v
+no_turns rest s v same = record { each = λ h. (λ i. differ (same (record { h = h; v = v -ℤ pos 1 }) i) (same (record { h = h; v = v }) i)) }
+
+same_turned : (x i j : Bool) → differ (differ x i) (differ x j) ≡ differ i j
+same_turned true true true = refl
+same_turned true true false = refl
+same_turned true false true = refl
+same_turned true false false = refl
+same_turned false i j = refl
+
+point_elsewhere : (p : Point) (after : List Point) (v h : ℤ) → (p.v ≡ v → ⊥) → row_turns (inverted (p ∷ after)) v h ≡ row_turns (inverted after) v h
+unfolding inverted
+point_elsewhere p after v h other =
+    (λ i. differ
+    (differ (int_le p.h h && above i) (inverted after (record { h = h; v = v -ℤ pos 1 })))
+    (differ (int_le p.h h && int_le p.v v) (inverted after (record { h = h; v = v }))))
+    ∙ same_turned (int_le p.h h && int_le p.v v) (inverted after (record { h = h; v = v -ℤ pos 1 })) (inverted after (record { h = h; v = v }))
+  where
+    above : int_le p.v (v -ℤ pos 1) ≡ int_le p.v v
+    above = by_lt_z v p.v
+        (λ l. int_le-false p.v (v -ℤ pos 1) (omega (arith, ints)) ∙ sym (int_le-false p.v v l))
+        (λ l. by_lt_z p.v v
+        (λ m. int_le-true p.v (v -ℤ pos 1) (omega (arith, ints)) ∙ sym (int_le-true p.v v l))
+        (λ m. absurd (other (omega (arith, ints)))))
+
+pub turns_passed : (p : Point) (rest after : List Point) (s : PixelSet) (v : ℤ) → rest ≡ p ∷ after → (p.v ≡ v → ⊥) → AreTurnsWith rest s v → AreTurnsWith after s v
+turns_passed p rest after s v e other so_far =
+    record { each = λ h. sym (point_elsewhere p after v h other) ∙ ap (λ ps. row_turns (inverted ps) v h) (sym e) ∙ so_far.each h }
+
+pub none_turn : (rest : List Point) (s : PixelSet) (v : ℤ) → rest ≡ [] → AreTurnsWith rest s v → IsSteady s v
+unfolding inverted
+none_turn rest s v e so_far h =
+    alike (s (record { h = h; v = v -ℤ pos 1 })) (s (record { h = h; v = v })) (sym (so_far.each h) ∙ ap (λ ps. row_turns (inverted ps) v h) e)
+  where
+    alike : (a b : Bool) → differ a b ≡ false → b ≡ a
+    alike true true d = refl
+    alike true false d = sym d
+    alike false true d = d
+    alike false false d = refl
+
+-- a row that is moved down is steady where it was
+pub steady_moved : (s : PixelSet) (dh dv v : ℤ) → IsSteady s (v -ℤ dv) → IsSteady (moved s (record { h = dh; v = dv })) v
+steady_moved s dh dv v steady h = steady (h -ℤ dh) ∙ ap (λ w. s (record { h = h -ℤ dh; v = w })) (one_up v dv)
+  where
+    one_up : (v dv : ℤ) → (v -ℤ dv) -ℤ pos 1 ≡ (v -ℤ pos 1) -ℤ dv
+    one_up v dv = omega (arith, ints)
 
 -- ---- numbers of 32 bits
 

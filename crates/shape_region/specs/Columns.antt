@@ -23,3 +23,11 @@ changes above row h = differ (has_column above h) (has_column row h)
 -- whether one of a pixel and the one left of it is in the set, and the other is not
 abbrev pub is_edge : PixelSet → ℤ → ℤ → Bool
 is_edge s h v = differ (s (record { h = h; v = v })) (s (record { h = h -ℤ pos 1; v = v }))
+
+-- the row v of a set has the pixels of the row above
+abbrev pub IsSteady : PixelSet → ℤ → Type 0
+IsSteady s v = (h : ℤ) → s (record { h = h; v = v }) ≡ s (record { h = h; v = v -ℤ pos 1 })
+
+-- where it has others
+abbrev pub row_turns : PixelSet → ℤ → ℤ → Bool
+row_turns s v h = differ (s (record { h = h; v = v -ℤ pos 1 })) (s (record { h = h; v = v }))

@@ -9,7 +9,7 @@ ghost use Rattle.shape_region.specs.Told.{AreRegionBytes, IsNotTold};
 use crate::columns::Columns;
 use crate::combination::Combination;
 use crate::pixel_rows::{PixelRows, pixel_bytes};
-use crate::region_row::{region_bounds, region_row};
+use crate::region_row::{has_points, region_bounds, region_row};
 use region_bytes::RegionBytes;
 use std::alloc::Global;
 use tb_geom::{Rect, Refusal};
@@ -33,6 +33,10 @@ impl PixelRows for Combined<'_, '_> {
         let (first, second) = (region_row(self.first, v), region_row(self.second, v));
         meant_columns(self.how, &first, &second, self.bounds())
     }
+
+    fn turns(&self, v: i32) -> bool {
+        has_points(self.first, v) || has_points(self.second, v)
+    }
 }
 
 /// The columns that are meant of two rows, all of which lie within the bounds.
@@ -53,8 +57,9 @@ fn meant_columns(how: Combination, first: &Columns, second: &Columns, bounds: Re
 
 /// The bytes of the region of the pixels that two regions make together (*Inside Macintosh* I, "QuickDraw": `UnionRgn`,
 /// `SectRgn`, `DiffRgn`, `XorRgn`), written row by row, without a region. For each row between the top and the bottom
-/// of both, all points of both are gone through, and the columns between the sides of both. TooLong where the bytes
-/// would be more than 32766, also where memory is refused; else it refuses only for want of memory.
+/// of both, all points of both are gone through, and for each that has points of theirs, the columns between the sides
+/// of both. TooLong where the bytes would be more than 32766, also where memory is refused; else it refuses only for
+/// want of memory.
 pub fn combined_bytes(
     alloc: Global,
     how: Combination,

@@ -11,7 +11,7 @@ ghost use Rattle.shape_region.specs.Told.{AreRegionBytes, IsNotTold};
 
 use crate::columns::Columns;
 use crate::pixel_rows::{PixelRows, pixel_bytes};
-use crate::region_row::{region_bounds, region_row};
+use crate::region_row::{has_points, region_bounds, region_row};
 use region_bytes::RegionBytes;
 use std::alloc::Global;
 use tb_geom::{Rect, Refusal};
@@ -45,6 +45,10 @@ impl PixelRows for Moved<'_, '_> {
             self.bounds(),
         )
     }
+
+    fn turns(&self, v: i32) -> bool {
+        has_points(self.region, v - self.dv)
+    }
 }
 
 /// The columns moved `dh` to the right, all of which lie within the bounds.
@@ -73,8 +77,8 @@ pub fn can_move(region: &RegionBytes<'_>, dh: i32, dv: i32) -> bool
 
 /// The bytes of the region of a region's pixels, moved `dh` columns to the right and `dv` rows down (*Inside Macintosh*
 /// I, "QuickDraw": `OffsetRgn`), written row by row, without a region. For each row of its box, all points of the region
-/// are gone through, and the columns of the box. TooLong where the bytes would be more than 32766, also where memory is
-/// refused; else it refuses only for want of memory.
+/// are gone through, and for each that has points, the columns of the box. TooLong where the bytes would be more than
+/// 32766, also where memory is refused; else it refuses only for want of memory.
 pub fn moved_bytes(
     alloc: Global,
     region: &RegionBytes<'_>,

@@ -1,5 +1,5 @@
 //! The bytes of sets of pixels that tell their rows, row by row.
-ghost use Rattle.std.specs.Prelude.{◌≡◌, ◌∷◌, ◌++◌, [], ◌↔◌, true, List, ℤ, IsTrue, MatchResult};
+ghost use Rattle.std.specs.Prelude.{◌≡◌, ◌∷◌, ◌++◌, [], ◌↔◌, true, false, List, ℤ, pos, ◌-ℤ◌, IsTrue, MatchResult};
 ghost use Rattle.tb_geom.specs.declared.point.Point.{Point};
 ghost use Rattle.tb_geom.specs.Points.{PixelSet};
 ghost use Rattle.tb_geom.specs.Rects.{is_in_range};
@@ -8,7 +8,7 @@ ghost use Rattle.region_bytes.specs.Writing.{IsWritten, AreWritten};
 ghost use Rattle.region_rows.specs.Edges.{IsCoordinate};
 ghost use Rattle.region_rows.specs.Rows.{IsPushed};
 ghost use Rattle.shape_region.specs.Rows.{AreBounds};
-ghost use Rattle.shape_region.specs.Columns.{AreWithin, changes, has_column};
+ghost use Rattle.shape_region.specs.Columns.{AreWithin, IsSteady, changes, has_column, row_turns};
 ghost use Rattle.shape_region.specs.Told.{AreRegionBytes, IsNotTold};
 ghost use Rattle.shape_region.specs.Written.{AreWrittenChanges, AreWrittenRows};
 
@@ -29,6 +29,11 @@ pub trait PixelRows {
     fn row(&self, v: i32) -> Columns
         requires { IsCoordinate v }
         ensures { (h : ℤ) → has_column result h ≡ pixels self.now (record { h = h; v = v }) };
+
+    /// Whether the row `v` may have other pixels than the row above.
+    fn turns(&self, v: i32) -> bool
+        requires { IsCoordinate v }
+        ensures { result ≡ false → IsSteady (pixels self.now) v };
 }
 
 /// The bytes of the region of a set of pixels, written row by row, without the region. TooLong where they would be more
@@ -48,12 +53,33 @@ fn written_pixels<P: PixelRows>(alloc: Global, set: &P, bounds: Rect) -> RegionW
     let mut out = RegionWriter::new(alloc);
     let mut above = Columns::none();
     for v in bounds.top..bounds.bottom + 1 {
-        let row = set.row(v);
-        write_changes(&mut out, v, &above, &row, bounds);
-        above = row;
+        write_next(&mut out, &mut above, set, v, bounds);
     }
     out.word(END);
     out
+}
+
+/// Writes the row `v` of the inversion points of a set of pixels, if there are any, and goes on to it from the row above.
+fn write_next<P: PixelRows>(
+    out: &mut RegionWriter,
+    above: &mut Columns,
+    set: &P,
+    v: i32,
+    bounds: Rect,
+)
+    requires top { IsCoordinate v }
+    requires bounds { AreBounds (P.pixels set.now) bounds }
+    requires above { (h : ℤ) → has_column above.old h ≡ P.pixels set.now (record { h = h; v = v -ℤ pos 1 }) }
+    ensures above { (h : ℤ) → has_column above.new h ≡ P.pixels set.now (record { h = h; v = v }) }
+    ensures rows { (rows : List PointRow) → AreWritten out.old rows
+        → (more : List PointRow) × IsPushed rows more v (row_turns (P.pixels set.now) v) × AreWritten out.new more }
+{
+    if !set.turns(v) {
+        return;
+    }
+    let row = set.row(v);
+    write_changes(out, v, above, &row, bounds);
+    *above = row;
 }
 
 /// Writes the row `v` of the inversion points between the row above and its own, if there are any.

@@ -1,11 +1,11 @@
 //! The rows of a region whose bytes are read where they lie.
-ghost use Rattle.std.specs.Prelude.{◌≡◌, ℤ};
+ghost use Rattle.std.specs.Prelude.{◌≡◌, false, ℤ};
 ghost use Rattle.tb_geom.specs.declared.point.Point.{Point};
 ghost use Rattle.tb_geom.specs.Pixels.{holds};
 ghost use Rattle.tb_geom.specs.Rects.{IsBoxOf};
 ghost use Rattle.region_rows.specs.Edges.{IsCoordinate};
 ghost use Rattle.shape_region.specs.Rows.{AreBounds};
-ghost use Rattle.shape_region.specs.Columns.{has_column, is_edge};
+ghost use Rattle.shape_region.specs.Columns.{IsSteady, has_column, is_edge};
 
 use crate::columns::{Columns, differ};
 use region_bytes::{Form, RegionBytes};
@@ -58,4 +58,16 @@ fn row_edges(region: &RegionBytes<'_>, v: i32) -> Columns
         }
     }
     edges
+}
+
+/// Whether a region has points in the row `v`.
+pub fn has_points(region: &RegionBytes<'_>, v: i32) -> bool
+    ensures { result ≡ false → IsSteady (holds region.now) v }
+{
+    for p in region.points() {
+        if p.v == v {
+            return true;
+        }
+    }
+    false
 }
