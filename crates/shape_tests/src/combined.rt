@@ -10,7 +10,7 @@ use test_pixels::pixels::{Pixels, are_alike, mark, region_of};
 use test_pixels::rect;
 
 /// How many sets of pixels there are within 3 by 3.
-const SETS: u16 = 8;
+const SETS: u16 = 512;
 
 /// The rectangle of these sets.
 const SIDES: Rect = rect!(-1, -1, 2, 2);
@@ -44,40 +44,51 @@ fn all_bytes(alloc: Global) -> Result<Vec<Vec<u8>>, Refusal> {
     Ok(all)
 }
 
-/// Whether what two sets make together has the bytes of the set with these bits.
+/// Whether what two sets make together has these bytes.
 fn is_made(
     alloc: Global,
-    all: &[Vec<u8>],
     how: Combination,
-    [first, second, bits]: [u16; 3],
+    [first, second]: [&RegionBytes<'_>; 2],
+    wanted: Option<&Vec<u8>>,
 ) -> Result<bool, Refusal> {
-    let [Some(first), Some(second), Some(wanted)] = [first, second, bits].map(|set| all.get(
-        usize::from(set),
-    )) else {
+    let Some(wanted) = wanted else {
         return Ok(false);
     };
-    let first = RegionBytes::read(first.as_slice())?;
-    let second = RegionBytes::read(second.as_slice())?;
-    let made = combined_bytes(alloc, how, &first, &second)?;
+    let made = combined_bytes(alloc, how, first, second)?;
     Ok(made.as_slice() == wanted.as_slice())
 }
 
 /// Whether all four combinations of two sets have their bytes.
-fn is_each_made(alloc: Global, all: &[Vec<u8>], a: u16, b: u16) -> Result<bool, Refusal> {
+fn is_each_made(
+    alloc: Global,
+    all: &[Vec<u8>],
+    regions: &[RegionBytes<'_>],
+    [a, b]: [u16; 2],
+) -> Result<bool, Refusal> {
+    let (Some(first), Some(second)) = (regions.get(usize::from(a)), regions.get(usize::from(b)))
+    else {
+        return Ok(false);
+    };
+    let both = [first, second];
+    let bytes = |bits: u16| all.get(usize::from(bits));
     Ok(
-        is_made(alloc, all, Combination::Union, [a, b, a | b])?
-            && is_made(alloc, all, Combination::Sect, [a, b, a & b])?
-            && is_made(alloc, all, Combination::Diff, [a, b, a & !b])?
-            && is_made(alloc, all, Combination::Xor, [a, b, a ^ b])?,
+        is_made(alloc, Combination::Union, both, bytes(a | b))?
+            && is_made(alloc, Combination::Sect, both, bytes(a & b))?
+            && is_made(alloc, Combination::Diff, both, bytes(a & !b))?
+            && is_made(alloc, Combination::Xor, both, bytes(a ^ b))?,
     )
 }
 
 #[test]
 fn small_sets_make_their_pixels_together(rt: HostRuntime) -> Result<(), Fail> {
     let all = all_bytes(rt.alloc())?;
+    let mut regions = Vec::new(rt.alloc());
+    for bytes in &all {
+        regions.push(RegionBytes::read(bytes.as_slice())?)?;
+    }
     for a in 0..SETS {
         for b in 0..SETS {
-            assert!(rt; is_each_made(rt.alloc(), all.as_slice(), a, b)?);
+            assert!(rt; is_each_made(rt.alloc(), all.as_slice(), regions.as_slice(), [a, b])?);
         }
     }
     Ok(())
