@@ -1,4 +1,5 @@
--- Lemmas on the rows of shapes: their runs, how far they are made, and how they are written; on the columns of any row, and the bounds of sets.
+-- Lemmas on the rows of shapes: their runs, how far they are made, and how they are written. Then on the columns of any row,
+-- where they change, and the boxes of sets.
 pub mod RunLemmas
 pub mod MadeLemmas
 pub mod TurnLemmas

@@ -1,4 +1,4 @@
--- The columns of a row, one bit each: which there are, where two rows differ, and where a row of a set begins and ends its runs.
+-- The columns of a row, one bit each, and where a row of a set differs from the row above.
 use Rattle.std.specs.Prelude.{◌≡◌, Bool, false, ◌&&◌, ℤ, pos, negsuc, ◌-ℤ◌}
 use Rattle.tb_geom.specs.declared.point.Point.{Point}
 use Rattle.tb_geom.specs.Points.{PixelSet}

@@ -17,7 +17,8 @@ pub record AreWrittenRows (s : PixelSet) (out : RegionWriter) : Type 0 where
   pub written : IsWritten out (data_words rows) (points_of rows)
 
 -- the columns of the inversion points of a row are written, which turns these pixels
-pub record AreWrittenChanges (out : RegionWriter) (v : ℤ) (turns : ℤ → Bool) (words : List ℤ) (points : List Point) : Type 0 where
+pub record AreWrittenChanges (out : RegionWriter) (v : ℤ) (turns : ℤ → Bool)
+    (words : List ℤ) (points : List Point) : Type 0 where
   pub columns : List ℤ
   pub pixels : (h : ℤ) → inside columns h ≡ turns h
   pub row : IsRow columns

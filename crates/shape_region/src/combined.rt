@@ -66,7 +66,8 @@ pub fn combined_bytes(
     first: &RegionBytes<'_>,
     second: &RegionBytes<'_>,
 ) -> Result<Vec<u8>, Refusal>
-    ensures { MatchResult result (λ bytes. AreRegionBytes (combined how (holds first.now) (holds second.now)) bytes.items)
+    ensures { MatchResult result
+        (λ bytes. AreRegionBytes (combined how (holds first.now) (holds second.now)) bytes.items)
         (IsNotTold (combined how (holds first.now) (holds second.now))) }
 {
     pixel_bytes(alloc, &Combined { how, first, second })

@@ -76,9 +76,9 @@ pub fn can_move(region: &RegionBytes<'_>, dh: i32, dv: i32) -> bool
 }
 
 /// The bytes of the region of a region's pixels, moved `dh` columns to the right and `dv` rows down (*Inside Macintosh*
-/// I, "QuickDraw": `OffsetRgn`), written row by row, without a region. For each row of its box, all points of the region
-/// are gone through, and for each that has points, the columns of the box. TooLong where the bytes would be more than
-/// 32766, also where memory is refused; else it refuses only for want of memory.
+/// I, "QuickDraw": `OffsetRgn`), written row by row, without a region. For each row of its box, all points of the
+/// region are gone through, and for each that has points, the columns of the box. TooLong where the bytes would be more
+/// than 32766, also where memory is refused; else it refuses only for want of memory.
 pub fn moved_bytes(
     alloc: Global,
     region: &RegionBytes<'_>,

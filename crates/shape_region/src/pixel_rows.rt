@@ -59,7 +59,7 @@ fn written_pixels<P: PixelRows>(alloc: Global, set: &P, bounds: Rect) -> RegionW
     out
 }
 
-/// Writes the row `v` of the inversion points of a set of pixels, if there are any, and goes on to it from the row above.
+/// Writes the row `v` of the inversion points of a set of pixels, if there are any, and goes on from the row above.
 fn write_next<P: PixelRows>(
     out: &mut RegionWriter,
     above: &mut Columns,
