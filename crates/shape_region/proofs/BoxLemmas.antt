@@ -1,17 +1,17 @@
 -- The boxes of sets of pixels in range: of the pixels of region bytes, of two sets, and of a set that is moved.
-use Rattle.std.proofs.Common.{◌≡◌, ◌&&◌, ◌||◌, Bool, true, false, inl, inr, ℤ, pos, negsuc, ◌-ℤ◌, ◌+ℤ◌, ◌≤ℤ◌, ◌<ℤ◌, refl, sym, ap, ◌∙◌, subst, arith, List, ℕ}
+use Rattle.std.proofs.Common.{◌≡◌, ◌&&◌, ◌||◌, Bool, true, false, inl, inr, pos, negsuc, ◌-ℤ◌, ◌+ℤ◌, ◌≤ℤ◌, refl, sym, ap, ◌∙◌, subst, arith, List, ℕ}
 use Rattle.std.proofs.lemmas.Bool.{and_parts, cases_Bool, false≢true}
 use Rattle.std.proofs.lemmas.Int.{ints}
 use Rattle.tb_geom.specs.declared.point.Point.{Point}
 use Rattle.tb_geom.specs.declared.rect.Rect.{Rect}
-use Rattle.tb_geom.specs.Points.{PixelSet, minus, plus}
+use Rattle.tb_geom.specs.Points.{PixelSet, minus}
 use Rattle.tb_geom.specs.Pixels.{Pixels, holds}
 use Rattle.tb_geom.specs.Rects.{between, empty_rect, is_empty_rect, is_in_range, moved_rect, rect_holds, IsBoxOf}
 use Rattle.tb_geom.proofs.RectLemmas.{between-in, holds_in, holds_none, is_around, or_left, or_right, sides_of, sides_rise}
 use Rattle.region_bytes.specs.Forms.{IsRectOf, IsRowsOf}
 use Rattle.region_bytes.proofs.Ranges.{square}
 use Rattle.region_bytes.proofs.Said.{pixel_within}
-use Rattle.region_rows.specs.Moves.{is_pixel_in_range, StaysInRange}
+use Rattle.region_rows.specs.Moves.{StaysInRange}
 use Rattle.shape_strips.proofs.RangeLemmas.{in_range_from, row_of, sides_in}
 use Rattle.shape_region.specs.declared.combination.Combination.{Combination}
 use Rattle.shape_region.specs.declared.combination.Combination.TheVariants.{Union, Sect, Diff, Xor}

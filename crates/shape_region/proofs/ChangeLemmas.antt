@@ -2,20 +2,20 @@
 use Rattle.std.proofs.Common.{◌≡◌, ◌&&◌, ◌++◌, not, Bool, true, false, List, [], ◌∷◌, length, ◌<◌, ℤ, pos, negsuc, ◌-ℤ◌, ◌+ℤ◌, ◌≤ℤ◌, ◌<ℤ◌, refl, sym, ap, ◌∙◌, subst, arith}
 use Rattle.std.proofs.lemmas.Bool.{and_right, false≢true, true≢false}
 use Rattle.std.proofs.lemmas.Int.{ints, by_lt_z}
-use Rattle.std.proofs.lemmas.List.{append-nil, append_assoc, map_push}
+use Rattle.std.proofs.lemmas.List.{append_assoc, map_push}
 use Rattle.tb_geom.specs.declared.point.Point.{Point}
 use Rattle.tb_geom.specs.declared.rect.Rect.{Rect}
 use Rattle.tb_geom.specs.Points.{PixelSet}
-use Rattle.tb_geom.specs.Rects.{between, is_in_range}
+use Rattle.tb_geom.specs.Rects.{between}
 use Rattle.region_bytes.specs.declared.writing.RegionWriter.{RegionWriter}
 use Rattle.region_bytes.specs.Points.{in_rows, row_points}
 use Rattle.region_bytes.specs.Writing.{AreWritten, IsWritten}
 use Rattle.region_bytes.proofs.Edges.{inside-nil, IsRow-nil, inside-push_after, inside-push_before, int_le-true}
 use Rattle.region_bytes.proofs.Rows.{nil_has}
-use Rattle.region_rows.specs.Edges.{differ, inside, is_odd, IsClimb, IsCoordinate, IsRow}
+use Rattle.region_rows.specs.Edges.{differ, inside, IsClimb, IsCoordinate, IsRow}
 use Rattle.region_rows.specs.Pairs.{AreStacked}
 use Rattle.region_rows.specs.Rows.{EdgeRow, AreRows, IsPushed}
-use Rattle.region_rows.proofs.Climbs.{climb_append, higher, inside_above, inside_below, lower, row_of}
+use Rattle.region_rows.proofs.Climbs.{climb_append, higher, inside_above, lower, row_of}
 use Rattle.region_rows.proofs.PairRows.{none_stacked, pushed_as, pushed_pixel, pushed_some, stacked, stacked_rows}
 use Rattle.region_rows.proofs.WrittenColumns.{columns_none}
 use Rattle.shape_strips.proofs.RangeLemmas.{sides_in}
@@ -26,7 +26,6 @@ use Rattle.shape_region.specs.Rows.{AreBounds}
 use Rattle.shape_region.specs.Written.{AreWrittenChanges}
 use Rattle.shape_region.proofs.ColumnLemmas.{beside_bounds}
 use Rattle.shape_region.proofs.MadeLemmas.{below_none, differ_back, unturned}
-use Rattle.shape_region.proofs.TurnLemmas.{row_in_range}
 
 -- ---- the points of a row
 
@@ -147,10 +146,19 @@ all_written left right h t turned v words points out s end high in_range outside
 pub alike_beside : (left right : ℤ) (above row : Columns) → AreWithin left right above → AreWithin left right row → (x : ℤ) → between left x right ≡ false → changes above row x ≡ false
 alike_beside left right above row a b x out = λ i. differ (a x out i) (b x out i)
 
--- where one differs, there are points
-pub some_points : (columns : List ℤ) (t : ℤ → Bool) (h : ℤ) → ((x : ℤ) → inside columns x ≡ t x) → t h ≡ true → 0 < length columns
+-- where one differs, there are points, and so a row of them
+some_points : (columns : List ℤ) (t : ℤ → Bool) (h : ℤ) → ((x : ℤ) → inside columns x ≡ t x) → t h ≡ true → 0 < length columns
 some_points [] t h pixels here = absurd (false≢true (sym (inside-nil h) ∙ pixels h ∙ here))
 some_points (x ∷ xs) t h pixels here = omega arith
+
+pub points_pushed : (rows : List EdgeRow) (v : ℤ) (t : ℤ → Bool) (h : ℤ) (out : RegionWriter) (words : List ℤ) (points : List Point) → t h ≡ true
+    → (w : AreWrittenChanges out v t words points) → IsPushed rows (rows ++ (v, w.columns) ∷ []) v t
+points_pushed rows v t h out words points here w = record {
+  points = w.columns;
+  pixels = w.pixels;
+  row = w.row;
+  pushed = pushed_some rows (rows ++ (v, w.columns) ∷ []) v w.columns (some_points w.columns t h w.pixels here) refl;
+}
 
 -- and where none does, none
 pub no_points : (rows : List EdgeRow) (v : ℤ) (t : ℤ → Bool) → ((h : ℤ) → t h ≡ false) → IsPushed rows rows v t

@@ -1,10 +1,10 @@
 -- The columns of a row: their bits, how far they are kept, and how they are found by the edges of the row.
-use Rattle.std.proofs.Common.{◌≡◌, ◌&&◌, not, Bool, true, false, inl, inr, ℕ, zero, suc, ◌/◌, ◌%◌, ◌<◌, eqb, get_or, List, [], ◌∷◌, ℤ, pos, negsuc, ◌-ℤ◌, ◌+ℤ◌, ◌≤ℤ◌, ◌<ℤ◌, refl, sym, ap, ◌∙◌, subst, arith, SFits, w32}
+use Rattle.std.proofs.Common.{◌≡◌, ◌&&◌, Bool, true, false, inl, inr, ℕ, zero, suc, ◌/◌, ◌%◌, eqb, get_or, List, [], ◌∷◌, ℤ, pos, negsuc, ◌-ℤ◌, ◌+ℤ◌, ◌≤ℤ◌, ◌<ℤ◌, refl, sym, ap, ◌∙◌, subst, arith, SFits, w32}
 use Rattle.std.specs.Prelude.{int_le}
 use Rattle.std.specs.Int.{bit_at}
 use Rattle.std.specs.Ordering.{int_eq}
 use Rattle.std.proofs.Math.ListN.{replicate}
-use Rattle.std.proofs.lemmas.Bool.{and_parts, and_left, and_right, cases_Bool, false≢true, ne_eqb}
+use Rattle.std.proofs.lemmas.Bool.{and_left, and_right, cases_Bool, false≢true, ne_eqb}
 use Rattle.std.proofs.lemmas.Int.{ints, by_lt_z}
 use Rattle.std.proofs.lemmas.Nat.Bits.{bit_at-zero}
 use Rattle.tb_geom.specs.declared.point.Point.{Point}
@@ -23,7 +23,7 @@ use Rattle.region_rows.specs.Edges.{differ, IsCoordinate}
 use Rattle.region_rows.proofs.BitPlaces.{same_eqb}
 use Rattle.region_rows.proofs.Counts.{count-is}
 use Rattle.shape_strips.proofs.RangeLemmas.{coordinate_from, coordinate_high, coordinate_low, row_of, sides_in}
-use Rattle.shape_strips.proofs.RunLemmas.{between_before, between_past}
+use Rattle.shape_strips.proofs.RunLemmas.{between_past}
 use Rattle.shape_region.specs.declared.columns.Columns.{Columns}
 use Rattle.shape_region.specs.Columns.{has_column, is_edge, row_turns, IsSteady}
 use Rattle.shape_region.specs.Combined.{moved}

@@ -1,5 +1,5 @@
--- Lemmas on the rows of shapes: their runs, how far they are made, and how they are written. Then on the columns of any row,
--- where they change, and the boxes of sets.
+-- Lemmas on the rows of shapes: their runs, how far they are made, and how they are written; on the columns of any row,
+-- and where they change; and on the boxes of sets.
 pub mod RunLemmas
 pub mod MadeLemmas
 pub mod TurnLemmas

@@ -1,6 +1,5 @@
 -- The columns of a row, one bit each, and where a row of a set differs from the row above.
 use Rattle.std.specs.Prelude.{◌≡◌, Bool, false, ◌&&◌, ℤ, pos, negsuc, ◌-ℤ◌}
-use Rattle.tb_geom.specs.declared.point.Point.{Point}
 use Rattle.tb_geom.specs.Points.{PixelSet}
 use Rattle.tb_geom.specs.Rects.{between, is_coordinate}
 use Rattle.region_rows.specs.Bits.{has_bit}

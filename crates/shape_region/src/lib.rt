@@ -14,9 +14,9 @@
 //! `combined_bytes` and `moved_bytes` read the bytes of regions where these lie, and go from the top down too. A row of
 //! theirs may have any number of runs, and is kept as its `Columns`, one bit each. Its runs begin and end at the
 //! columns at which an odd number of the region's points lie in the row or above (`region_row`), so all points are gone
-//! through for each row. A row without points is like that above, and is passed over. In the others the inversion points
-//! are written from left to right, as they are found: where the columns that one of the two rows has alone begin or end
-//! (`pixel_rows`). No memory is taken but the writer's.
+//! through for each row. A row without points is like that above, and is passed over. In the others the inversion
+//! points are written from left to right, as they are found: where the columns that one of the two rows has alone begin
+//! or end (`pixel_rows`). No memory is taken but the writer's.
 //!
 //! Rectangles are in the coordinate space of the call that uses the region. Each call that takes a rectangle refuses one
 //! with a side outside -16384..=16383 as OutOfRange, as `Region::from_rect` does; those that take a shape refuse for

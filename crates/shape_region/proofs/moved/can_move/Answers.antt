@@ -1,7 +1,6 @@
 use Rattle.std.proofs.Common.{◌≡◌, true, false, sym, ◌∙◌}
 use Rattle.std.proofs.lemmas.Int.{to_z-of_z}
-use Rattle.tb_geom.specs.declared.point.Point.{Point}
-use Rattle.tb_geom.specs.Rects.{is_empty_rect, is_in_range, moved_rect}
+use Rattle.tb_geom.specs.Rects.{is_empty_rect}
 use Rattle.shape_region.proofs.BoxLemmas.{none_stays, stays_from, stays_with}
 use Rattle.shape_region.proofs.moved.can_move.Goals as goal
 

@@ -1,11 +1,14 @@
-use Rattle.std.proofs.Common.{◌≡◌, ◌<◌, false, [], ◌∷◌, ◌++◌, length, ℤ, sym, ◌∙◌, refl}
+use Rattle.std.proofs.Common.{◌≡◌, false, List, [], ◌∷◌, ◌++◌, ℤ, sym, ◌∙◌}
+use Rattle.std.specs.List.{flat_map}
+use Rattle.std.proofs.lemmas.Bool.{false≢true}
 use Rattle.std.proofs.lemmas.Int.{to_z-of_z}
+use Rattle.tb_geom.specs.declared.point.Point.{Point}
+use Rattle.region_bytes.specs.Points.{points_of, row_points}
+use Rattle.region_bytes.specs.Words.{row_words}
 use Rattle.region_bytes.proofs.Written.{AreWritten-push}
-use Rattle.region_rows.proofs.PairRows.{pushed_some}
 use Rattle.shape_region.specs.Columns.{changes}
 use Rattle.shape_region.proofs.BoxLemmas.{from_false}
-use Rattle.std.proofs.lemmas.Bool.{false≢true}
-use Rattle.shape_region.proofs.ChangeLemmas.{no_points, some_points}
+use Rattle.shape_region.proofs.ChangeLemmas.{no_points, points_pushed}
 use Rattle.shape_region.proofs.pixel_rows.write_changes.Goals as goal
 
 pub returns-then-not-has_change : goal.returns-then-not-has_change
@@ -21,14 +24,10 @@ returns c =
     let columns = simp to_z-of_z at c.write_points.ensures in
     let some = c.has_change.ensures.0 c.if-not-has_change.false in
     λ rows s.
-    let w = columns _ _ (place _ _ s) in (
+    let words : List ℤ = flat_map row_words rows ++ c.args.v ∷ [] in
+    let points : List Point = points_of rows in
+    let w = columns words points (place (flat_map row_words rows) points s) in (
       rows ++ (c.args.v, w.columns) ∷ [],
-      record {
-        points = w.columns;
-        pixels = w.pixels;
-        row = w.row;
-        pushed = pushed_some rows (rows ++ (c.args.v, w.columns) ∷ []) c.args.v w.columns
-            (some_points w.columns (changes c.args.above.now c.args.row.now) some.0 w.pixels some.1) refl;
-      },
-      AreWritten-push _ rows c.args.v w.columns (c.word-2.ensures _ _ w.written),
+      points_pushed rows c.args.v (changes c.args.above.now c.args.row.now) some.0 c.write_points.new.out words points some.1 w,
+      AreWritten-push c.word-2.new.self rows c.args.v w.columns (c.word-2.ensures (words ++ w.columns) (points ++ row_points (c.args.v, w.columns)) w.written),
     )

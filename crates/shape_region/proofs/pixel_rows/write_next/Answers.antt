@@ -1,4 +1,4 @@
-use Rattle.std.proofs.Common.{ℤ, pos, ◌-ℤ◌, ap, sym, ◌∙◌, rules}
+use Rattle.std.proofs.Common.{pos, ◌-ℤ◌, sym, ◌∙◌}
 use Rattle.std.proofs.lemmas.Int.{to_z-of_z}
 use Rattle.shape_region.proofs.ChangeLemmas.{set_turns, set_within, steady_points}
 use Rattle.shape_region.proofs.pixel_rows.write_next.Goals as goal

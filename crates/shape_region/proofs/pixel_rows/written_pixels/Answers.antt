@@ -1,6 +1,5 @@
-use Rattle.std.proofs.Common.{◌≡◌, [], List, ℤ, pos, ◌-ℤ◌, ◌+ℤ◌, ◌≤ℤ◌, ◌<ℤ◌, ap, ◌∙◌, rules, arith, SFits, w32, to_z}
+use Rattle.std.proofs.Common.{[], ℤ, pos, ◌+ℤ◌, ◌≤ℤ◌, ◌<ℤ◌, ap, ◌∙◌, rules, arith, SFits, w32, to_z}
 use Rattle.std.proofs.lemmas.Int.{ints, to_z-of_z}
-use Rattle.tb_geom.specs.declared.point.Point.{Point}
 use Rattle.tb_geom.proofs.Steps.{fits_next}
 use Rattle.region_bytes.specs.Points.{points_of}
 use Rattle.shape_strips.proofs.RangeLemmas.{sides_in, sum_fits}

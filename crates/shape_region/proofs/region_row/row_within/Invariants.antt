@@ -1,5 +1,4 @@
-use Rattle.std.proofs.Common.{◌≡◌, ℤ, pos, ◌-ℤ◌, ◌≤ℤ◌}
-use Rattle.tb_geom.specs.declared.point.Point.{Point}
+use Rattle.std.proofs.Common.{◌≡◌, pos, ◌-ℤ◌, ◌≤ℤ◌}
 use Rattle.tb_geom.specs.Pixels.{holds}
 use Rattle.shape_region.proofs.ColumnLemmas.{AreKept}
 use Rattle.shape_region.proofs.region_row.row_within.Given as goal

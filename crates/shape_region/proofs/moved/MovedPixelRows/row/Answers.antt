@@ -1,6 +1,5 @@
 use Rattle.std.proofs.Common.{◌-ℤ◌, ◌∙◌, rules, SFits, w32}
 use Rattle.std.proofs.lemmas.Int.{to_z-of_z}
-use Rattle.tb_geom.specs.declared.point.Point.{Point}
 use Rattle.tb_geom.specs.Pixels.{holds}
 use Rattle.shape_region.specs.Combined.{moved}
 use Rattle.shape_region.proofs.ColumnLemmas.{beside_bounds, word_apart}
