@@ -2,12 +2,15 @@
 //! words of the contracts are what is meant. Expected values are pictures drawn by hand, or come from a slow program
 //! over single pixels (`slow`), and never from the libraries.
 //!
-//! `strips` tests `shape_strips`, `regions` and `bytes` test `shape_region`, and `forms` tests the forms of `lent_ops`.
+//! `strips` tests `shape_strips`, `regions`, `bytes` and `combined` test `shape_region`, and `forms` tests the forms of
+//! `lent_ops`.
 //! `sizes` has the shapes that they try.
 #![tactic(auto)]
 
 #[cfg(test)]
 mod bytes;
+#[cfg(test)]
+mod combined;
 #[cfg(test)]
 mod forms;
 #[cfg(test)]
