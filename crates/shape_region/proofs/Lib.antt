@@ -3,3 +3,4 @@ pub mod RunLemmas
 pub mod MadeLemmas
 pub mod TurnLemmas
 pub mod WrittenLemmas
+pub mod PolygonLemmas

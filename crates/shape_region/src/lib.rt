@@ -18,6 +18,7 @@
 
 mod frame;
 mod making;
+mod polygon;
 mod round;
 mod rows;
 mod strip;
@@ -29,6 +30,7 @@ pub use frame::{
     Frame, frame_oval_region, frame_rect_region, frame_round_rect_region, inside_region,
 };
 pub use making::form_region;
+pub use polygon::polygon_region;
 pub use round::{oval_region, round_rect_region};
 pub use rows::{Rows, Solid};
 pub use strip::strip_region;
