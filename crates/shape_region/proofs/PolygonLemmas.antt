@@ -1,8 +1,10 @@
--- Polygons: their edges in two parts, and past their last point.
-use Rattle.std.proofs.Common.{◌≡◌, ◌&&◌, ◌||◌, Bool, true, false, List, [], ◌∷◌, ◌++◌, ℤ, pos, ◌+ℤ◌, ◌-ℤ◌, ◌*ℤ◌, ◌≤ℤ◌, ◌<ℤ◌, inl, inr, refl, sym, ap, ◌∙◌, arith}
+-- Polygons: their points and edges in two parts, and past their last point.
+use Rattle.std.proofs.Common.{◌≡◌, ◌&&◌, ◌||◌, Bool, true, false, ℕ, ◌-◌, ◌≤◌, List, [], ◌∷◌, ◌++◌, length, take, drop, slice_index_or, ℤ, pos, ◌+ℤ◌, ◌-ℤ◌, ◌*ℤ◌, ◌≤ℤ◌, ◌<ℤ◌, inl, inr, refl, sym, ap, ◌∙◌, arith}
 use Rattle.std.specs.Prelude.{int_le, int_lt}
 use Rattle.std.proofs.lemmas.Int.{ints, by_lt_z}
-use Rattle.std.proofs.lemmas.Bool.{and_parts, cases_Bool}
+use Rattle.std.proofs.lemmas.Bool.{and_parts, and_from}
+use Rattle.std.proofs.lemmas.List.{take-append-drop, take_rest}
+use Rattle.std.specs.List.{list_all}
 use Rattle.tb_geom.specs.declared.point.Point.{Point}
 use Rattle.tb_geom.specs.Rects.{between, in_plane, is_coordinate}
 use Rattle.region_rows.specs.Edges.{differ}
@@ -10,13 +12,31 @@ use Rattle.region_bytes.proofs.Rows.{differ_assoc}
 use Rattle.shape_strips.specs.Bands.{passes, edge_turns}
 use Rattle.shape_strips.proofs.RangeLemmas.{coordinate_high}
 use Rattle.shape_strips.proofs.BandLemmas.{passes_right}
-use Rattle.shape_region.specs.Polygons.{are_in_plane, odd_edges, polygon_holds}
+use Rattle.shape_region.specs.Polygons.{odd_edges, polygon_holds}
 
 or_turned : (a b : Bool) → (a || b) ≡ (b || a)
 or_turned true true = refl
 or_turned true false = refl
 or_turned false true = refl
 or_turned false false = refl
+
+-- ---- lists of points in two parts
+
+-- a list before one of its items, and after it
+pub parted_at : {X : Type 0} (xs f b : List X) (m : ℕ) (d : X) → f ≡ take m xs → b ≡ drop m xs → 1 ≤ length b
+    → xs ≡ f ++ (slice_index_or b 0 d ∷ take (length b - 1) (drop 1 b))
+parted_at xs f [] m d e g l = absurd (omega arith)
+parted_at xs f (y ∷ ys) m d e g l =
+    sym (take-append-drop m xs) ∙ (λ i. sym e i ++ sym g i) ∙ ap (λ t. f ++ (y ∷ t)) (sym (take_rest (y ∷ ys) 1))
+
+-- what is so of all is so of the parts
+pub all_parts : {X : Type 0} (test : X → Bool) (f : List X) (y : X) (t : List X) → list_all test (f ++ (y ∷ t)) ≡ true
+    → (list_all test f ≡ true) × ((test y ≡ true) × (list_all test t ≡ true))
+all_parts test [] y t e = (refl, and_parts (test y) (list_all test t) e)
+all_parts test (x ∷ f) y t e =
+    let p = and_parts (test x) (list_all test (f ++ (y ∷ t))) e in
+    let q = all_parts test f y t p.1 in
+    (and_from _ _ p.0 q.0, q.1)
 
 -- edges in two parts
 pub edges_split : (from : Point) (xs : List Point) (x : Point) (ys : List Point) (to p : Point)
@@ -87,16 +107,16 @@ telescoped false false t = refl
 left_of_last : (q p : Point) → in_plane q ≡ true → pos 16383 ≤ℤ p.h → q.h ≤ℤ p.h
 left_of_last q p e l = let high = coordinate_high q.h (and_parts (is_coordinate q.h) (is_coordinate q.v) e).0 in omega (arith, ints)
 
-edges_past : (from : Point) (xs : List Point) (to p : Point) → in_plane from ≡ true → are_in_plane xs ≡ true → in_plane to ≡ true → pos 16383 ≤ℤ p.h
+edges_past : (from : Point) (xs : List Point) (to p : Point) → in_plane from ≡ true → list_all in_plane xs ≡ true → in_plane to ≡ true → pos 16383 ≤ℤ p.h
     → odd_edges from xs to p ≡ differ (int_le from.v p.v) (int_le to.v p.v)
 edges_past from [] to p f e t l = edge_past from to p (left_of_last from p f l) (left_of_last to p t l)
 edges_past from (x ∷ xs) to p f e t l =
-    let both = and_parts (in_plane x) (are_in_plane xs) e in
+    let both = and_parts (in_plane x) (list_all in_plane xs) e in
     (λ i. differ (edge_past from x p (left_of_last from p f l) (left_of_last x p both.0 l) i) (edges_past x xs to p both.0 both.1 t l i))
     ∙ telescoped (int_le from.v p.v) (int_le x.v p.v) (int_le to.v p.v)
 
 -- past the last point each row has an even number of edges
-pub polygon_up_to : (x : Point) (xs : List Point) (p : Point) → in_plane x ≡ true → are_in_plane xs ≡ true
+pub polygon_up_to : (x : Point) (xs : List Point) (p : Point) → in_plane x ≡ true → list_all in_plane xs ≡ true
     → (odd_edges x xs x p && int_lt p.h (pos 16383)) ≡ polygon_holds (x ∷ xs) p
 polygon_up_to x xs p f e = by_lt_z p.h (pos 16383)
     (λ l. all (odd_edges x xs x p) (int_lt p.h (pos 16383)) (before p.h l))
@@ -116,3 +136,11 @@ polygon_up_to x xs p f e = by_lt_z p.h (pos 16383)
     even : (a : Bool) → differ a a ≡ false
     even true = refl
     even false = refl
+
+-- a polygon by its first point and the others
+pub closed_up_to : (xs : List Point) (d : Point) → 1 ≤ length xs → list_all in_plane xs ≡ true → (p : Point)
+    → (odd_edges (slice_index_or xs 0 d) (take (length xs - 1) (drop 1 xs)) (slice_index_or xs 0 d) p && int_lt p.h (pos 16383)) ≡ polygon_holds xs p
+closed_up_to [] d l e p = absurd (omega arith)
+closed_up_to (x ∷ xs) d l e p =
+    let both = and_parts (in_plane x) (list_all in_plane xs) e in
+    ap (λ ys. odd_edges x ys x p && int_lt p.h (pos 16383)) (take_rest (x ∷ xs) 1) ∙ polygon_up_to x xs p both.0 both.1

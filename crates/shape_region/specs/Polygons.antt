@@ -1,5 +1,6 @@
 -- Polygons, as lists of their points: the pixels that they have.
-use Rattle.std.specs.Prelude.{Bool, true, false, ◌&&◌, List, [], ◌∷◌}
+use Rattle.std.specs.Prelude.{Bool, false, List, [], ◌∷◌}
+use Rattle.std.specs.List.{list_all}
 use Rattle.tb_geom.specs.declared.point.Point.{Point}
 use Rattle.tb_geom.specs.Points.{PixelSet}
 use Rattle.tb_geom.specs.Rects.{in_plane}
@@ -8,8 +9,7 @@ use Rattle.shape_strips.specs.Bands.{edge_turns}
 
 -- whether all points lie in -16384..16383
 abbrev pub are_in_plane : List Point → Bool
-are_in_plane [] = true
-are_in_plane (x ∷ xs) = in_plane x && are_in_plane xs
+are_in_plane xs = list_all in_plane xs
 
 -- whether an odd number of edges turns the pixel, on the way from one point along others to a last one
 abbrev pub odd_edges : Point → List Point → Point → PixelSet
@@ -21,4 +21,3 @@ odd_edges from (x ∷ xs) to p = differ (edge_turns from x p) (odd_edges x xs to
 abbrev pub polygon_holds : List Point → PixelSet
 polygon_holds [] p = false
 polygon_holds (x ∷ xs) p = odd_edges x xs x p
-

@@ -17,6 +17,7 @@
 #![tactic(auto)]
 
 mod frame;
+pub mod laws;
 mod making;
 mod polygon;
 mod round;
