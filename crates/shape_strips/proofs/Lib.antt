@@ -9,3 +9,5 @@ pub mod LawLemmas
 pub mod Products
 pub mod ColumnLemmas
 pub mod BandLemmas
+pub mod LineLemmas
+pub mod JoinLemmas

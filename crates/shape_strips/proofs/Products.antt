@@ -85,3 +85,34 @@ product_within a b m n p q = from_abs (a *ℤ b) (m * n) (rw (unsigned_abs-mul a
 
 pub product_fits : (a b : ℤ) (m n : ℕ) → IsWithin a m → IsWithin b n → m * n < 2 ^ 63 → SFits w64 (a *ℤ b)
 product_fits a b m n p q small = fits_signed_mul w64 a b m n (abs_le a m p) (abs_le b n q) small
+
+-- a product with a difference
+pub times_less : (w y x : ℤ) → w *ℤ (y -ℤ x) ≡ (w *ℤ y) -ℤ (w *ℤ x)
+times_less w y x = less (w *ℤ (y -ℤ x)) (w *ℤ y) (w *ℤ x) (sym (times_sum w (y -ℤ x) x) ∙ ap (λ z. w *ℤ z) (back y x))
+  where
+    back : (y x : ℤ) → (y -ℤ x) +ℤ x ≡ y
+    back y x = omega (arith, ints)
+
+    less : (a b c : ℤ) → a +ℤ c ≡ b → a ≡ b -ℤ c
+    less a b c e = omega (arith, ints)
+
+-- a factor that is one less
+pub times_back : (w y : ℤ) → w *ℤ (y -ℤ pos 1) ≡ (w *ℤ y) -ℤ w
+times_back w y = times_less w y (pos 1) ∙ omega (arith, ints)
+
+-- a product of a number that is not above 0, and one that is not below
+pub times_not_above : (k x : ℤ) → k ≤ℤ pos 0 → pos 0 ≤ℤ x → (k *ℤ x) ≤ℤ pos 0
+times_not_above k x l m = opposite (k *ℤ x) (neg_ℤ k *ℤ x) (times_neg k x) (times_natural (neg_ℤ k) x (omega (arith, ints)) m)
+  where
+    opposite : (a b : ℤ) → b ≡ neg_ℤ a → pos 0 ≤ℤ b → a ≤ℤ pos 0
+    opposite a b e l = omega (arith, ints)
+
+pub times_falls : (k x w : ℤ) → k ≤ℤ pos 0 → x ≤ℤ w → (w *ℤ k) ≤ℤ (k *ℤ x)
+times_falls k x w l m =
+    turned (k *ℤ x) (k *ℤ w) (neg_ℤ k *ℤ x) (neg_ℤ k *ℤ w) (w *ℤ k) (times_neg k x) (times_neg k w) (*ℤ_comm w k) (times_le (neg_ℤ k) x w (omega (arith, ints)) m)
+  where
+    turned : (a b c d e : ℤ) → c ≡ neg_ℤ a → d ≡ neg_ℤ b → e ≡ b → c ≤ℤ d → e ≤ℤ a
+    turned a b c d e f g h l = omega (arith, ints)
+
+pub times_rises : (k x w : ℤ) → pos 0 ≤ℤ k → x ≤ℤ w → (k *ℤ x) ≤ℤ (w *ℤ k)
+times_rises k x w l m = rw (*ℤ_comm w k) (times_le k x w l m)

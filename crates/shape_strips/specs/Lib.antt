@@ -7,3 +7,4 @@ pub mod Frames
 pub mod Mirrors
 pub mod Places
 pub mod Bands
+pub mod Lines

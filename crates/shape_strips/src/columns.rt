@@ -57,8 +57,9 @@ impl Slope {
         requires order { left ≤ℤ right }
         requires least_in { unsigned_abs least < 2 ^ 62 }
         requires end_in { unsigned_abs end < 2 ^ 62 }
-        ensures { (h : ℤ) → run_holds result h ≡ (between left h right
+        ensures run { (h : ℤ) → run_holds result h ≡ (between left h right
             && between least (self.step *ℤ (h -ℤ self.origin)) end) }
+        ensures high { result.right ≤ℤ right }
     {
         Run {
             left: self.first_column(left, right, least),

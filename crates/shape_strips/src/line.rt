@@ -43,11 +43,11 @@ fn far(from: i32, to: i32) -> i64
 }
 
 /// How far the rows of a thin line reach, that goes so many columns to the right and so many rows down.
-fn reach(across: i64, down: i64) -> Reach
+fn row_reach(across: i64, down: i64) -> Reach
     requires across_in { unsigned_abs across < 2 ^ 16 }
     requires down_in { unsigned_abs down < 2 ^ 16 }
     requires falls { pos 0 <ℤ down }
-    ensures reach { IsReach across down result.low result.high }
+    ensures is { IsReach across down result.low result.high }
     ensures low_in { unsigned_abs result.low < 2 ^ 17 }
     ensures high_in { unsigned_abs result.high < 2 ^ 17 }
 {
@@ -93,7 +93,7 @@ fn slanted_run(upper: Point, lower: Point, first: i32, last: i32) -> Run
 {
     let across = far(upper.h, lower.h);
     let down = far(upper.v, lower.v);
-    let reach = reach(across, down);
+    let reach = row_reach(across, down);
     let slope = Slope {
         origin: upper.h,
         step: 2 * down,

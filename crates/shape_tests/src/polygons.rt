@@ -59,6 +59,7 @@ fn bands_of_every_edge_within_nine_by_nine_are_their_runs(rt: HostRuntime) -> Re
 }
 
 /// Numbers that look as if they were drawn by lot, from a linear congruential generator.
+#[derive(Drop)]
 struct Lot(u32);
 
 impl Lot {
@@ -80,7 +81,7 @@ impl Lot {
 /// Whether a polygon is made of the pixels that the slow program gives.
 fn is_polygon(alloc: Global, points: &[Point]) -> Result<bool, Refusal> {
     let made = polygon_region(alloc, points)?;
-    is_region_of(alloc, &made, &Polygon(points), SIDES)
+    Ok(is_region_of(alloc, &made, &Polygon(points), SIDES)?)
 }
 
 #[test]

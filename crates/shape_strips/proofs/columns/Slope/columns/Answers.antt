@@ -3,8 +3,8 @@ use Rattle.std.proofs.lemmas.Int.{to_z-of_z}
 use Rattle.shape_strips.proofs.ColumnLemmas.{run_between}
 use Rattle.shape_strips.proofs.columns.Slope.columns.Goals as goal
 
-pub returns : goal.returns
-returns c = λ h.
+pub returns-clause-run : goal.returns-clause-run
+returns-clause-run c = λ h.
     let fits_f : SFits w32 c.first_column.result = search rules in
     let fits_g : SFits w32 c.first_column-2.result = search rules in
     let fits_l = c.ranges.left in
