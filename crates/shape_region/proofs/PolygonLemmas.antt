@@ -9,10 +9,12 @@ use Rattle.tb_geom.specs.declared.point.Point.{Point}
 use Rattle.tb_geom.specs.Rects.{between, in_plane, is_coordinate}
 use Rattle.region_rows.specs.Edges.{differ}
 use Rattle.region_bytes.proofs.Rows.{differ_assoc}
+use Rattle.shape_strips.specs.declared.pen.Pen.{Pen}
 use Rattle.shape_strips.specs.Bands.{passes, edge_turns}
+use Rattle.shape_strips.specs.Lines.{line_holds}
 use Rattle.shape_strips.proofs.RangeLemmas.{coordinate_high}
 use Rattle.shape_strips.proofs.BandLemmas.{passes_right}
-use Rattle.shape_region.specs.Polygons.{odd_edges, polygon_holds}
+use Rattle.shape_region.specs.Polygons.{odd_edges, polygon_holds, some_line, frame_polygon_holds}
 
 or_turned : (a b : Bool) → (a || b) ≡ (b || a)
 or_turned true true = refl
@@ -56,6 +58,24 @@ both_up_to false true true = refl
 both_up_to false true false = refl
 both_up_to false false true = refl
 both_up_to false false false = refl
+
+-- lines in two parts
+pub lines_split : (from : Point) (xs : List Point) (x : Point) (ys : List Point) (to : Point) (pen : Pen) (p : Point)
+    → some_line from (xs ++ (x ∷ ys)) to pen p ≡ (some_line from xs x pen p || some_line x ys to pen p)
+lines_split from [] x ys to pen p = refl
+lines_split from (z ∷ zs) x ys to pen p =
+    ap (λ b. line_holds from z pen p || b) (lines_split z zs x ys to pen p)
+    ∙ or_joined (line_holds from z pen p) (some_line z zs x pen p) (some_line x ys to pen p)
+  where
+    or_joined : (a b c : Bool) → (a || (b || c)) ≡ ((a || b) || c)
+    or_joined true b c = refl
+    or_joined false b c = refl
+
+-- a frame by its first point and the others
+pub framed_by : (xs : List Point) (d : Point) (pen : Pen) → 1 ≤ length xs → (p : Point)
+    → some_line (slice_index_or xs 0 d) (take (length xs - 1) (drop 1 xs)) (slice_index_or xs 0 d) pen p ≡ frame_polygon_holds xs pen p
+framed_by [] d pen l p = absurd (omega arith)
+framed_by (x ∷ xs) d pen l p = ap (λ ys. some_line x ys x pen p) (take_rest (x ∷ xs) 1)
 
 -- ---- a chord
 

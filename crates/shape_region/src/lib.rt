@@ -1,4 +1,5 @@
-//! Regions of round shapes, of their frames, and of the insides that these leave, and the bytes of such regions.
+//! Regions of round shapes, of their frames, and of the insides that these leave, and the bytes of such regions; regions
+//! of lines and polygons, and of the frames of these.
 //!
 //! `Rows` is a set of pixels with two runs in a row at most (`TwoRuns`). A strip of `shape_strips` has one (`Solid`); a
 //! `Frame` has the run of its shape less that of its inside. `form_region` makes the region of such a set in one pass
@@ -10,14 +11,18 @@
 //! memory is refused. So bytes that would be too many are known as that, whatever memory there is, and the region
 //! itself is never made.
 //!
+//! A polygon is the odd sum of the bands of its edges, and its frame the union of their lines. Both are made of the first
+//! half of the edges and the second one, so that each edge is in few regions on the way.
+//!
 //! Rectangles are in the coordinate space of the call that uses the region. Each call that takes a rectangle refuses one
 //! with a side outside -16384..=16383 as OutOfRange, as `Region::from_rect` does; those that take a shape refuse for
 //! want of memory alone, and `form_bytes` as TooLong before that. The words of the contracts stand in `shape_strips`,
-//! and those on bytes in `specs::Told`.
+//! those on bytes in `specs::Told`, and those on polygons in `specs::Polygons`.
 #![tactic(auto)]
 
 mod frame;
 pub mod laws;
+mod line;
 mod making;
 mod polygon;
 mod round;
@@ -30,6 +35,7 @@ mod writing;
 pub use frame::{
     Frame, frame_oval_region, frame_rect_region, frame_round_rect_region, inside_region,
 };
+pub use line::{frame_polygon_region, line_region};
 pub use making::form_region;
 pub use polygon::polygon_region;
 pub use round::{oval_region, round_rect_region};

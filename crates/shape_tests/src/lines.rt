@@ -2,9 +2,12 @@
 
 use crate::slow_lines::Line;
 use crate::strips::are_rows;
+use shape_region::line_region;
 use shape_strips::{LineStrip, Pen};
+use std::alloc::Global;
 use std::test::Fail;
-use tb_geom::{Point, Rect};
+use tb_geom::{Point, Rect, Refusal};
+use test_pixels::pixels::is_region_of;
 use test_pixels::{point, rect};
 
 /// The sides within which lines are looked at.
@@ -52,5 +55,38 @@ fn every_line_within_nine_by_nine_is_its_runs(rt: HostRuntime) -> Result<(), Fai
     assert!(rt; are_lines(point!(8, 0)));
     assert!(rt; are_lines(point!(0, 8)));
     assert!(rt; are_lines(point!(8, 8)));
+    Ok(())
+}
+
+/// Whether a line is made of the pixels that the slow program gives.
+fn is_made(alloc: Global, line: Line) -> Result<bool, Refusal> {
+    let made = line_region(alloc, line.from, line.to, line.pen)?;
+    Ok(is_region_of(alloc, &made, &line, SIDES)?)
+}
+
+#[test]
+fn regions_of_lines_are_made_of_their_pixels(rt: HostRuntime) -> Result<(), Fail> {
+    let alloc = rt.alloc();
+    let from = point!(4, 3);
+    for h in 0..9 {
+        for v in 0..9 {
+            let to = Point { h, v };
+            assert!(rt; is_made(alloc, Line { from, to, pen: PENS[0] })?);
+            assert!(rt; is_made(alloc, Line { from, to, pen: PENS[5] })?);
+        }
+    }
+    Ok(())
+}
+
+#[test]
+fn lines_reach_the_ends_of_the_range(rt: HostRuntime) -> Result<(), Fail> {
+    let alloc = rt.alloc();
+    let (dot, none) = (PENS[0], Pen { width: 0, height: 1 });
+    let line = line_region(alloc, point!(16382, 0), point!(-16384, 0), dot)?;
+    assert!(rt; line.bbox() == rect!(-16384, 0, 16383, 1));
+    let past = point!(16383, 0);
+    assert!(rt; matches!(line_region(alloc, past, point!(0, 0), dot), Err(Refusal::OutOfRange)));
+    assert!(rt; matches!(line_region(alloc, point!(0, 0), past, dot), Err(Refusal::OutOfRange)));
+    assert!(rt; line_region(alloc, past, point!(0, 0), none)?.is_empty());
     Ok(())
 }

@@ -1,9 +1,9 @@
 //! Bands of edges row by row, and regions of polygons.
 
-use crate::slow_lines::{Polygon, turns};
+use crate::slow_lines::{Polygon, PolygonFrame, turns};
 use crate::strips::are_rows;
-use shape_region::polygon_region;
-use shape_strips::BandStrip;
+use shape_region::{frame_polygon_region, polygon_region};
+use shape_strips::{BandStrip, Pen};
 use std::alloc::Global;
 use std::test::Fail;
 use tb_geom::{Point, Rect, Refusal};
@@ -84,6 +84,12 @@ fn is_polygon(alloc: Global, points: &[Point]) -> Result<bool, Refusal> {
     Ok(is_region_of(alloc, &made, &Polygon(points), SIDES)?)
 }
 
+/// Whether its frame is, drawn by a pen.
+fn is_frame(alloc: Global, points: &[Point], pen: Pen) -> Result<bool, Refusal> {
+    let made = frame_polygon_region(alloc, points, pen)?;
+    Ok(is_region_of(alloc, &made, &PolygonFrame { points, pen }, SIDES)?)
+}
+
 #[test]
 fn polygons_are_made_of_their_pixels(rt: HostRuntime) -> Result<(), Fail> {
     let alloc = rt.alloc();
@@ -94,6 +100,28 @@ fn polygons_are_made_of_their_pixels(rt: HostRuntime) -> Result<(), Fail> {
         assert!(rt; is_polygon(alloc, &points[..5])?);
         assert!(rt; is_polygon(alloc, &points[..4])?);
         assert!(rt; is_polygon(alloc, &points[..3])?);
+    }
+    Ok(())
+}
+
+/// Pens that draw frames.
+const PENS: [Pen; 3] = [
+    Pen { width: 1, height: 1 },
+    Pen { width: 2, height: 1 },
+    Pen { width: 2, height: 3 },
+];
+
+#[test]
+fn frames_of_polygons_are_made_of_their_pixels(rt: HostRuntime) -> Result<(), Fail> {
+    let alloc = rt.alloc();
+    let mut lot = Lot(2);
+    for _ in 0..40 {
+        let points = [lot.point(), lot.point(), lot.point(), lot.point(), lot.point(), lot.point()];
+        for pen in PENS {
+            assert!(rt; is_frame(alloc, &points, pen)?);
+            assert!(rt; is_frame(alloc, &points[..3], pen)?);
+            assert!(rt; is_frame(alloc, &points[..1], pen)?);
+        }
     }
     Ok(())
 }
@@ -112,6 +140,8 @@ fn polygons_of_two_points_and_less_have_no_pixel(rt: HostRuntime) -> Result<(), 
 fn points_out_of_range_are_refused(rt: HostRuntime) -> Result<(), Fail> {
     let alloc = rt.alloc();
     let points = [point!(1, 2), point!(5, 16384), point!(3, 3)];
+    let pen = PENS[0];
     assert!(rt; matches!(polygon_region(alloc, &points), Err(Refusal::OutOfRange)));
+    assert!(rt; matches!(frame_polygon_region(alloc, &points, pen), Err(Refusal::OutOfRange)));
     Ok(())
 }

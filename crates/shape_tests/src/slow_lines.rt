@@ -103,3 +103,35 @@ impl Pixels for Polygon<'_> {
         mark(self.has(h, v))
     }
 }
+
+/// The frame of a polygon of these points: the lines of its edges.
+#[derive(Clone, Copy)]
+pub struct PolygonFrame<'a> {
+    pub points: &'a [Point],
+    pub pen: Pen,
+}
+
+impl PolygonFrame<'_> {
+    /// Whether the line of an edge has the pixel.
+    pub fn has(&self, h: i32, v: i32) -> bool {
+        let [.., last] = self.points else {
+            return false;
+        };
+        let pen = self.pen;
+        let mut from = *last;
+        for to in self.points {
+            let to = *to;
+            if (Line { from, to, pen }).has(h, v) {
+                return true;
+            }
+            from = to;
+        }
+        false
+    }
+}
+
+impl Pixels for PolygonFrame<'_> {
+    fn byte(&self, Point { h, v }: Point) -> u8 {
+        mark(self.has(h, v))
+    }
+}
