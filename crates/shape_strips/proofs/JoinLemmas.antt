@@ -14,7 +14,7 @@ use Rattle.shape_strips.specs.declared.pen.Pen.{Pen}
 use Rattle.shape_strips.specs.Runs.{run_holds}
 use Rattle.shape_strips.specs.Lines.{thin_holds, some_below, line_holds, AreJoined, IsReach}
 use Rattle.shape_strips.proofs.RangeLemmas.{row_of}
-use Rattle.shape_strips.proofs.Products.{times_le, times_next, times_falls, times_rises, times_neg}
+use Rattle.shape_strips.proofs.Products.{times_le, times_next, times_neg}
 use Rattle.shape_strips.proofs.LineLemmas.{IsAround, thin_in, row_is, level_has}
 
 -- ---- rows that follow each other
@@ -35,49 +35,46 @@ row_next w o f n =
 row_none : (f o : ℤ) → (f +ℤ pos 0) -ℤ o ≡ f -ℤ o
 row_none f o = omega (arith, ints)
 
+row_further : (v f : ℤ) (n : ℕ) → v ≤ℤ (f +ℤ pos n) → v ≤ℤ (f +ℤ pos (suc n))
+row_further v f n l = omega (arith, ints)
+
+same_end : (m n high z : ℤ) → n ≡ m → z <ℤ ((pos 2 *ℤ n) +ℤ high) → z <ℤ ((pos 2 *ℤ m) +ℤ high)
+same_end m n high z e l = omega (arith, ints)
+
+same_begin : (m n low z : ℤ) → n ≡ m → ((pos 2 *ℤ n) +ℤ low) ≤ℤ z → ((pos 2 *ℤ m) +ℤ low) ≤ℤ z
+same_begin m n low z e l = omega (arith, ints)
+
+next_begin : (m n w low high z : ℤ) → n ≡ m +ℤ w → (low +ℤ (pos 2 *ℤ w)) ≤ℤ high → ((pos 2 *ℤ m) +ℤ high) ≤ℤ z → ((pos 2 *ℤ n) +ℤ low) ≤ℤ z
+next_begin m n w low high z e l k = omega (arith, ints)
+
+next_end : (m n w low high z : ℤ) → n ≡ m +ℤ w → low ≤ℤ (high +ℤ (pos 2 *ℤ w)) → z <ℤ ((pos 2 *ℤ m) +ℤ low) → z <ℤ ((pos 2 *ℤ n) +ℤ high)
+next_end m n w low high z e l k = omega (arith, ints)
+
 -- where rows move to the right as they go down
 rows_falling : (w o low high z f : ℤ) (n : ℕ) → (low +ℤ (pos 2 *ℤ w)) ≤ℤ high
     → ((pos 2 *ℤ (w *ℤ (f -ℤ o))) +ℤ low) ≤ℤ z → z <ℤ ((pos 2 *ℤ (w *ℤ ((f +ℤ pos n) -ℤ o))) +ℤ high)
     → IsReached w o low high z f n
 rows_falling w o low high z f zero wide from to =
-    (f, (omega (arith, ints), (omega (arith, ints), between-in _ z _ from (ends (w *ℤ (f -ℤ o)) (w *ℤ ((f +ℤ pos 0) -ℤ o)) high z (ap (λ y. w *ℤ y) (row_none f o)) to))))
-  where
-    ends : (m n high z : ℤ) → n ≡ m → z <ℤ ((pos 2 *ℤ n) +ℤ high) → z <ℤ ((pos 2 *ℤ m) +ℤ high)
-    ends m n high z e l = omega (arith, ints)
+    (f, omega (arith, ints), omega (arith, ints), between-in _ z _ from (same_end (w *ℤ (f -ℤ o)) (w *ℤ ((f +ℤ pos 0) -ℤ o)) high z (ap (λ y. w *ℤ y) (row_none f o)) to))
 rows_falling w o low high z f (suc n) wide from to =
     by_lt_z z ((pos 2 *ℤ (w *ℤ ((f +ℤ pos n) -ℤ o))) +ℤ high)
     (λ less.
     let r = rows_falling w o low high z f n wide from less in
-    (r.0, (r.1.0, (further r.0 f n r.1.1.0, r.1.1.1))))
-    (λ past. (f +ℤ pos (suc n), (omega (arith, ints), (omega (arith, ints), between-in _ z _ (begins (w *ℤ ((f +ℤ pos n) -ℤ o)) (w *ℤ ((f +ℤ pos (suc n)) -ℤ o)) w low high z (row_next w o f n) wide past) to))))
-  where
-    further : (v f : ℤ) (n : ℕ) → v ≤ℤ (f +ℤ pos n) → v ≤ℤ (f +ℤ pos (suc n))
-    further v f n l = omega (arith, ints)
-
-    begins : (m n w low high z : ℤ) → n ≡ m +ℤ w → (low +ℤ (pos 2 *ℤ w)) ≤ℤ high → ((pos 2 *ℤ m) +ℤ high) ≤ℤ z → ((pos 2 *ℤ n) +ℤ low) ≤ℤ z
-    begins m n w low high z e l k = omega (arith, ints)
+    (r.0, r.1, row_further r.0 f n r.2, r.3))
+    (λ past. (f +ℤ pos (suc n), omega (arith, ints), omega (arith, ints), between-in _ z _ (next_begin (w *ℤ ((f +ℤ pos n) -ℤ o)) (w *ℤ ((f +ℤ pos (suc n)) -ℤ o)) w low high z (row_next w o f n) wide past) to))
 
 -- and where they move to the left
 rows_rising : (w o low high z f : ℤ) (n : ℕ) → low ≤ℤ (high +ℤ (pos 2 *ℤ w))
     → ((pos 2 *ℤ (w *ℤ ((f +ℤ pos n) -ℤ o))) +ℤ low) ≤ℤ z → z <ℤ ((pos 2 *ℤ (w *ℤ (f -ℤ o))) +ℤ high)
     → IsReached w o low high z f n
 rows_rising w o low high z f zero wide from to =
-    (f, (omega (arith, ints), (omega (arith, ints), between-in _ z _ (begins (w *ℤ (f -ℤ o)) (w *ℤ ((f +ℤ pos 0) -ℤ o)) low z (ap (λ y. w *ℤ y) (row_none f o)) from) to)))
-  where
-    begins : (m n low z : ℤ) → n ≡ m → ((pos 2 *ℤ n) +ℤ low) ≤ℤ z → ((pos 2 *ℤ m) +ℤ low) ≤ℤ z
-    begins m n low z e l = omega (arith, ints)
+    (f, omega (arith, ints), omega (arith, ints), between-in _ z _ (same_begin (w *ℤ (f -ℤ o)) (w *ℤ ((f +ℤ pos 0) -ℤ o)) low z (ap (λ y. w *ℤ y) (row_none f o)) from) to)
 rows_rising w o low high z f (suc n) wide from to =
     by_lt_z z ((pos 2 *ℤ (w *ℤ ((f +ℤ pos n) -ℤ o))) +ℤ low)
-    (λ less. (f +ℤ pos (suc n), (omega (arith, ints), (omega (arith, ints), between-in _ z _ from (ends (w *ℤ ((f +ℤ pos n) -ℤ o)) (w *ℤ ((f +ℤ pos (suc n)) -ℤ o)) w low high z (row_next w o f n) wide less)))))
+    (λ less. (f +ℤ pos (suc n), omega (arith, ints), omega (arith, ints), between-in _ z _ from (next_end (w *ℤ ((f +ℤ pos n) -ℤ o)) (w *ℤ ((f +ℤ pos (suc n)) -ℤ o)) w low high z (row_next w o f n) wide less)))
     (λ past.
     let r = rows_rising w o low high z f n wide past to in
-    (r.0, (r.1.0, (further r.0 f n r.1.1.0, r.1.1.1))))
-  where
-    further : (v f : ℤ) (n : ℕ) → v ≤ℤ (f +ℤ pos n) → v ≤ℤ (f +ℤ pos (suc n))
-    further v f n l = omega (arith, ints)
-
-    ends : (m n w low high z : ℤ) → n ≡ m +ℤ w → low ≤ℤ (high +ℤ (pos 2 *ℤ w)) → z <ℤ ((pos 2 *ℤ m) +ℤ low) → z <ℤ ((pos 2 *ℤ n) +ℤ high)
-    ends m n w low high z e l k = omega (arith, ints)
+    (r.0, r.1, row_further r.0 f n r.2, r.3))
 
 -- ---- rows of a line that goes down
 
@@ -134,9 +131,9 @@ falling_joined u l first last low high run slanted top order bottom reach right 
       let r = rows_falling (l.h -ℤ u.h) u.v low high ((pos 2 *ℤ (l.v -ℤ u.v)) *ℤ (h -ℤ u.h)) first (count_to first last)
         (wide_falling (l.h -ℤ u.h) (l.v -ℤ u.v) low high (omega (arith, ints)) reach right) ends.0
         (moved ((pos 2 *ℤ (l.v -ℤ u.v)) *ℤ (h -ℤ u.h)) _ _ high (ap (λ b. (l.h -ℤ u.h) *ℤ (b -ℤ u.v)) whole) ends.1) in
-      let from : first ≤ℤ r.0 = r.1.0 in
-      let to : r.0 ≤ℤ last = up_to r.0 _ last whole r.1.1.0 in
-      (r.0, (from, (to, row_is u l (record { h = h; v = r.0 }) low high slanted reach (at_row u l h r.0 slanted two.0 (omega (arith, ints)) (omega (arith, ints))) ∙ r.1.1.1)));
+      let from : first ≤ℤ r.0 = r.1 in
+      let to : r.0 ≤ℤ last = up_to r.0 _ last whole r.2 in
+      (r.0, from, to, row_is u l (record { h = h; v = r.0 }) low high slanted reach (at_row u l h r.0 slanted two.0 (omega (arith, ints)) (omega (arith, ints))) ∙ r.3);
 }
   where
     lower : (a b c z : ℤ) → a ≤ℤ b → ((pos 2 *ℤ b) +ℤ c) ≤ℤ z → ((pos 2 *ℤ a) +ℤ c) ≤ℤ z
@@ -172,9 +169,9 @@ rising_joined u l first last low high run slanted top order bottom reach left co
       let r = rows_rising (l.h -ℤ u.h) u.v low high ((pos 2 *ℤ (l.v -ℤ u.v)) *ℤ (h -ℤ u.h)) first (count_to first last)
         (wide_rising (l.h -ℤ u.h) (l.v -ℤ u.v) low high (omega (arith, ints)) reach left)
         (moved ((pos 2 *ℤ (l.v -ℤ u.v)) *ℤ (h -ℤ u.h)) _ _ low (ap (λ b. (l.h -ℤ u.h) *ℤ (b -ℤ u.v)) whole) ends.0) ends.1 in
-      let from : first ≤ℤ r.0 = r.1.0 in
-      let to : r.0 ≤ℤ last = up_to r.0 _ last whole r.1.1.0 in
-      (r.0, (from, (to, row_is u l (record { h = h; v = r.0 }) low high slanted reach (at_row u l h r.0 slanted two.0 (omega (arith, ints)) (omega (arith, ints))) ∙ r.1.1.1)));
+      let from : first ≤ℤ r.0 = r.1 in
+      let to : r.0 ≤ℤ last = up_to r.0 _ last whole r.2 in
+      (r.0, from, to, row_is u l (record { h = h; v = r.0 }) low high slanted reach (at_row u l h r.0 slanted two.0 (omega (arith, ints)) (omega (arith, ints))) ∙ r.3);
 }
   where
     lower : (a b c z : ℤ) → a ≤ℤ b → ((pos 2 *ℤ b) +ℤ c) ≤ℤ z → ((pos 2 *ℤ a) +ℤ c) ≤ℤ z
@@ -202,7 +199,7 @@ level_joined u l first last left right level top order bottom e f = record {
       let columns = row_of left h right g in
       let low : left ≤ℤ h = columns.0 in
       let high : h <ℤ right = columns.1 in
-      (first, (omega (arith, ints), (order, level_has u l (record { h = h; v = first }) level (omega (arith, ints)) (omega (arith, ints)) (omega (arith, ints)))));
+      (first, omega (arith, ints), order, level_has u l (record { h = h; v = first }) level (omega (arith, ints)) (omega (arith, ints)) (omega (arith, ints)));
 }
 
 -- ---- pens
@@ -219,8 +216,8 @@ pub some_of : (n : ℕ) (test : ℕ → Bool) → some_below n test ≡ true →
 unfolding some_below
 some_of zero test e = absurd (false≢true e)
 some_of (suc n) test e = elim (or_cases (test n) (some_below n test) e) [
-  | inl f ↦ (n, (omega arith, f))
-  | inr f ↦ let r = some_of n test f in let l : r.0 < n = r.1.0 in (r.0, (omega arith, r.1.1))
+  | inl f ↦ (n, omega arith, f)
+  | inr f ↦ let r = some_of n test f in let l : r.0 < n = r.1 in (r.0, omega arith, r.2)
 ]
 
 pub same_if : (a b : Bool) → (a ≡ true → b ≡ true) → (b ≡ true → a ≡ true) → a ≡ b
@@ -242,8 +239,8 @@ widened l r h m some pen = same_if (between l h (r +ℤ (pos m -ℤ pos 1))) (so
     some_at m (λ i. between l (h -ℤ pos i) r) (count_to (r -ℤ pos 1) h) (omega (arith, ints)) (between-in l (h -ℤ pos (count_to (r -ℤ pos 1) h)) r (omega (arith, ints)) (omega (arith, ints)))))
     (λ e.
     let at = some_of m (λ i. between l (h -ℤ pos i) r) e in
-    let less : at.0 < m = at.1.0 in
-    let ends = row_of l (h -ℤ pos at.0) r at.1.1 in
+    let less : at.0 < m = at.1 in
+    let ends = row_of l (h -ℤ pos at.0) r at.2 in
     let low : l ≤ℤ (h -ℤ pos at.0) = ends.0 in
     let high : (h -ℤ pos at.0) <ℤ r = ends.1 in
     between-in l h (r +ℤ (pos m -ℤ pos 1)) (omega (arith, ints)) (omega (arith, ints)))
@@ -251,7 +248,7 @@ widened l r h m some pen = same_if (between l h (r +ℤ (pos m -ℤ pos 1))) (so
 pub none_widened : (l r h : ℤ) (m : ℕ) → r ≤ℤ l → some_below m (λ i. between l (h -ℤ pos i) r) ≡ false
 none_widened l r h m none = false_from_ne_true _ (λ e.
     let at = some_of m (λ i. between l (h -ℤ pos i) r) e in
-    let ends = row_of l (h -ℤ pos at.0) r at.1.1 in
+    let ends = row_of l (h -ℤ pos at.0) r at.2 in
     let low : l ≤ℤ (h -ℤ pos at.0) = ends.0 in
     let high : (h -ℤ pos at.0) <ℤ r = ends.1 in
     absurd (omega (arith, ints)))
@@ -264,18 +261,18 @@ pub rows_joined : (s : PixelSet) (top bottom first last v h : ℤ) (m : ℕ) (ru
 rows_joined s top bottom first last v h m run joined f g rows = same_if (run_holds run h) (some_below m (λ j. s (record { h = h; v = v -ℤ pos j })))
     (λ e.
     let r = joined.only h e in
-    let from : first ≤ℤ r.0 = r.1.0 in
-    let to : r.0 ≤ℤ last = r.1.1.0 in
+    let from : first ≤ℤ r.0 = r.1 in
+    let to : r.0 ≤ℤ last = r.2 in
     let far = count-is r.0 v (omega (arith, ints, clamps)) in
     let same : v -ℤ pos (count_to r.0 v) ≡ r.0 = omega (arith, ints) in
-    some_at m (λ j. s (record { h = h; v = v -ℤ pos j })) (count_to r.0 v) (omega (arith, ints, clamps)) (ap (λ w. s (record { h = h; v = w })) same ∙ r.1.1.1))
+    some_at m (λ j. s (record { h = h; v = v -ℤ pos j })) (count_to r.0 v) (omega (arith, ints, clamps)) (ap (λ w. s (record { h = h; v = w })) same ∙ r.3))
     (λ e.
     let at = some_of m (λ j. s (record { h = h; v = v -ℤ pos j })) e in
-    let less : at.0 < m = at.1.0 in
-    let in_rows = rows (record { h = h; v = v -ℤ pos at.0 }) at.1.1 in
+    let less : at.0 < m = at.1 in
+    let in_rows = rows (record { h = h; v = v -ℤ pos at.0 }) at.2 in
     let low : top ≤ℤ (v -ℤ pos at.0) = in_rows.0 in
     let high : (v -ℤ pos at.0) ≤ℤ bottom = in_rows.1 in
-    joined.has h (v -ℤ pos at.0) (omega (arith, ints, clamps)) (omega (arith, ints, clamps)) at.1.1)
+    joined.has h (v -ℤ pos at.0) (omega (arith, ints, clamps)) (omega (arith, ints, clamps)) at.2)
 
 -- the rectangle of a line
 pub record IsCovered (a b p : Point) (pen : Pen) : Type 0 where
@@ -288,10 +285,10 @@ pub line_in : (a b : Point) (pen : Pen) (p : Point) → line_holds a b pen p ≡
 unfolding line_holds
 line_in a b pen p e =
     let across = some_of pen.width (λ i. some_below pen.height (λ j. thin_holds a b (record { h = p.h -ℤ pos i; v = p.v -ℤ pos j }))) e in
-    let down = some_of pen.height (λ j. thin_holds a b (record { h = p.h -ℤ pos across.0; v = p.v -ℤ pos j })) across.1.1 in
-    let i : across.0 < pen.width = across.1.0 in
-    let j : down.0 < pen.height = down.1.0 in
-    let around = thin_in a b (record { h = p.h -ℤ pos across.0; v = p.v -ℤ pos down.0 }) down.1.1 in
+    let down = some_of pen.height (λ j. thin_holds a b (record { h = p.h -ℤ pos across.0; v = p.v -ℤ pos j })) across.2 in
+    let i : across.0 < pen.width = across.1 in
+    let j : down.0 < pen.height = down.1 in
+    let around = thin_in a b (record { h = p.h -ℤ pos across.0; v = p.v -ℤ pos down.0 }) down.2 in
     let left : int_min a.h b.h ≤ℤ (p.h -ℤ pos across.0) = around.left in
     let right : (p.h -ℤ pos across.0) ≤ℤ int_max a.h b.h = around.right in
     let top : int_min a.v b.v ≤ℤ (p.v -ℤ pos down.0) = around.top in

@@ -11,3 +11,6 @@ pub mod ColumnLemmas
 pub mod BandLemmas
 pub mod LineLemmas
 pub mod JoinLemmas
+pub mod PenLemmas
+pub mod LineNumbers
+pub mod LineLaws

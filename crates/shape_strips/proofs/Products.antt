@@ -77,7 +77,7 @@ times_neg k x =
 abs_le : (z : ℤ) (m : ℕ) → IsWithin z m → unsigned_abs z ≤ m
 abs_le z m is = let low = is.low in let high = is.high in search (arith, ints)
 
-from_abs : (z : ℤ) (m : ℕ) → unsigned_abs z ≤ m → IsWithin z m
+pub from_abs : (z : ℤ) (m : ℕ) → unsigned_abs z ≤ m → IsWithin z m
 from_abs z m l = record { low = search (arith, ints); high = search (arith, ints) }
 
 pub product_within : (a b : ℤ) (m n : ℕ) → IsWithin a m → IsWithin b n → IsWithin (a *ℤ b) (m * n)

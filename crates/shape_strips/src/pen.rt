@@ -1,5 +1,5 @@
 //! Pens.
-ghost use Rattle.std.specs.Prelude.{◌≡◌};
+ghost use Rattle.std.specs.Prelude.{◌≡◌, pos, ◌+ℤ◌, int_le};
 
 use tb_geom::Point;
 
@@ -26,12 +26,14 @@ impl Pen {
     pub fn fits_at(self, point: Point) -> bool
         ensures { result ≡ pen_fits self point }
     {
-        if !point.is_in_range() {
-            return false;
-        }
-        if !self.has_size() {
-            return true;
-        }
-        point.h + i32::from(self.width) <= 16383 && point.v + i32::from(self.height) <= 16383
+        point.is_in_range()
+            && (!self.has_size() || ends_in(point.h, self.width) && ends_in(point.v, self.height))
     }
+}
+
+/// Whether so many columns or rows from a first one on lie in -16384..=16382, where the first does.
+fn ends_in(first: i32, count: u16) -> bool
+    ensures { result ≡ int_le (first +ℤ pos count) (pos 16383) }
+{
+    i64::from(first) + i64::from(count) <= 16383
 }
