@@ -22,7 +22,7 @@ is_step d some l =
 small_column : (z : ℤ) → negsuc 16383 ≤ℤ z → z ≤ℤ pos 16384 → unsigned_abs z < 2 ^ 16
 small_column z l m = search (arith, ints)
 
-small_fits : (z : ℤ) → negsuc 16383 ≤ℤ z → z ≤ℤ pos 16384 → SFits w32 z
+pub small_fits : (z : ℤ) → negsuc 16383 ≤ℤ z → z ≤ℤ pos 16384 → SFits w32 z
 small_fits z l m = search (arith, ints)
 
 pub origin_small : (u : Point) → IsPlace u → unsigned_abs u.h < 2 ^ 16

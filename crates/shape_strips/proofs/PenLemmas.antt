@@ -13,7 +13,7 @@ use Rattle.shape_strips.specs.Frames.{has_size}
 use Rattle.shape_strips.specs.Places.{IsPlace}
 use Rattle.shape_strips.specs.Runs.{run_holds}
 use Rattle.shape_strips.specs.Lines.{thin_holds, some_below, line_holds, pen_fits, AreJoined}
-use Rattle.shape_strips.proofs.RangeLemmas.{coordinate_low, coordinate_high}
+use Rattle.shape_strips.proofs.RangeLemmas.{coordinate_low, coordinate_high, HasSides}
 use Rattle.shape_strips.proofs.LineLemmas.{thin_in, thin_either}
 use Rattle.shape_strips.proofs.JoinLemmas.{some_of, rows_joined, line_in}
 
@@ -46,6 +46,38 @@ pub has_sides : (pen : Pen) → has_size pen ≡ true → (0 < pen.width) × (0 
 has_sides pen e =
     let both = and_parts (nat_lt 0 pen.width) (nat_lt 0 pen.height) e in
     (omega (arith, ltb-true 0 pen.width both.0), omega (arith, ltb-true 0 pen.height both.1))
+
+-- the sides of the rectangle of a line
+pub sides_of_line : (a b : Point) (pen : Pen) → has_size pen ≡ true → pen_fits pen a ≡ true → pen_fits pen b ≡ true → (left top right bottom : ℤ)
+    → left ≡ int_min a.h b.h → top ≡ int_min a.v b.v → right ≡ int_max a.h b.h +ℤ pos pen.width → bottom ≡ int_max a.v b.v +ℤ pos pen.height
+    → HasSides (record { left = left; top = top; right = right; bottom = bottom })
+sides_of_line a b pen some fits_a fits_b left top right bottom d e f g =
+    let p = place_of pen a fits_a in
+    let q = place_of pen b fits_b in
+    let past_a = sized_fits pen a some fits_a in
+    let past_b = sized_fits pen b some fits_b in
+    let ahl = p.h_low in
+    let ahh = p.h_high in
+    let avl = p.v_low in
+    let avh = p.v_high in
+    let bhl = q.h_low in
+    let bhh = q.h_high in
+    let bvl = q.v_low in
+    let bvh = q.v_high in
+    let ar : (a.h +ℤ pos pen.width) ≤ℤ pos 16383 = past_a.0 in
+    let ab : (a.v +ℤ pos pen.height) ≤ℤ pos 16383 = past_a.1 in
+    let br : (b.h +ℤ pos pen.width) ≤ℤ pos 16383 = past_b.0 in
+    let bb : (b.v +ℤ pos pen.height) ≤ℤ pos 16383 = past_b.1 in
+    record {
+      left_low = omega (arith, ints, clamps);
+      left_high = omega (arith, ints, clamps);
+      top_low = omega (arith, ints, clamps);
+      top_high = omega (arith, ints, clamps);
+      right_low = omega (arith, ints, clamps);
+      right_high = omega (arith, ints, clamps);
+      bottom_low = omega (arith, ints, clamps);
+      bottom_high = omega (arith, ints, clamps);
+    }
 
 -- ---- what a pen does not cover
 
