@@ -1,6 +1,6 @@
 -- What the definition of thin lines says.
 use Rattle.std.proofs.Common.{◌≡◌, ◌&&◌, ◌||◌, not, Bool, true, false, ℤ, pos, neg_ℤ, ◌+ℤ◌, ◌-ℤ◌, ◌*ℤ◌, ◌≤ℤ◌, ◌<ℤ◌, inl, inr, refl, sym, ap, ◌∙◌, arith, unsigned_abs}
-use Rattle.std.specs.Prelude.{int_le, int_lt, int_div, int_rem, nat_le}
+use Rattle.std.specs.Prelude.{int_le, int_lt, int_div, int_rem}
 use Rattle.std.specs.Int.{int_min, int_max}
 use Rattle.std.proofs.lemmas.Int.{ints, clamps, by_lt_z}
 use Rattle.std.proofs.lemmas.Bool.{cases_Bool, cond-false, leb-true, le-leb, or_left, or_right, true≢false}

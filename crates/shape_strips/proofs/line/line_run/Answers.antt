@@ -1,6 +1,6 @@
 use Rattle.std.proofs.Common.{◌≡◌, ◌∙◌, ◌<◌, inl, inr, pos, negsuc, ◌+ℤ◌, ◌-ℤ◌, ◌≤ℤ◌, ◌<ℤ◌, sym, ap, arith, SFits, w32, rules}
-use Rattle.std.specs.Int.{int_min, int_max}
-use Rattle.std.proofs.lemmas.Int.{ints, clamps, to_z-of_z}
+use Rattle.std.specs.Int.{int_max}
+use Rattle.std.proofs.lemmas.Int.{ints, to_z-of_z}
 use Rattle.shape_strips.proofs.RangeLemmas.{sum_fits, rest_fits}
 use Rattle.shape_strips.proofs.LineNumbers.{pen_rows_fit, rows_ordered}
 use Rattle.shape_strips.proofs.PenLemmas.{place_of, sized_fits, has_sides, line_none, line_above, line_row}

@@ -1,4 +1,4 @@
-use Rattle.std.proofs.Common.{◌∙◌, SFits, w32, rules}
+use Rattle.std.proofs.Common.{◌∙◌}
 use Rattle.std.proofs.lemmas.Int.{to_z-of_z}
 use Rattle.shape_strips.proofs.PenLemmas.{line_either}
 use Rattle.shape_strips.proofs.line.LineStripStrip.run.Goals as goal
