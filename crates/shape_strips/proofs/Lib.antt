@@ -1,5 +1,5 @@
 -- Lemmas on ovals, on rectangles in range, on runs, on round shapes, on their insides, and what they give together; on
--- products, on columns by their multiples, and on bands.
+-- products, on columns by their multiples, on bands, and on lines.
 pub mod OvalLemmas
 pub mod RangeLemmas
 pub mod RunLemmas
