@@ -40,7 +40,12 @@ const RIGHT: i32 = 16383;
 
 /// What an odd number of edges turns, on the way from one point along others to a last one, up to `RIGHT`: the odd sum
 /// of what the first half of them turns and what the second half does.
-fn edges_region(alloc: Global, from: Point, others: &[Point], to: Point) -> Result<Region, AllocError>
+fn edges_region(
+    alloc: Global,
+    from: Point,
+    others: &[Point],
+    to: Point,
+) -> Result<Region, AllocError>
     requires from_in { in_plane from ≡ true }
     requires others_in { are_in_plane others.now ≡ true }
     requires to_in { in_plane to ≡ true }

@@ -113,7 +113,7 @@ columns_of u l h v is =
 pub falling_joined : (u l : Point) (first last low high : ℤ) (run : Run) → u.v <ℤ l.v → u.v ≤ℤ first → first ≤ℤ last → last ≤ℤ l.v
     → IsReach (l.h -ℤ u.h) (l.v -ℤ u.v) low high → pos 0 ≤ℤ (l.h -ℤ u.h)
     → ((h : ℤ) → run_holds run h ≡ (between (int_min u.h l.h) h (int_max u.h l.h +ℤ pos 1)
-        && between ((pos 2 *ℤ ((l.h -ℤ u.h) *ℤ (first -ℤ u.v))) +ℤ low) ((pos 2 *ℤ (l.v -ℤ u.v)) *ℤ (h -ℤ u.h)) ((pos 2 *ℤ ((l.h -ℤ u.h) *ℤ (last -ℤ u.v))) +ℤ high)))
+    && between ((pos 2 *ℤ ((l.h -ℤ u.h) *ℤ (first -ℤ u.v))) +ℤ low) ((pos 2 *ℤ (l.v -ℤ u.v)) *ℤ (h -ℤ u.h)) ((pos 2 *ℤ ((l.h -ℤ u.h) *ℤ (last -ℤ u.v))) +ℤ high)))
     → AreJoined (thin_holds u l) first last run
 falling_joined u l first last low high run slanted top order bottom reach right columns = record {
   has = λ h v from to e.
@@ -129,8 +129,8 @@ falling_joined u l first last low high run slanted top order bottom reach right 
       let count = count-is first last order in
       let whole : first +ℤ pos (count_to first last) ≡ last = omega (arith, ints) in
       let r = rows_falling (l.h -ℤ u.h) u.v low high ((pos 2 *ℤ (l.v -ℤ u.v)) *ℤ (h -ℤ u.h)) first (count_to first last)
-        (wide_falling (l.h -ℤ u.h) (l.v -ℤ u.v) low high (omega (arith, ints)) reach right) ends.0
-        (moved ((pos 2 *ℤ (l.v -ℤ u.v)) *ℤ (h -ℤ u.h)) _ _ high (ap (λ b. (l.h -ℤ u.h) *ℤ (b -ℤ u.v)) whole) ends.1) in
+      (wide_falling (l.h -ℤ u.h) (l.v -ℤ u.v) low high (omega (arith, ints)) reach right) ends.0
+      (moved ((pos 2 *ℤ (l.v -ℤ u.v)) *ℤ (h -ℤ u.h)) _ _ high (ap (λ b. (l.h -ℤ u.h) *ℤ (b -ℤ u.v)) whole) ends.1) in
       let from : first ≤ℤ r.0 = r.1 in
       let to : r.0 ≤ℤ last = up_to r.0 _ last whole r.2 in
       (r.0, from, to, row_is u l (record { h = h; v = r.0 }) low high slanted reach (at_row u l h r.0 slanted two.0 (omega (arith, ints)) (omega (arith, ints))) ∙ r.3);
@@ -151,7 +151,7 @@ falling_joined u l first last low high run slanted top order bottom reach right 
 pub rising_joined : (u l : Point) (first last low high : ℤ) (run : Run) → u.v <ℤ l.v → u.v ≤ℤ first → first ≤ℤ last → last ≤ℤ l.v
     → IsReach (l.h -ℤ u.h) (l.v -ℤ u.v) low high → (l.h -ℤ u.h) <ℤ pos 0
     → ((h : ℤ) → run_holds run h ≡ (between (int_min u.h l.h) h (int_max u.h l.h +ℤ pos 1)
-        && between ((pos 2 *ℤ ((l.h -ℤ u.h) *ℤ (last -ℤ u.v))) +ℤ low) ((pos 2 *ℤ (l.v -ℤ u.v)) *ℤ (h -ℤ u.h)) ((pos 2 *ℤ ((l.h -ℤ u.h) *ℤ (first -ℤ u.v))) +ℤ high)))
+    && between ((pos 2 *ℤ ((l.h -ℤ u.h) *ℤ (last -ℤ u.v))) +ℤ low) ((pos 2 *ℤ (l.v -ℤ u.v)) *ℤ (h -ℤ u.h)) ((pos 2 *ℤ ((l.h -ℤ u.h) *ℤ (first -ℤ u.v))) +ℤ high)))
     → AreJoined (thin_holds u l) first last run
 rising_joined u l first last low high run slanted top order bottom reach left columns = record {
   has = λ h v from to e.
@@ -167,8 +167,8 @@ rising_joined u l first last low high run slanted top order bottom reach left co
       let count = count-is first last order in
       let whole : first +ℤ pos (count_to first last) ≡ last = omega (arith, ints) in
       let r = rows_rising (l.h -ℤ u.h) u.v low high ((pos 2 *ℤ (l.v -ℤ u.v)) *ℤ (h -ℤ u.h)) first (count_to first last)
-        (wide_rising (l.h -ℤ u.h) (l.v -ℤ u.v) low high (omega (arith, ints)) reach left)
-        (moved ((pos 2 *ℤ (l.v -ℤ u.v)) *ℤ (h -ℤ u.h)) _ _ low (ap (λ b. (l.h -ℤ u.h) *ℤ (b -ℤ u.v)) whole) ends.0) ends.1 in
+      (wide_rising (l.h -ℤ u.h) (l.v -ℤ u.v) low high (omega (arith, ints)) reach left)
+      (moved ((pos 2 *ℤ (l.v -ℤ u.v)) *ℤ (h -ℤ u.h)) _ _ low (ap (λ b. (l.h -ℤ u.h) *ℤ (b -ℤ u.v)) whole) ends.0) ends.1 in
       let from : first ≤ℤ r.0 = r.1 in
       let to : r.0 ≤ℤ last = up_to r.0 _ last whole r.2 in
       (r.0, from, to, row_is u l (record { h = h; v = r.0 }) low high slanted reach (at_row u l h r.0 slanted two.0 (omega (arith, ints)) (omega (arith, ints))) ∙ r.3);

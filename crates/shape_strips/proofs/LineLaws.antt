@@ -70,10 +70,12 @@ way_one a b h dot low high = by_lt_z a.h b.h
     (one.0, λ v. λ i. past_is a b (record { h = h; v = v }) more i || one.1 v i))
     (λ to.
     let same : a.h ≡ b.h = omega (arith, ints) in
-    let level = dot same in
-    (a.v, λ v. (λ i. dot_is a b (record { h = h; v = v }) same (omega (arith, ints, clamps)) i || dot_is b a (record { h = h; v = v }) (sym same) (omega (arith, ints, clamps)) i)
-    ∙ ap (λ z. between a.v v (a.v +ℤ pos 1) || between z v (z +ℤ pos 1)) (sym level)
-    ∙ same_twice (between a.v v (a.v +ℤ pos 1)))))
+    let level = dot same in (
+      a.v,
+      λ v. (λ i. dot_is a b (record { h = h; v = v }) same (omega (arith, ints, clamps)) i || dot_is b a (record { h = h; v = v }) (sym same) (omega (arith, ints, clamps)) i)
+          ∙ ap (λ z. between a.v v (a.v +ℤ pos 1) || between z v (z +ℤ pos 1)) (sym level)
+          ∙ same_twice (between a.v v (a.v +ℤ pos 1)),
+    )))
 
 -- where a flat line has one column it has one row, and so the other way round
 flat_dot : (a b : Point) → is_flat a b ≡ true → a.h ≡ b.h → a.v ≡ b.v

@@ -332,9 +332,9 @@ same_depth w k = none (w *ℤ k) (k *ℤ w) (*ℤ_comm w k)
 pub right_ends : (a b : Point) → a.h <ℤ b.h → (rightward a b a ≡ true) × (rightward a b b ≡ true)
 right_ends a b less = (
   near_is a b a less (omega (arith, ints)) (omega (arith, ints))
-  ∙ on_way (b.h -ℤ a.h) (depth a b a) (omega (arith, ints)) (here (b.h -ℤ a.h) (a.v -ℤ a.v) (b.v -ℤ a.v) (a.h -ℤ a.h) (omega (arith, ints)) (omega (arith, ints))),
+      ∙ on_way (b.h -ℤ a.h) (depth a b a) (omega (arith, ints)) (here (b.h -ℤ a.h) (a.v -ℤ a.v) (b.v -ℤ a.v) (a.h -ℤ a.h) (omega (arith, ints)) (omega (arith, ints))),
   near_is a b b less (omega (arith, ints)) (omega (arith, ints))
-  ∙ on_way (b.h -ℤ a.h) (depth a b b) (omega (arith, ints)) (same_depth (b.h -ℤ a.h) (b.v -ℤ a.v)),
+      ∙ on_way (b.h -ℤ a.h) (depth a b b) (omega (arith, ints)) (same_depth (b.h -ℤ a.h) (b.v -ℤ a.v)),
 )
   where
     here : (w y k x : ℤ) → y ≡ pos 0 → x ≡ pos 0 → (w *ℤ y) -ℤ (k *ℤ x) ≡ pos 0

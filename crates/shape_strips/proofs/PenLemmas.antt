@@ -37,7 +37,7 @@ pub sized_fits : (pen : Pen) (p : Point) → has_size pen ≡ true → pen_fits 
     → ((p.h +ℤ pos pen.width) ≤ℤ pos 16383) × ((p.v +ℤ pos pen.height) ≤ℤ pos 16383)
 sized_fits pen p some e =
     let past = given (has_size pen) (int_le (p.h +ℤ pos pen.width) (pos 16383) && int_le (p.v +ℤ pos pen.height) (pos 16383)) some
-      (and_parts (in_plane p) (not (has_size pen) || (int_le (p.h +ℤ pos pen.width) (pos 16383) && int_le (p.v +ℤ pos pen.height) (pos 16383))) e).1 in
+    (and_parts (in_plane p) (not (has_size pen) || (int_le (p.h +ℤ pos pen.width) (pos 16383) && int_le (p.v +ℤ pos pen.height) (pos 16383))) e).1 in
     let both = and_parts (int_le (p.h +ℤ pos pen.width) (pos 16383)) (int_le (p.v +ℤ pos pen.height) (pos 16383)) past in
     (le_from (p.h +ℤ pos pen.width) (pos 16383) both.0, le_from (p.v +ℤ pos pen.height) (pos 16383) both.1)
 

@@ -24,15 +24,42 @@ fn is_line(from: Point, to: Point, pen: Pen) -> bool {
 
 /// The pens that draw each line.
 const PENS: [Pen; 9] = [
-    Pen { width: 1, height: 1 },
-    Pen { width: 1, height: 2 },
-    Pen { width: 1, height: 3 },
-    Pen { width: 2, height: 1 },
-    Pen { width: 2, height: 2 },
-    Pen { width: 2, height: 3 },
-    Pen { width: 3, height: 1 },
-    Pen { width: 3, height: 2 },
-    Pen { width: 3, height: 3 },
+    Pen {
+        width: 1,
+        height: 1,
+    },
+    Pen {
+        width: 1,
+        height: 2,
+    },
+    Pen {
+        width: 1,
+        height: 3,
+    },
+    Pen {
+        width: 2,
+        height: 1,
+    },
+    Pen {
+        width: 2,
+        height: 2,
+    },
+    Pen {
+        width: 2,
+        height: 3,
+    },
+    Pen {
+        width: 3,
+        height: 1,
+    },
+    Pen {
+        width: 3,
+        height: 2,
+    },
+    Pen {
+        width: 3,
+        height: 3,
+    },
 ];
 
 /// Whether all lines from a point to those of 9 by 9 pixels are, with each pen.
@@ -71,8 +98,26 @@ fn regions_of_lines_are_made_of_their_pixels(rt: HostRuntime) -> Result<(), Fail
     for h in 0..9 {
         for v in 0..9 {
             let to = Point { h, v };
-            assert!(rt; is_made(alloc, Line { from, to, pen: PENS[0] })?);
-            assert!(rt; is_made(alloc, Line { from, to, pen: PENS[5] })?);
+            assert!(rt;
+                is_made(
+                    alloc,
+                    Line {
+                        from,
+                        to,
+                        pen: PENS[0]
+                    }
+                )?
+            );
+            assert!(rt;
+                is_made(
+                    alloc,
+                    Line {
+                        from,
+                        to,
+                        pen: PENS[5]
+                    }
+                )?
+            );
         }
     }
     Ok(())
@@ -81,12 +126,28 @@ fn regions_of_lines_are_made_of_their_pixels(rt: HostRuntime) -> Result<(), Fail
 #[test]
 fn lines_reach_the_ends_of_the_range(rt: HostRuntime) -> Result<(), Fail> {
     let alloc = rt.alloc();
-    let (dot, none) = (PENS[0], Pen { width: 0, height: 1 });
+    let (dot, none) = (
+        PENS[0],
+        Pen {
+            width: 0,
+            height: 1,
+        },
+    );
     let line = line_region(alloc, point!(16382, 0), point!(-16384, 0), dot)?;
     assert!(rt; line.bbox() == rect!(-16384, 0, 16383, 1));
     let past = point!(16383, 0);
-    assert!(rt; matches!(line_region(alloc, past, point!(0, 0), dot), Err(Refusal::OutOfRange)));
-    assert!(rt; matches!(line_region(alloc, point!(0, 0), past, dot), Err(Refusal::OutOfRange)));
+    assert!(rt;
+        matches!(
+            line_region(alloc, past, point!(0, 0), dot),
+            Err(Refusal::OutOfRange)
+        )
+    );
+    assert!(rt;
+        matches!(
+            line_region(alloc, point!(0, 0), past, dot),
+            Err(Refusal::OutOfRange)
+        )
+    );
     assert!(rt; line_region(alloc, past, point!(0, 0), none)?.is_empty());
     Ok(())
 }

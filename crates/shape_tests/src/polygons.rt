@@ -32,7 +32,11 @@ fn is_band(from: Point, to: Point, right: i32) -> bool {
     if !from.is_in_range() || !to.is_in_range() || right < 0 || 14 < right {
         return false;
     }
-    are_rows(&BandStrip { from, to, right }, &Band { from, to, right }, SIDES)
+    are_rows(
+        &BandStrip { from, to, right },
+        &Band { from, to, right },
+        SIDES,
+    )
 }
 
 /// Whether those of all edges from a point within 9 by 9 pixels are.
@@ -95,7 +99,14 @@ fn polygons_are_made_of_their_pixels(rt: HostRuntime) -> Result<(), Fail> {
     let alloc = rt.alloc();
     let mut lot = Lot(1);
     for _ in 0..1500 {
-        let points = [lot.point(), lot.point(), lot.point(), lot.point(), lot.point(), lot.point()];
+        let points = [
+            lot.point(),
+            lot.point(),
+            lot.point(),
+            lot.point(),
+            lot.point(),
+            lot.point(),
+        ];
         assert!(rt; is_polygon(alloc, &points)?);
         assert!(rt; is_polygon(alloc, &points[..5])?);
         assert!(rt; is_polygon(alloc, &points[..4])?);
@@ -106,9 +117,18 @@ fn polygons_are_made_of_their_pixels(rt: HostRuntime) -> Result<(), Fail> {
 
 /// Pens that draw frames.
 const PENS: [Pen; 3] = [
-    Pen { width: 1, height: 1 },
-    Pen { width: 2, height: 1 },
-    Pen { width: 2, height: 3 },
+    Pen {
+        width: 1,
+        height: 1,
+    },
+    Pen {
+        width: 2,
+        height: 1,
+    },
+    Pen {
+        width: 2,
+        height: 3,
+    },
 ];
 
 #[test]
@@ -116,7 +136,14 @@ fn frames_of_polygons_are_made_of_their_pixels(rt: HostRuntime) -> Result<(), Fa
     let alloc = rt.alloc();
     let mut lot = Lot(2);
     for _ in 0..40 {
-        let points = [lot.point(), lot.point(), lot.point(), lot.point(), lot.point(), lot.point()];
+        let points = [
+            lot.point(),
+            lot.point(),
+            lot.point(),
+            lot.point(),
+            lot.point(),
+            lot.point(),
+        ];
         for pen in PENS {
             assert!(rt; is_frame(alloc, &points, pen)?);
             assert!(rt; is_frame(alloc, &points[..3], pen)?);
@@ -142,6 +169,11 @@ fn points_out_of_range_are_refused(rt: HostRuntime) -> Result<(), Fail> {
     let points = [point!(1, 2), point!(5, 16384), point!(3, 3)];
     let pen = PENS[0];
     assert!(rt; matches!(polygon_region(alloc, &points), Err(Refusal::OutOfRange)));
-    assert!(rt; matches!(frame_polygon_region(alloc, &points, pen), Err(Refusal::OutOfRange)));
+    assert!(rt;
+        matches!(
+            frame_polygon_region(alloc, &points, pen),
+            Err(Refusal::OutOfRange)
+        )
+    );
     Ok(())
 }

@@ -20,7 +20,10 @@ pub struct Line {
 /// Whether the pixel in column `x` and row `y` is the nearest one, in its column, to a line that goes `w` columns to
 /// the right and `k` rows down; of two that are as near, the lower one.
 fn is_nearest(w: i64, k: i64, x: i64, y: i64) -> bool {
-    let twice = w.wrapping_mul(y).wrapping_sub(k.wrapping_mul(x)).wrapping_mul(2);
+    let twice = w
+        .wrapping_mul(y)
+        .wrapping_sub(k.wrapping_mul(x))
+        .wrapping_mul(2);
     0 <= x && x <= w && w.wrapping_neg() < twice && twice <= w
 }
 
@@ -35,12 +38,22 @@ fn thin_has(from: Point, to: Point, h: i32, v: i32) -> bool {
         if 0 < w {
             is_nearest(w, k, x, y)
         } else {
-            is_nearest(w.wrapping_neg(), k.wrapping_neg(), far(to.h, h), far(to.v, v))
+            is_nearest(
+                w.wrapping_neg(),
+                k.wrapping_neg(),
+                far(to.h, h),
+                far(to.v, v),
+            )
         }
     } else if 0 < k {
         is_nearest(k, w, y, x)
     } else {
-        is_nearest(k.wrapping_neg(), w.wrapping_neg(), far(to.v, v), far(to.h, h))
+        is_nearest(
+            k.wrapping_neg(),
+            w.wrapping_neg(),
+            far(to.v, v),
+            far(to.h, h),
+        )
     }
 }
 
@@ -72,7 +85,11 @@ pub struct Polygon<'a>(pub &'a [Point]);
 /// Whether the way between two points, from above, passes the middle of the pixel's row at the pixel's centre or left
 /// of it.
 pub fn turns(from: Point, to: Point, h: i32, v: i32) -> bool {
-    let (upper, lower) = if from.v < to.v { (from, to) } else { (to, from) };
+    let (upper, lower) = if from.v < to.v {
+        (from, to)
+    } else {
+        (to, from)
+    };
     if v < upper.v || lower.v <= v {
         return false;
     }

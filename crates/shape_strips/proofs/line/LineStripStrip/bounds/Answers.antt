@@ -19,8 +19,8 @@ overflow_add-result c =
     let m : c.max.result ≡ int_max c.args.self.now.from.h c.args.self.now.to.h = search rules in
     let w : c.from.result ≡ pos c.args.self.now.pen.width = search rules in
     let sides = sides_of_line c.args.self.now.from c.args.self.now.to c.args.self.now.pen sized c.args.self.now.from_in c.args.self.now.to_in
-      (int_min c.args.self.now.from.h c.args.self.now.to.h) (int_min c.args.self.now.from.v c.args.self.now.to.v) (c.max.result +ℤ c.from.result) (int_max c.args.self.now.from.v c.args.self.now.to.v +ℤ pos c.args.self.now.pen.height)
-      refl refl (λ i. m i +ℤ w i) refl in
+    (int_min c.args.self.now.from.h c.args.self.now.to.h) (int_min c.args.self.now.from.v c.args.self.now.to.v) (c.max.result +ℤ c.from.result) (int_max c.args.self.now.from.v c.args.self.now.to.v +ℤ pos c.args.self.now.pen.height)
+    refl refl (λ i. m i +ℤ w i) refl in
     let right_low = sides.right_low in
     let right_high = sides.right_high in
     simp to_z-of_z (small_fits (c.max.result +ℤ c.from.result) right_low (omega (arith, ints)))
@@ -41,7 +41,7 @@ overflow_add-result-2 c =
     let w : c.from.result ≡ pos c.args.self.now.pen.width = search rules in
     let k : c.from-2.result ≡ pos c.args.self.now.pen.height = search rules in
     let sides = sides_of_line c.args.self.now.from c.args.self.now.to c.args.self.now.pen sized c.args.self.now.from_in c.args.self.now.to_in
-      c.min.result c.min-2.result (c.max.result +ℤ c.from.result) (c.max-2.result +ℤ c.from-2.result) l t (λ i. m i +ℤ w i) (λ i. n i +ℤ k i) in
+    c.min.result c.min-2.result (c.max.result +ℤ c.from.result) (c.max-2.result +ℤ c.from-2.result) l t (λ i. m i +ℤ w i) (λ i. n i +ℤ k i) in
     let right_low = sides.right_low in
     let right_high = sides.right_high in
     let bottom_low = sides.bottom_low in
@@ -66,7 +66,7 @@ returns-clause-in_range c =
     let w : c.from.result ≡ pos c.args.self.now.pen.width = search rules in
     let k : c.from-2.result ≡ pos c.args.self.now.pen.height = search rules in
     let sides = sides_of_line c.args.self.now.from c.args.self.now.to c.args.self.now.pen sized c.args.self.now.from_in c.args.self.now.to_in
-      c.min.result c.min-2.result (c.max.result +ℤ c.from.result) (c.max-2.result +ℤ c.from-2.result) l t (λ i. m i +ℤ w i) (λ i. n i +ℤ k i) in
+    c.min.result c.min-2.result (c.max.result +ℤ c.from.result) (c.max-2.result +ℤ c.from-2.result) l t (λ i. m i +ℤ w i) (λ i. n i +ℤ k i) in
     let right_low = sides.right_low in
     let right_high = sides.right_high in
     let bottom_low = sides.bottom_low in
@@ -91,7 +91,7 @@ returns-clause-around c =
     let w : c.from.result ≡ pos c.args.self.now.pen.width = search rules in
     let k : c.from-2.result ≡ pos c.args.self.now.pen.height = search rules in
     let sides = sides_of_line c.args.self.now.from c.args.self.now.to c.args.self.now.pen sized c.args.self.now.from_in c.args.self.now.to_in
-      c.min.result c.min-2.result (c.max.result +ℤ c.from.result) (c.max-2.result +ℤ c.from-2.result) l t (λ i. m i +ℤ w i) (λ i. n i +ℤ k i) in
+    c.min.result c.min-2.result (c.max.result +ℤ c.from.result) (c.max-2.result +ℤ c.from-2.result) l t (λ i. m i +ℤ w i) (λ i. n i +ℤ k i) in
     let right_low = sides.right_low in
     let right_high = sides.right_high in
     let bottom_low = sides.bottom_low in
