@@ -1,5 +1,6 @@
 //! Lines, row by row and as regions.
 
+use crate::regions::{EIGHT, shows};
 use crate::slow_lines::Line;
 use crate::strips::are_rows;
 use shape_region::line_region;
@@ -149,5 +150,23 @@ fn lines_reach_the_ends_of_the_range(rt: HostRuntime) -> Result<(), Fail> {
         )
     );
     assert!(rt; line_region(alloc, past, point!(0, 0), none)?.is_empty());
+    Ok(())
+}
+
+/// A line from the upper left corner of 8 by 8 pixels to the column 6 of the row 3, drawn by a pen of 1 by 1.
+const FLAT: &'static [u8] =
+    b"#.......\n.##.....\n...##...\n.....##.\n........\n........\n........\n........\n";
+
+/// A line from the column 1 of the row 0 to the column 4 of the row 5, drawn by a pen of 2 by 2.
+const STEEP: &'static [u8] =
+    b".##.....\n.###....\n..##....\n..###...\n...##...\n...###..\n....##..\n........\n";
+
+#[test]
+fn lines_are_drawn(rt: HostRuntime) -> Result<(), Fail> {
+    let alloc = rt.alloc();
+    let flat = line_region(alloc, point!(6, 3), point!(0, 0), PENS[0])?;
+    assert!(rt; shows(alloc, &flat, EIGHT, FLAT)?);
+    let steep = line_region(alloc, point!(1, 0), point!(4, 5), PENS[4])?;
+    assert!(rt; shows(alloc, &steep, EIGHT, STEEP)?);
     Ok(())
 }

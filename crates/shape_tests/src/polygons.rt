@@ -1,5 +1,6 @@
 //! Bands of edges row by row, and regions of polygons.
 
+use crate::regions::{EIGHT, shows};
 use crate::slow_lines::{Polygon, PolygonFrame, turns};
 use crate::strips::are_rows;
 use shape_region::{frame_polygon_region, polygon_region};
@@ -175,5 +176,24 @@ fn points_out_of_range_are_refused(rt: HostRuntime) -> Result<(), Fail> {
             Err(Refusal::OutOfRange)
         )
     );
+    Ok(())
+}
+
+/// The upper left half of 8 by 8 pixels, without its right border.
+const HALF: &'static [u8] =
+    b"#######.\n######..\n#####...\n####....\n###.....\n##......\n#.......\n........\n";
+
+/// The frame of a triangle, drawn by a pen of 1 by 1.
+const TRIANGLE: &'static [u8] =
+    b"##......\n#.####..\n.#....##\n.#....#.\n.#...#..\n.#..#...\n..##....\n..#.....\n";
+
+#[test]
+fn polygons_and_their_frames_are_drawn(rt: HostRuntime) -> Result<(), Fail> {
+    let alloc = rt.alloc();
+    let half = [point!(0, 0), point!(8, 0), point!(0, 8)];
+    assert!(rt; shows(alloc, &polygon_region(alloc, &half)?, EIGHT, HALF)?);
+    let corners = [point!(0, 0), point!(7, 2), point!(2, 7)];
+    let frame = frame_polygon_region(alloc, &corners, PENS[0])?;
+    assert!(rt; shows(alloc, &frame, EIGHT, TRIANGLE)?);
     Ok(())
 }
