@@ -1,4 +1,4 @@
-use Rattle.std.proofs.Common.{◌≡◌, ◌∙◌, ◌||◌, ◌<◌, ◌-◌, pos, length, take, drop, sym, ap, arith, rules}
+use Rattle.std.proofs.Common.{◌∙◌, ◌||◌, ◌<◌, ◌-◌, pos, length, take, drop, sym, ap, arith, rules}
 use Rattle.std.specs.List.{list_all}
 use Rattle.std.proofs.lemmas.Result.{IfOk-weaker}
 use Rattle.shape_strips.specs.Lines.{pen_fits}

@@ -1,4 +1,4 @@
-use Rattle.std.proofs.Common.{◌≡◌, ◌∙◌, ◌&&◌, ◌<◌, ◌++◌, ◌∷◌, ◌-◌, true, pos, length, take, drop, int_lt, sym, ap, arith, rules}
+use Rattle.std.proofs.Common.{◌∙◌, ◌&&◌, ◌<◌, ◌-◌, pos, length, take, drop, int_lt, sym, ap, arith, rules}
 use Rattle.std.specs.List.{list_all}
 use Rattle.std.proofs.lemmas.Result.{IfOk-weaker}
 use Rattle.tb_geom.specs.Rects.{in_plane}
