@@ -63,12 +63,12 @@ const PENS: [Pen; 9] = [
     },
 ];
 
-/// Whether all lines from a point to those of 9 by 9 pixels are, with each pen.
-fn are_lines(from: Point) -> bool {
+/// Whether all lines from a point to those of 9 by 9 pixels are, with each of these pens.
+fn are_lines(from: Point, pens: &[Pen]) -> bool {
     for h in 0..9 {
         for v in 0..9 {
-            for pen in PENS {
-                if !is_line(from, Point { h, v }, pen) {
+            for pen in pens {
+                if !is_line(from, Point { h, v }, *pen) {
                     return false;
                 }
             }
@@ -79,10 +79,20 @@ fn are_lines(from: Point) -> bool {
 
 #[test]
 fn every_line_within_nine_by_nine_is_its_runs(rt: HostRuntime) -> Result<(), Fail> {
-    assert!(rt; are_lines(point!(0, 0)));
-    assert!(rt; are_lines(point!(8, 0)));
-    assert!(rt; are_lines(point!(0, 8)));
-    assert!(rt; are_lines(point!(8, 8)));
+    for h in 0..9 {
+        for v in 0..9 {
+            assert!(rt; are_lines(Point { h, v }, &PENS[..1]));
+        }
+    }
+    Ok(())
+}
+
+#[test]
+fn lines_of_pens_up_to_three_by_three_are_their_runs(rt: HostRuntime) -> Result<(), Fail> {
+    assert!(rt; are_lines(point!(0, 0), &PENS));
+    assert!(rt; are_lines(point!(8, 0), &PENS));
+    assert!(rt; are_lines(point!(0, 8), &PENS));
+    assert!(rt; are_lines(point!(8, 8), &PENS));
     Ok(())
 }
 
