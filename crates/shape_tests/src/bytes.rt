@@ -40,6 +40,9 @@ fn are_bytes_of<R: Rows, P: Pixels>(
 /// Whether the bytes of a shape, of its frame and of the inside that this leaves are.
 fn are_told(alloc: Global, shape: Round, pen: Pen) -> Result<bool, Refusal> {
     let Round { rect, corner } = shape;
+    if !rect.is_in_range() {
+        return Ok(false);
+    }
     let framed = Framed { shape, pen };
     let sides = bordered(rect);
     let round = RoundStrip { rect, corner };

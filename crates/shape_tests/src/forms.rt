@@ -26,10 +26,13 @@ const SIZES: u16 = 10;
 
 /// Whether a form is in range, and made of the pixels that a slow program gives, as a region and as bytes.
 fn is_made<P: Pixels>(alloc: Global, form: FormRef, of: &P, sides: Rect) -> Result<bool, Refusal> {
+    if !form.is_near() {
+        return Ok(false);
+    }
     let region = form.to_region(alloc)?;
     let bytes = form.to_bytes(alloc)?;
     let told = Told(RegionBytes::read(bytes.as_slice())?);
-    Ok(form.is_near() && is_region_of(alloc, &region, of, sides)? && are_alike(&told, of, sides))
+    Ok(is_region_of(alloc, &region, of, sides)? && are_alike(&told, of, sides))
 }
 
 /// Whether a painted form, and the same form framed, are.
