@@ -7,3 +7,4 @@ pub mod WrittenLemmas
 pub mod ColumnLemmas
 pub mod ChangeLemmas
 pub mod BoxLemmas
+pub mod PolygonLemmas
