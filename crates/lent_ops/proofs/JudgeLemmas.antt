@@ -5,7 +5,7 @@ use Rattle.lent_ops.specs.OpRefs.{has_rows, is_shape_in_range, region_of, HasFor
 use Rattle.lent_ops.specs.declared.op_ref.OpRef.{OpRef}
 
 -- the bytes of a region have its form, whether its coordinates are in range or not
-formed : (given : Option (List ℕ)) (good : Bool) → Stands given good → IfSome given HasForm
+pub formed : (given : Option (List ℕ)) (good : Bool) → Stands given good → IfSome given HasForm
 formed None good s = tt
 formed (Some bytes) true s = (s.1.rows, region_form bytes s.0 s.1)
 formed (Some bytes) false s = (s.0, s.1)

@@ -1,14 +1,14 @@
 -- Regions that calls ask for: their pixels, and why they are refused.
-use Rattle.std.specs.Prelude.{◌≡◌, ◌⊎◌, ℕ, ℤ, Bool, true, false, ◌&&◌, pos, negsuc, int_le, List}
+use Rattle.std.specs.Prelude.{◌≡◌, ◌⊎◌, ℕ, Bool, true, false, ◌&&◌, List}
 use Rattle.tb_geom.specs.declared.point.Point.{Point}
 use Rattle.tb_geom.specs.declared.refusal.Refusal.{Refusal}
 use Rattle.tb_geom.specs.declared.refusal.Refusal.TheVariants.{BadRegion, OutOfRange}
-use Rattle.tb_geom.specs.Points.{PixelSet, minus}
+use Rattle.tb_geom.specs.Points.{PixelSet}
 use Rattle.tb_geom.specs.Pixels.{holds}
 use Rattle.tb_geom.specs.Rects.{is_coordinate}
 use Rattle.region_bytes.specs.Text.{pixels_of}
-use Rattle.region_rows.specs.Moves.{StaysInRange, LeavesRange}
-use Rattle.shape_region.specs.Combined.{combined}
+use Rattle.scan_region.specs.Moves.{StaysInRange}
+use Rattle.shape_region.specs.Combined.{combined, moved}
 use Rattle.lent_ops.specs.declared.region_ref.Distance.{Distance}
 use Rattle.lent_ops.specs.declared.region_ref.RegionRef.{RegionRef}
 use Rattle.lent_ops.specs.declared.region_ref.RegionRef.TheVariants.{Form, Rgn, Offset, Combined}
@@ -27,7 +27,7 @@ way d = record { h = d.dh; v = d.dv }
 abbrev pub asked_holds : RegionRef → PixelSet
 asked_holds (Form f) = form_holds f
 asked_holds (Rgn bytes) = said_holds bytes
-asked_holds (Offset bytes d) = λ p. said_holds bytes (minus p (way d))
+asked_holds (Offset bytes d) = moved (said_holds bytes) (way d)
 asked_holds (Combined how a b) = combined how (said_holds a) (said_holds b)
 
 -- the bytes of each region that it is made of are as P says
@@ -48,18 +48,22 @@ SomeMade P (Combined how a b) = P a ⊎ P b
 abbrev pub is_distance : Distance → Bool
 is_distance d = is_coordinate d.dh && is_coordinate d.dv
 
+-- the region of these bytes may be moved so far, and stays in range
+abbrev pub IsMoved : List ℕ → Distance → Type 0
+IsMoved bytes d = (is_distance d ≡ true) × StaysInRange (pixels_of bytes) (way d)
+
 -- its own numbers lie in their ranges, and a region that is moved stays in range
 abbrev pub IsNear : RegionRef → Type 0
 IsNear (Form f) = is_form_in_range f ≡ true
 IsNear (Rgn bytes) = Unit {0}
-IsNear (Offset bytes d) = (is_distance d ≡ true) × StaysInRange (pixels_of bytes) (way d)
+IsNear (Offset bytes d) = IsMoved bytes d
 IsNear (Combined how a b) = Unit {0}
 
 -- they do not, or it does not
 abbrev pub IsAway : RegionRef → Type 0
 IsAway (Form f) = is_form_in_range f ≡ false
 IsAway (Rgn bytes) = ⊥
-IsAway (Offset bytes d) = (is_distance d ≡ false) ⊎ (IsRegion bytes × LeavesRange (pixels_of bytes) (way d))
+IsAway (Offset bytes d) = IsMoved bytes d → ⊥
 IsAway (Combined how a b) = ⊥
 
 -- nothing is wrong with it

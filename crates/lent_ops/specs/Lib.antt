@@ -2,3 +2,4 @@
 pub mod OpRefs
 pub mod Forms
 pub mod Judged
+pub mod Asked

@@ -1,20 +1,16 @@
 //! Regions that calls ask for: why they are refused, and their bytes.
-ghost use Rattle.std.specs.Prelude.{◌≡◌, ◌×◌, ◌⊎◌, true, false, MatchResult};
+ghost use Rattle.std.specs.Prelude.{◌≡◌, ◌⊎◌, ◌↔◌, true, false, IfOk, IsTrue, MatchResult};
 ghost use Rattle.region_bytes.specs.Text.{pixels_of};
-ghost use Rattle.region_rows.specs.Moves.{LeavesRange, StaysInRange};
 ghost use Rattle.shape_region.specs.Told.{AreRegionBytes, IsNotTold};
-ghost use Rattle.lent_ops.specs.Asked.{asked_holds, is_distance, said_holds, way, IsGoodRegion, IsMoved, IsRegionRefused};
-ghost use Rattle.lent_ops.specs.OpRefs.{IsRegion};
+ghost use Rattle.lent_ops.specs.Asked.{asked_holds, is_distance, IsGoodRegion, IsMoved, IsRegionRefused};
+ghost use Rattle.lent_ops.specs.OpRefs.{HasForm, IsFormOutOfRange, IsRegion};
 
 use crate::judging::is_in_range;
 use crate::region_ref::{Distance, RegionRef};
 use region_bytes::RegionBytes;
-use shape_region::{combined_bytes, moved_bytes};
-use std::alloc::Global;
+use shape_region::{can_move, combined_bytes, moved_bytes};
+use std::alloc::{AllocError, Global};
 use tb_geom::{BytesRef, Refusal};
-
-/// The longest distance to the left or up, and to the right or down.
-const FURTHEST: (i32, i32) = (-16384, 16383);
 
 impl RegionRef<'_> {
     /// Judges the region without memory. The refusal is the first of these that applies: BadRegion where bytes have not the
@@ -23,20 +19,11 @@ impl RegionRef<'_> {
     pub fn judge(&self) -> Result<(), Refusal>
         ensures { MatchResult result (λ _. IsGoodRegion self.now) (IsRegionRefused self.now) }
     {
-        let is_near = match self {
-            RegionRef::Form(form) => form.is_near(),
-            RegionRef::Rgn(bytes) => is_in_range(bytes)?,
-            RegionRef::Offset(bytes, distance) => is_in_range(bytes)? && may_move(bytes, *distance),
-            RegionRef::Combined(_, first, second) => {
-                let first = is_in_range(first)?;
-                let second = is_in_range(second)?;
-                first && second
-            }
-        };
-        if is_near {
-            Ok(())
-        } else {
-            Err(Refusal::OutOfRange)
+        match self {
+            RegionRef::Form(form) => in_range(form.is_near()),
+            RegionRef::Rgn(bytes) => in_range(is_in_range(bytes)?),
+            RegionRef::Offset(bytes, distance) => judge_moved(bytes, *distance),
+            RegionRef::Combined(_, first, second) => judge_both(first, second),
         }
     }
 
@@ -51,7 +38,7 @@ impl RegionRef<'_> {
         self.judge()?;
         match self {
             RegionRef::Form(form) => form.to_bytes(alloc),
-            RegionRef::Rgn(bytes) => moved_bytes(alloc, &read(bytes), 0, 0),
+            RegionRef::Rgn(bytes) => Ok(copied(alloc, bytes.as_slice())?),
             RegionRef::Offset(bytes, distance) => {
                 moved_bytes(alloc, &read(bytes), distance.dh, distance.dv)
             }
@@ -60,6 +47,50 @@ impl RegionRef<'_> {
             }
         }
     }
+}
+
+/// The bytes once more.
+fn copied(alloc: Global, bytes: &[u8]) -> Result<Vec<u8>, AllocError>
+    ensures { IfOk result (λ copy. copy.items ≡ bytes.now) }
+{
+    let mut copy = Vec::with_capacity(alloc, bytes.len())?;
+    copy.extend_from_slice(bytes)?;
+    Ok(copy)
+}
+
+/// OutOfRange where it is not.
+fn in_range(is_in_range: bool) -> Result<(), Refusal>
+    ensures { MatchResult result (λ _. is_in_range ≡ true) (λ e. (e ≡ Refusal.OutOfRange) × (is_in_range ≡ false)) }
+{
+    if is_in_range {
+        Ok(())
+    } else {
+        Err(Refusal::OutOfRange)
+    }
+}
+
+/// Judges the bytes of a region and how far it is moved.
+fn judge_moved(bytes: &BytesRef, distance: Distance) -> Result<(), Refusal>
+    ensures { MatchResult result (λ _. IsRegion bytes.now × IsMoved bytes.now distance)
+        (λ e. ((e ≡ Refusal.BadRegion) × (HasForm bytes.now → ⊥))
+        ⊎ ((e ≡ Refusal.OutOfRange) × (IsFormOutOfRange bytes.now ⊎ (IsRegion bytes.now × (IsMoved bytes.now distance → ⊥))))) }
+{
+    if !is_in_range(bytes)? {
+        return Err(Refusal::OutOfRange);
+    }
+    in_range(may_move(bytes, distance))
+}
+
+/// Judges the bytes of two regions.
+fn judge_both(first: &BytesRef, second: &BytesRef) -> Result<(), Refusal>
+    ensures { MatchResult result (λ _. IsRegion first.now × IsRegion second.now)
+        (λ e. ((e ≡ Refusal.BadRegion) × ((HasForm first.now → ⊥) ⊎ (HasForm second.now → ⊥)))
+        ⊎ ((e ≡ Refusal.OutOfRange) × ((HasForm first.now × HasForm second.now)
+        × (IsFormOutOfRange first.now ⊎ IsFormOutOfRange second.now)))) }
+{
+    let is_first_in_range = is_in_range(first)?;
+    let is_second_in_range = is_in_range(second)?;
+    in_range(is_first_in_range && is_second_in_range)
 }
 
 /// The region of bytes that were judged.
@@ -73,15 +104,14 @@ fn read<'a>(bytes: &BytesRef<'a>) -> RegionBytes<'a>
     }
 }
 
-/// Whether a region of these bytes, which are in range, may be moved so far: both numbers lie in -16384..=16383, and each
-/// moved pixel in -16384..=16382.
+/// Whether a region of these bytes may be moved so far: both numbers lie in -16384..=16383, and each moved pixel in
+/// -16384..=16382.
 fn may_move(bytes: &BytesRef, distance: Distance) -> bool
     requires { IsRegion bytes.now }
-    ensures moves { result ≡ true → IsMoved bytes.now distance }
-    ensures stays { result ≡ false → IsUnmoved bytes.now distance }
+    ensures { IsTrue result ↔ IsMoved bytes.now distance }
 {
     let Distance { dh, dv } = distance;
-    distance.is_near() && read(bytes).bbox().offset(dh, dv).is_ok()
+    distance.is_near() && can_move(&read(bytes), dh, dv)
 }
 
 impl Distance {
@@ -89,7 +119,6 @@ impl Distance {
     fn is_near(self) -> bool
         ensures { result ≡ is_distance self }
     {
-        let (least, most) = FURTHEST;
-        (least <= self.dh && self.dh <= most) && (least <= self.dv && self.dv <= most)
+        (-16384 <= self.dh && self.dh <= 16383) && (-16384 <= self.dv && self.dv <= 16383)
     }
 }

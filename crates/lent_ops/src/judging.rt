@@ -40,7 +40,7 @@ impl OpRef<'_> {
 
 /// Whether the bytes of a region say coordinates in range alone. BadRegion where they have not the
 /// form of a region's.
-fn is_in_range(bytes: &BytesRef) -> Result<bool, Refusal>
+pub(crate) fn is_in_range(bytes: &BytesRef) -> Result<bool, Refusal>
     ensures { MatchResult result
         (Stands (Some bytes.now))
         (λ e. (e ≡ Refusal.BadRegion) × (HasForm bytes.now → ⊥)) }
