@@ -7,7 +7,7 @@ ghost use Rattle.region_rows.specs.Edges.{differ};
 
 use tb_geom::{FIRST_SIDE, LAST_SIDE};
 
-/// A set of columns in -16384..=16383, of which a row may have 32768.
+/// A set of columns in -16384..=16383.
 #[derive(Clone, Copy)]
 pub struct Columns {
     /// Their bits, from the column -16384 on.

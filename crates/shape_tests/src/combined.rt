@@ -156,6 +156,41 @@ fn push(bytes: &mut Vec<u8>, word: u16) -> Result<(), AllocError> {
     bytes.extend_from_slice(&word.to_be_bytes())
 }
 
+/// The bytes of no pixel.
+const NOTHING: [u8; 10] = [0, 10, 0, 0, 0, 0, 0, 0, 0, 0];
+
+/// The bytes of words.
+fn bytes_of(alloc: Global, words: &[u16]) -> Result<Vec<u8>, AllocError> {
+    let mut bytes = Vec::new(alloc);
+    for word in words {
+        push(&mut bytes, *word)?;
+    }
+    Ok(bytes)
+}
+
+/// The words of the first pixel of the range, of the last one, and of both.
+const FIRST: [u16; 5] = [10, 0xC000, 0xC000, 0xC001, 0xC001];
+
+const LAST: [u16; 5] = [10, 0x3FFE, 0x3FFE, 0x3FFF, 0x3FFF];
+
+const BOTH: [u16; 22] = [
+    44, 0xC000, 0xC000, 0x3FFF, 0x3FFF, 0xC000, 0xC000, 0xC001, 0x7FFF, 0xC001, 0xC000, 0xC001,
+    0x7FFF, 0x3FFE, 0x3FFE, 0x3FFF, 0x7FFF, 0x3FFF, 0x3FFE, 0x3FFF, 0x7FFF, 0x7FFF,
+];
+
+#[test]
+fn pixels_at_both_ends_of_the_range_are_joined(rt: HostRuntime) -> Result<(), Fail> {
+    let alloc = rt.alloc();
+    let (upper, lower) = (bytes_of(alloc, &FIRST)?, bytes_of(alloc, &LAST)?);
+    let first = RegionBytes::read(upper.as_slice())?;
+    let last = RegionBytes::read(lower.as_slice())?;
+    let both = combined_bytes(alloc, Combination::Union, &first, &last)?;
+    assert!(rt; both.as_slice() == bytes_of(alloc, &BOTH)?.as_slice());
+    let none = combined_bytes(alloc, Combination::Sect, &first, &last)?;
+    assert!(rt; none.as_slice() == NOTHING.as_slice());
+    Ok(())
+}
+
 /// How many pixels a comb has.
 const TEETH: u16 = 4000;
 
@@ -170,19 +205,13 @@ fn push_row(bytes: &mut Vec<u8>, v: u16) -> Result<(), AllocError> {
 
 /// The bytes of a comb: each other pixel of a row.
 fn comb(alloc: Global, v: u16) -> Result<Vec<u8>, AllocError> {
-    let mut bytes = Vec::new(alloc);
     let last = TEETH.wrapping_mul(2).wrapping_sub(1);
-    for word in [32020, v, 0, v.wrapping_add(1), last] {
-        push(&mut bytes, word)?;
-    }
+    let mut bytes = bytes_of(alloc, &[32020, v, 0, v.wrapping_add(1), last])?;
     push_row(&mut bytes, v)?;
     push_row(&mut bytes, v.wrapping_add(1))?;
     push(&mut bytes, 0x7FFF)?;
     Ok(bytes)
 }
-
-/// The bytes of no pixel.
-const NOTHING: [u8; 10] = [0, 10, 0, 0, 0, 0, 0, 0, 0, 0];
 
 #[test]
 fn two_combs_are_too_long_together(rt: HostRuntime) -> Result<(), Fail> {
