@@ -1,14 +1,12 @@
 -- Regions that calls ask for: judged, and told.
-use Rattle.std.proofs.Common.{◌≡◌, ◌⊎◌, inl, inr, ℕ, Bool, true, false, ◌&&◌, List, Some, refl, sym}
-use Rattle.tb_geom.specs.declared.point.Point.{Point}
+use Rattle.std.proofs.Common.{◌≡◌, ◌⊎◌, inl, inr, ℕ, Bool, true, false, ◌&&◌, List, Some, refl, sym, subst}
 use Rattle.tb_geom.specs.declared.refusal.Refusal.{Refusal}
 use Rattle.tb_geom.specs.declared.refusal.Refusal.TheVariants.{NoMemory}
-use Rattle.tb_geom.specs.Points.{PixelSet}
-use Rattle.tb_geom.specs.Pixels.{Pixels, holds}
 use Rattle.region_bytes.specs.Bytes.{IsRegionBytes}
 use Rattle.region_bytes.specs.Text.{pixels_of}
 use Rattle.shape_region.specs.Told.{AreRegionBytes, IsNotTold}
-use Rattle.lent_ops.specs.Asked.{said_holds}
+use Rattle.lent_ops.specs.declared.region_ref.RegionRef.{RegionRef}
+use Rattle.lent_ops.specs.Asked.{IsGoodRegion, IsRegionRefused, asked_holds, said_holds}
 use Rattle.lent_ops.specs.OpRefs.{HasForm, IsFormOutOfRange, IsRegion, Stands}
 use Rattle.lent_ops.proofs.JudgeLemmas.{formed}
 use Rattle.lent_ops.proofs.SaidPixels.{region_is}
@@ -35,3 +33,17 @@ are_told bytes copy r same = rw same (pixels_of bytes, (λ p. refl), told_itself
 -- and they are not too long
 pub want_of_memory : (bytes : List ℕ) (e : Refusal) → IsRegion bytes → e ≡ NoMemory → IsNotTold (said_holds bytes) e
 want_of_memory bytes e r is = inr (is, (pixels_of bytes, (λ p. refl), (bytes, told_itself bytes r)))
+
+-- ---- a region that is good is told, or refused for its size or for want of memory
+
+abbrev pub IsTold : RegionRef → List ℕ → Type 0
+IsTold r bytes = IsGoodRegion r × AreRegionBytes (asked_holds r) bytes
+
+abbrev pub IsUntold : RegionRef → Refusal → Type 0
+IsUntold r e = IsRegionRefused r e ⊎ (IsGoodRegion r × IsNotTold (asked_holds r) e)
+
+pub told_of : (r q : RegionRef) (bytes : List ℕ) → r ≡ q → IsGoodRegion r → AreRegionBytes (asked_holds q) bytes → IsTold r bytes
+told_of r q bytes is good told = (good, subst (λ x. AreRegionBytes (asked_holds x) bytes) (sym is) told)
+
+pub untold_of : (r q : RegionRef) (e : Refusal) → r ≡ q → IsGoodRegion r → IsNotTold (asked_holds q) e → IsUntold r e
+untold_of r q e is good why = inr (good, subst (λ x. IsNotTold (asked_holds x) e) (sym is) why)

@@ -1,5 +1,5 @@
 //! Regions that calls ask for: why they are refused, and their bytes.
-ghost use Rattle.std.specs.Prelude.{◌≡◌, ◌⊎◌, ◌↔◌, true, false, IfOk, IsTrue, MatchResult};
+ghost use Rattle.std.specs.Prelude.{◌≡◌, ◌⊎◌, ◌↔◌, true, false, IsTrue, MatchResult};
 ghost use Rattle.region_bytes.specs.Text.{pixels_of};
 ghost use Rattle.shape_region.specs.Told.{AreRegionBytes, IsNotTold};
 ghost use Rattle.lent_ops.specs.Asked.{asked_holds, is_distance, IsGoodRegion, IsMoved, IsRegionRefused};
@@ -9,7 +9,7 @@ use crate::judging::is_in_range;
 use crate::region_ref::{Distance, RegionRef};
 use region_bytes::RegionBytes;
 use shape_region::{can_move, combined_bytes, moved_bytes};
-use std::alloc::{AllocError, Global};
+use std::alloc::Global;
 use tb_geom::{BytesRef, Refusal};
 
 impl RegionRef<'_> {
@@ -38,7 +38,7 @@ impl RegionRef<'_> {
         self.judge()?;
         match self {
             RegionRef::Form(form) => form.to_bytes(alloc),
-            RegionRef::Rgn(bytes) => Ok(copied(alloc, bytes.as_slice())?),
+            RegionRef::Rgn(bytes) => copied(alloc, bytes.as_slice()),
             RegionRef::Offset(bytes, distance) => {
                 moved_bytes(alloc, &read(bytes), distance.dh, distance.dv)
             }
@@ -50,8 +50,8 @@ impl RegionRef<'_> {
 }
 
 /// The bytes once more.
-fn copied(alloc: Global, bytes: &[u8]) -> Result<Vec<u8>, AllocError>
-    ensures { IfOk result (λ copy. copy.items ≡ bytes.now) }
+fn copied(alloc: Global, bytes: &[u8]) -> Result<Vec<u8>, Refusal>
+    ensures { MatchResult result (λ copy. copy.items ≡ bytes.now) (λ e. e ≡ Refusal.NoMemory) }
 {
     let mut copy = Vec::with_capacity(alloc, bytes.len())?;
     copy.extend_from_slice(bytes)?;
@@ -88,9 +88,9 @@ fn judge_both(first: &BytesRef, second: &BytesRef) -> Result<(), Refusal>
         ⊎ ((e ≡ Refusal.OutOfRange) × ((HasForm first.now × HasForm second.now)
         × (IsFormOutOfRange first.now ⊎ IsFormOutOfRange second.now)))) }
 {
-    let is_first_in_range = is_in_range(first)?;
-    let is_second_in_range = is_in_range(second)?;
-    in_range(is_first_in_range && is_second_in_range)
+    let first = is_in_range(first)?;
+    let second = is_in_range(second)?;
+    in_range(first & second)
 }
 
 /// The region of bytes that were judged.
