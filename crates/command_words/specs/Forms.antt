@@ -1,13 +1,12 @@
 -- The words of forms, which are shapes that are painted or framed: a name, and numbers.
-use Rattle.std.specs.Prelude.{ℕ, List, [], ◌∷◌, Option, Some, None, Ok, codes}
+use Rattle.std.specs.Prelude.{ℕ, List, [], ◌∷◌, Option, Ok, codes}
 use Rattle.lent_ops.specs.declared.form_ref.CornerRef.{CornerRef}
 use Rattle.lent_ops.specs.declared.form_ref.FormRef.{FormRef}
 use Rattle.lent_ops.specs.declared.form_ref.FormRef.TheVariants.{Rect, Round, Oval, FrameRect, FrameRound, FrameOval}
 use Rattle.lent_ops.specs.declared.form_ref.PenRef.{PenRef}
 use Rattle.tb_geom.specs.declared.rect.Rect.{Rect as Sides}
 use Rattle.line_words.specs.Words.{◌>>=◌, Field, number_at, rect_at}
-use Rattle.line_words.specs.Shapes.{Shape, says, never, number, name, rect}
-use Rattle.line_words.specs.Tables.{named}
+use Rattle.line_words.specs.Shapes.{Shape, number, rect}
 use Rattle.command_words.specs.declared.forms.FormWord.{FormWord}
 use Rattle.command_words.specs.declared.forms.FormWord.TheVariants as words
 
@@ -37,19 +36,6 @@ drawn_forms =
     ∷ (codes "fround", words.FrameRound)
     ∷ (codes "foval", words.FrameOval)
     ∷ []
-
--- and in `region`
-abbrev pub asked_forms : List (List ℕ × FormWord)
-asked_forms = (codes "rect", words.Rect) ∷ drawn_forms
-
--- the words that follow a name, if a form has it, and no more
-abbrev pub named_form_shape : Option FormWord → Shape FormRef
-named_form_shape None = never
-named_form_shape (Some word) = form_shape word says
-
--- FORM
-unfoldable pub asked_shape : Shape FormRef
-asked_shape = name (λ word. named_form_shape (named word asked_forms))
 
 -- two words that are the size of a corner
 abbrev pub corner_at : Option (List ℕ) → Field CornerRef

@@ -16,3 +16,4 @@ pub mod UpdateWords
 pub mod Verbs
 pub mod WindowLines
 pub mod WindowWords
+pub mod Asked

@@ -1,13 +1,11 @@
 //! The words of forms: shapes that are painted or framed.
 ghost use Rattle.std.specs.Prelude.{◌≡◌};
-ghost use Rattle.line_words.specs.Shapes.{reading, says};
 ghost use Rattle.line_words.specs.Tables.{named};
-ghost use Rattle.command_words.specs.Forms.{corner_at, pen_at, form_in, form_at, form_shape, drawn_forms};
-ghost use Rattle.command_words.specs.Forms.{asked_forms, named_form_shape, asked_shape};
+ghost use Rattle.command_words.specs.Forms.{corner_at, pen_at, form_in, form_at, drawn_forms};
 
 use lent_ops::{CornerRef, FormRef, PenRef};
 use line_words::{Words, named};
-use tb_geom::{BytesRef, Rect, Refusal};
+use tb_geom::{Rect, Refusal};
 
 /// The name of a form. It says which words follow.
 #[derive(Clone, Copy, Debug, PartialEq, Eq)]
@@ -34,46 +32,6 @@ pub fn drawn_form_of(word: &[u8]) -> Option<FormWord>
     ensures { result ≡ named word.now drawn_forms }
 {
     named(&DRAWN_FORMS, word)
-}
-
-/// The form with this name in `region`, where a rectangle has one too.
-pub fn asked_form_of(word: &[u8]) -> Option<FormWord>
-    ensures { result ≡ named word.now asked_forms }
-{
-    if word == b"rect".as_slice() {
-        Some(FormWord::Rect)
-    } else {
-        drawn_form_of(word)
-    }
-}
-
-/// The words after `region`: the name of a form and its numbers, and nothing after them.
-#[tactic(auto, unfolding(crate::specs::Forms::asked_shape))]
-pub fn asked_form(words: Words<'_>) -> Result<FormRef, Refusal>
-    ensures { result ≡ reading asked_shape words.entry }
-{
-    let (name, words) = words.name()?;
-    named_form(&name, words)
-}
-
-/// The words after the name of a form in `region`.
-fn named_form(name: &BytesRef<'_>, words: Words<'_>) -> Result<FormRef, Refusal>
-    ensures { result ≡ reading (named_form_shape (named name.now asked_forms)) words.entry }
-{
-    match asked_form_of(name.as_slice()) {
-        None => Err(Refusal::BadSyntax),
-        Some(word) => last_form(word, words),
-    }
-}
-
-/// The numbers of a form, and nothing after them.
-#[tactic(auto, using(crate::proofs::FormLemmas::form_then))]
-fn last_form(word: FormWord, words: Words<'_>) -> Result<FormRef, Refusal>
-    ensures { result ≡ reading (form_shape word says) words.entry }
-{
-    let (form, words) = word.form(words)?;
-    words.end()?;
-    Ok(form)
 }
 
 impl FormWord {

@@ -14,6 +14,7 @@
 //! window, a control or a list, and no region.
 #![tactic(auto)]
 
+mod asked;
 mod control_lines;
 mod controls;
 mod drawing;

@@ -24,3 +24,4 @@ mod region_ref;
 pub use form_ref::{CornerRef, FormRef, PenRef};
 pub use op_ref::{BitsRef, LineRef, OpRef, ShapeRef, TextRef};
 pub use region_ref::{Distance, RegionRef};
+pub use shape_region::Combination;

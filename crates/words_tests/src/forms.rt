@@ -2,7 +2,7 @@
 
 use command_words::{Verb, verb_of};
 use desk_call::WindowCall;
-use lent_ops::{CornerRef, FormRef, PenRef, ShapeRef};
+use lent_ops::{CornerRef, FormRef, PenRef, RegionRef, ShapeRef};
 use line_words::Words;
 use tb_geom::{Rect, Refusal};
 
@@ -44,7 +44,7 @@ fn numbers(form: &FormRef) -> (u8, Rect, [i32; 2], [i32; 2]) {
 /// The form whose region a line asks for, or the form that it draws, in a script of this version.
 fn form_of(version: i32, line: &[u8]) -> Option<(u8, Rect, [i32; 2], [i32; 2])> {
     match asked(version, &mut [0; 100], line).ok()? {
-        WindowCall::Region(form) => Some(numbers(&form)),
+        WindowCall::Region(RegionRef::Form(form)) => Some(numbers(&form)),
         WindowCall::Draw(drawing) => match drawing.operation.shape {
             ShapeRef::Form(form, _) => Some(numbers(&form)),
             _ => None,
