@@ -2,7 +2,7 @@
 ghost use Rattle.std.specs.Prelude.{◌≡◌};
 ghost use Rattle.line_words.specs.Shapes.{reading, says};
 ghost use Rattle.line_words.specs.Tables.{named};
-ghost use Rattle.command_words.specs.Asked.{asked_shape, asked_words, both_shape, named_shape, offset_shape, rgn_shape, word_shape};
+ghost use Rattle.command_words.specs.Asked.{asked_shape, asked_words, both_shape, form_words, named_shape, offset_shape, rgn_shape, word_shape};
 ghost use Rattle.command_words.specs.Forms.{form_shape};
 
 use crate::forms::{FormWord, drawn_form_of};
@@ -36,8 +36,15 @@ pub fn asked_word_of(word: &[u8]) -> Option<AskedWord>
 {
     match named(&ASKED_WORDS, word) {
         Some(asked) => Some(asked),
-        None => drawn_form_of(word).map(AskedWord::Form),
+        None => form_word_of(word),
     }
+}
+
+/// The same of a form that is drawn too.
+fn form_word_of(word: &[u8]) -> Option<AskedWord>
+    ensures { result ≡ named word.now form_words }
+{
+    drawn_form_of(word).map(AskedWord::Form)
 }
 
 /// The words after `region`: a name, what is asked for by it, and nothing after that.
