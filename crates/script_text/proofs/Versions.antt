@@ -20,7 +20,8 @@ use Rattle.command_words.specs.declared.windows.WindowVerb.TheVariants as window
 use Rattle.command_words.specs.ControlWords.{control_shape}
 use Rattle.command_words.specs.Drawings.{shade_shape, shaded_rect_shape, line_shape, run_shape, bits_shape, region_shape, operations, operations_of, operation_shape, clipped_shape, clip_shape, drawing_shape}
 use Rattle.command_words.specs.EventWords.{event_shape}
-use Rattle.command_words.specs.Forms.{drawn_forms, form_shape, asked_shape}
+use Rattle.command_words.specs.Asked.{asked_shape}
+use Rattle.command_words.specs.Forms.{drawn_forms, form_shape}
 use Rattle.command_words.specs.FrameWords.{frame_shape}
 use Rattle.command_words.specs.ListWords.{list_shape}
 use Rattle.command_words.specs.MenuWords.{menu_shape}
