@@ -1,5 +1,6 @@
 -- The pixels of forms, and their bytes.
-use Rattle.std.proofs.Common.{◌≡◌, inl, inr, ℕ, Bool, true, false, ◌&&◌, List, sym, ◌∙◌, arith}
+use Rattle.std.proofs.Common.{◌≡◌, inl, inr, ℕ, ℤ, pos, ◌+ℤ◌, Bool, true, false, ◌&&◌, if◌then◌else◌, List, refl, sym, ◌∙◌, arith}
+use Rattle.std.specs.Int.{int_min, int_max}
 use Rattle.std.proofs.lemmas.Bool.{and_parts, and_right, cases_Bool}
 use Rattle.std.proofs.lemmas.Int.{ints}
 use Rattle.tb_geom.specs.declared.point.Point.{Point}
@@ -7,16 +8,20 @@ use Rattle.tb_geom.specs.declared.rect.Rect as rect
 use Rattle.tb_geom.specs.declared.refusal.Refusal.{Refusal}
 use Rattle.tb_geom.specs.Points.{PixelSet}
 use Rattle.tb_geom.specs.Pixels.{Pixels, holds}
-use Rattle.tb_geom.specs.Rects.{in_plane, is_in_range, rect_holds}
+use Rattle.tb_geom.specs.Rects.{empty_rect, in_plane, is_in_range, rect_holds}
 use Rattle.tb_geom.proofs.PixelsLemmas.{same_holds, test_holds}
 use Rattle.tb_geom.proofs.RectLemmas.{sides_of}
+use Rattle.shape_strips.specs.declared.pen.Pen.{Pen}
+use Rattle.shape_strips.specs.Frames.{has_size}
+use Rattle.shape_strips.specs.Lines.{line_holds, pen_fits}
 use Rattle.shape_strips.specs.Rounds.{no_corner, oval_corner}
-use Rattle.shape_strips.proofs.RangeLemmas.{coordinate_from, sides_in}
+use Rattle.shape_strips.proofs.PenLemmas.{line_none, line_outside, sides_of_line}
+use Rattle.shape_strips.proofs.RangeLemmas.{coordinate_from, in_range_from, sides_in}
 use Rattle.shape_strips.proofs.RoundLemmas.{outside_rect}
 use Rattle.shape_region.specs.Told.{IsMeasured, AreRegionBytes, IsNotTold}
 use Rattle.shape_region.proofs.RunLemmas.{no_frame}
 use Rattle.lent_ops.specs.declared.form_ref.FormRef.{FormRef}
-use Rattle.lent_ops.specs.declared.form_ref.FormRef.TheVariants.{Rect, Round, Oval, FrameRect, FrameRound, FrameOval}
+use Rattle.lent_ops.specs.declared.form_ref.FormRef.TheVariants.{Rect, Round, Oval, FrameRect, FrameRound, FrameOval, Line}
 use Rattle.lent_ops.specs.Forms.{is_corner, is_form_in_range, is_pen, corner_of, pen_of, form_holds, form_pixels}
 
 -- ---- bytes of the same pixels
@@ -34,6 +39,32 @@ module _ (s t : PixelSet) (same : (p : Point) → s p ≡ t p) where
 
 -- ---- pixels in range
 
+-- the rectangle that a line lies in
+line_rect : Point → Point → Pen → rect.Rect
+line_rect a b pen =
+    if has_size pen
+    then record { left = int_min a.h b.h; top = int_min a.v b.v; right = int_max a.h b.h +ℤ pos pen.width; bottom = int_max a.v b.v +ℤ pos pen.height }
+    else empty_rect
+
+out_of_line : (a b : Point) (pen : Pen) (p : Point) → rect_holds (line_rect a b pen) p ≡ false → line_holds a b pen p ≡ false
+unfolding line_rect
+out_of_line a b pen p out = by_size (has_size pen) refl out
+  where
+    by_size : (s : Bool) → has_size pen ≡ s
+        → rect_holds (if s then record { left = int_min a.h b.h; top = int_min a.v b.v; right = int_max a.h b.h +ℤ pos pen.width; bottom = int_max a.v b.v +ℤ pos pen.height } else empty_rect) p ≡ false
+        → line_holds a b pen p ≡ false
+    by_size true has out = line_outside a b pen p (int_min a.h b.h) (int_min a.v b.v) (int_max a.h b.h +ℤ pos pen.width) (int_max a.v b.v +ℤ pos pen.height) refl refl refl refl out
+    by_size false none out = line_none a b pen p none
+
+line_rect_in_range : (a b : Point) (pen : Pen) → pen_fits pen a ≡ true → pen_fits pen b ≡ true → is_in_range (line_rect a b pen) ≡ true
+unfolding line_rect
+line_rect_in_range a b pen at_a at_b = by_size (has_size pen) refl
+  where
+    by_size : (s : Bool) → has_size pen ≡ s
+        → is_in_range (if s then record { left = int_min a.h b.h; top = int_min a.v b.v; right = int_max a.h b.h +ℤ pos pen.width; bottom = int_max a.v b.v +ℤ pos pen.height } else empty_rect) ≡ true
+    by_size true has = in_range_from _ (sides_of_line a b pen has at_a at_b (int_min a.h b.h) (int_min a.v b.v) (int_max a.h b.h +ℤ pos pen.width) (int_max a.v b.v +ℤ pos pen.height) refl refl refl refl)
+    by_size false none = refl
+
 -- the rectangle that a form lies in
 rect_of : FormRef → rect.Rect
 rect_of (Rect r) = r
@@ -42,6 +73,7 @@ rect_of (Oval r) = r
 rect_of (FrameRect r n) = r
 rect_of (FrameRound r c n) = r
 rect_of (FrameOval r n) = r
+rect_of (Line a b n) = line_rect a b (pen_of n)
 
 out_of_rect : (f : FormRef) (p : Point) → rect_holds (rect_of f) p ≡ false → form_holds f p ≡ false
 unfolding rect_of
@@ -51,6 +83,7 @@ out_of_rect (Oval r) p out = outside_rect r (oval_corner r) p out
 out_of_rect (FrameRect r n) p out = no_frame r no_corner (pen_of n) p (outside_rect r no_corner p out)
 out_of_rect (FrameRound r c n) p out = no_frame r (corner_of c) (pen_of n) p (outside_rect r (corner_of c) p out)
 out_of_rect (FrameOval r n) p out = no_frame r (oval_corner r) (pen_of n) p (outside_rect r (oval_corner r) p out)
+out_of_rect (Line a b n) p out = out_of_line a b (pen_of n) p out
 
 rect_in_range : (f : FormRef) → is_form_in_range f ≡ true → is_in_range (rect_of f) ≡ true
 unfolding rect_of
@@ -60,6 +93,9 @@ rect_in_range (Oval r) e = e
 rect_in_range (FrameRect r n) e = (and_parts (is_in_range r) (is_pen n) e).0
 rect_in_range (FrameRound r c n) e = (and_parts (is_in_range r) (is_corner c && is_pen n) e).0
 rect_in_range (FrameOval r n) e = (and_parts (is_in_range r) (is_pen n) e).0
+rect_in_range (Line a b n) e =
+    let both = and_parts (pen_fits (pen_of n) a) (pen_fits (pen_of n) b) (and_parts (is_pen n) (pen_fits (pen_of n) a && pen_fits (pen_of n) b) e).1 in
+    line_rect_in_range a b (pen_of n) both.0 both.1
 
 in_plane_of : (r : rect.Rect) (p : Point) → is_in_range r ≡ true → rect_holds r p ≡ true → in_plane p ≡ true
 in_plane_of r p e has =

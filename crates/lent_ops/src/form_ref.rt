@@ -1,5 +1,5 @@
-//! Shapes that calls carry, painted or framed.
-use tb_geom::Rect;
+//! Shapes that calls carry: painted, framed, or a line.
+use tb_geom::{Point, Rect};
 
 /// A corner of any size, as `Corner`.
 #[derive(Clone, Copy)]
@@ -15,7 +15,7 @@ pub struct PenRef {
     pub height: i32,
 }
 
-/// A shape that is painted or framed, whose numbers nobody has judged.
+/// A shape that is painted or framed, or a line, whose numbers nobody has judged.
 #[derive(Clone, Copy)]
 pub enum FormRef {
     Rect(Rect),
@@ -24,4 +24,6 @@ pub enum FormRef {
     FrameRect(Rect, PenRef),
     FrameRound(Rect, CornerRef, PenRef),
     FrameOval(Rect, PenRef),
+    /// A line from one point to another, by a pen that hangs below and right of it.
+    Line(Point, Point, PenRef),
 }

@@ -5,16 +5,17 @@ ghost use Rattle.tb_geom.specs.Pixels.{holds};
 ghost use Rattle.tb_geom.specs.Rects.{is_in_range};
 ghost use Rattle.shape_strips.specs.Rounds.{round_holds};
 ghost use Rattle.shape_strips.specs.Frames.{frame_holds};
+ghost use Rattle.shape_strips.specs.Lines.{line_holds};
 ghost use Rattle.shape_region.specs.Told.{AreRegionBytes, IsNotTold};
-ghost use Rattle.lent_ops.specs.Forms.{corner_of, form_holds, is_corner, is_form_in_range, is_pen, pen_of};
+ghost use Rattle.lent_ops.specs.Forms.{corner_of, form_holds, is_corner, is_form_in_range, is_line_in_range, is_pen, pen_of};
 ghost use Rattle.lent_ops.specs.Judged.{judged_holds};
 
 use crate::form_ref::{CornerRef, FormRef, PenRef};
 use scan_region::Region;
 use shape_region::{Frame, Solid, form_bytes, form_region};
-use shape_strips::{Corner, Pen, RoundStrip};
+use shape_strips::{Corner, LineStrip, Pen, RoundStrip};
 use std::alloc::{AllocError, Global};
-use tb_geom::{Rect, Refusal};
+use tb_geom::{Point, Rect, Refusal};
 
 /// The longest side that a corner may have.
 const LONGEST_CORNER: i32 = 32767;
@@ -27,11 +28,13 @@ const LONGEST_PEN: i32 = 1024;
 enum Judged {
     Painted(RoundStrip),
     Framed(Frame),
+    Drawn(LineStrip),
 }
 
 impl FormRef {
     /// Whether each number of the form lies in its range: the sides of the rectangle in -16384..=16383, those of the
-    /// corner in 0..=32767, and those of the pen in 0..=1024.
+    /// corner in 0..=32767, and those of the pen in 0..=1024; the ends of a line in -16384..=16383, and its pixels in
+    /// -16384..=16382.
     pub fn is_near(&self) -> bool
         ensures { result ≡ is_form_in_range self.now }
     {
@@ -44,6 +47,7 @@ impl FormRef {
             FormRef::FrameRound(rect, corner, pen) => {
                 rect.is_in_range() && (corner.is_near() && pen.is_near())
             }
+            FormRef::Line(from, to, pen) => is_line_near(*from, *to, *pen),
         }
     }
 
@@ -55,6 +59,7 @@ impl FormRef {
         match self.judged() {
             Judged::Painted(strip) => form_region(alloc, &Solid { strip: &strip }),
             Judged::Framed(frame) => form_region(alloc, &frame),
+            Judged::Drawn(line) => form_region(alloc, &Solid { strip: &line }),
         }
     }
 
@@ -68,6 +73,7 @@ impl FormRef {
         match self.judged() {
             Judged::Painted(strip) => form_bytes(alloc, &Solid { strip: &strip }),
             Judged::Framed(frame) => form_bytes(alloc, &frame),
+            Judged::Drawn(line) => form_bytes(alloc, &Solid { strip: &line }),
         }
     }
 
@@ -83,8 +89,29 @@ impl FormRef {
             FormRef::FrameRect(rect, pen) => framed(rect, Corner::none(), pen),
             FormRef::FrameRound(rect, corner, pen) => framed(rect, corner.to_corner(), pen),
             FormRef::FrameOval(rect, pen) => framed(rect, Corner::of_oval(rect), pen),
+            FormRef::Line(from, to, pen) => drawn(from, to, pen),
         }
     }
+}
+
+/// Whether the sides of the pen lie in 0..=1024, and it fits at both ends of the line.
+fn is_line_near(from: Point, to: Point, pen: PenRef) -> bool
+    ensures { result ≡ is_line_in_range from to pen }
+{
+    if !pen.is_near() {
+        return false;
+    }
+    let pen = pen.to_pen();
+    pen.fits_at(from) && pen.fits_at(to)
+}
+
+/// The form of a line.
+fn drawn(from: Point, to: Point, pen: PenRef) -> Judged
+    requires { is_line_in_range from to pen ≡ true }
+    ensures { (p : Point) → judged_holds result p ≡ line_holds from to (pen_of pen) p }
+{
+    let pen = pen.to_pen();
+    Judged::Drawn(LineStrip { from, to, pen })
 }
 
 /// The form of a painted shape.
