@@ -1,12 +1,13 @@
 -- What is read of a form and of what follows it.
 use Rattle.std.proofs.Common.{◌≡◌, ℕ, ℤ, List, Option, Ok, Err, refl, ◌∙◌}
+use Rattle.tb_geom.specs.declared.point.Point.{Point}
 use Rattle.tb_geom.specs.declared.rect.Rect.{Rect}
 use Rattle.lent_ops.specs.declared.form_ref.CornerRef.{CornerRef}
 use Rattle.lent_ops.specs.declared.form_ref.FormRef.{FormRef}
-use Rattle.lent_ops.specs.declared.form_ref.FormRef.TheVariants.{Rect as RectForm, Round, Oval, FrameRect, FrameRound, FrameOval}
+use Rattle.lent_ops.specs.declared.form_ref.FormRef.TheVariants.{Rect as RectForm, Round, Oval, FrameRect, FrameRound, FrameOval, Line}
 use Rattle.lent_ops.specs.declared.form_ref.PenRef.{PenRef}
-use Rattle.line_words.specs.Words.{◌>>=◌, Field, number_at, rect_at}
-use Rattle.line_words.specs.Shapes.{Shape, number, rect, reading}
+use Rattle.line_words.specs.Words.{◌>>=◌, Field, number_at, point_at, rect_at}
+use Rattle.line_words.specs.Shapes.{Shape, number, point, rect, reading}
 use Rattle.command_words.specs.declared.forms.FormWord.{FormWord}
 use Rattle.command_words.specs.declared.forms.FormWord.TheVariants as words
 use Rattle.command_words.specs.Forms.{corner, pen, form_shape, corner_at, pen_at, form_at}
@@ -46,6 +47,9 @@ rect_then next rest =
     (λ top more. number_at more >>= λ right. number_at right.1 >>= λ bottom. Ok (sides left top right.0 bottom.0, bottom.1)) next
     (λ top more. pair_then (sides left top) next more))
 
+point_then : {A : Type 0} (next : Point → Shape A) (rest : Option (List ℕ)) → reading (point next) rest ≡ (point_at rest >>= λ x. reading (next x.0) x.1)
+point_then next rest = pair_then {B = Point} (λ h v. record { h = h; v = v }) next rest
+
 -- a form is read by its numbers, and then what follows it
 pub form_then : {A : Type 0} (word : FormWord) (next : FormRef → Shape A) (rest : Option (List ℕ)) → reading (form_shape word next) rest ≡ (form_at word rest >>= λ x. reading (next x.0) x.1)
 form_then words.Rect next rest =
@@ -77,3 +81,11 @@ form_then words.FrameRound next rest =
     ∙ field_then (corner_at more) (λ c. pen (λ p. next (FrameRound r c p))) (λ c more. pen_at more >>= λ p. Ok (FrameRound r c p.0, p.1)) next
     (λ c more. pen_then (λ p. next (FrameRound r c p)) more
     ∙ field_then (pen_at more) (λ p. next (FrameRound r c p)) (λ p more. Ok (FrameRound r c p, more)) next (λ p more. refl)))
+form_then words.Line next rest =
+    point_then (λ a. point (λ b. pen (λ p. next (Line a b p)))) rest
+    ∙ field_then (point_at rest) (λ a. point (λ b. pen (λ p. next (Line a b p))))
+    (λ a more. point_at more >>= λ b. pen_at b.1 >>= λ p. Ok (Line a b.0 p.0, p.1)) next
+    (λ a more. point_then (λ b. pen (λ p. next (Line a b p))) more
+    ∙ field_then (point_at more) (λ b. pen (λ p. next (Line a b p))) (λ b more. pen_at more >>= λ p. Ok (Line a b p.0, p.1)) next
+    (λ b more. pen_then (λ p. next (Line a b p)) more
+    ∙ field_then (pen_at more) (λ p. next (Line a b p)) (λ p more. Ok (Line a b p, more)) next (λ p more. refl)))

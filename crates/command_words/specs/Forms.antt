@@ -1,12 +1,11 @@
--- The words of forms, which are shapes that are painted or framed: a name, and numbers.
+-- The words of forms, which are shapes that are painted or framed, and lines: a name, and numbers.
 use Rattle.std.specs.Prelude.{ℕ, List, [], ◌∷◌, Option, Ok, codes}
 use Rattle.lent_ops.specs.declared.form_ref.CornerRef.{CornerRef}
 use Rattle.lent_ops.specs.declared.form_ref.FormRef.{FormRef}
-use Rattle.lent_ops.specs.declared.form_ref.FormRef.TheVariants.{Rect, Round, Oval, FrameRect, FrameRound, FrameOval}
+use Rattle.lent_ops.specs.declared.form_ref.FormRef.TheVariants.{Rect, Round, Oval, FrameRect, FrameRound, FrameOval, Line}
 use Rattle.lent_ops.specs.declared.form_ref.PenRef.{PenRef}
-use Rattle.tb_geom.specs.declared.rect.Rect.{Rect as Sides}
-use Rattle.line_words.specs.Words.{◌>>=◌, Field, number_at, rect_at}
-use Rattle.line_words.specs.Shapes.{Shape, number, rect}
+use Rattle.line_words.specs.Words.{◌>>=◌, Field, number_at, point_at, rect_at}
+use Rattle.line_words.specs.Shapes.{Shape, number, point, rect}
 use Rattle.command_words.specs.declared.forms.FormWord.{FormWord}
 use Rattle.command_words.specs.declared.forms.FormWord.TheVariants as words
 
@@ -26,6 +25,7 @@ form_shape words.Oval next = rect (λ r. next (Oval r))
 form_shape words.FrameRect next = rect (λ r. pen (λ p. next (FrameRect r p)))
 form_shape words.FrameRound next = rect (λ r. corner (λ c. pen (λ p. next (FrameRound r c p))))
 form_shape words.FrameOval next = rect (λ r. pen (λ p. next (FrameOval r p)))
+form_shape words.Line next = point (λ a. point (λ b. pen (λ p. next (Line a b p))))
 
 -- the names of forms in `draw`
 abbrev pub drawn_forms : List (List ℕ × FormWord)
@@ -35,6 +35,7 @@ drawn_forms =
     ∷ (codes "frect", words.FrameRect)
     ∷ (codes "fround", words.FrameRound)
     ∷ (codes "foval", words.FrameOval)
+    ∷ (codes "line", words.Line)
     ∷ []
 
 -- two words that are the size of a corner
@@ -45,15 +46,12 @@ corner_at rest = number_at rest >>= λ width. number_at width.1 >>= λ height. O
 abbrev pub pen_at : Option (List ℕ) → Field PenRef
 pen_at rest = number_at rest >>= λ width. number_at width.1 >>= λ height. Ok (record { width = width.0; height = height.0 }, height.1)
 
--- words that are the other numbers of a form in this rectangle
-abbrev pub form_in : FormWord → Sides → Option (List ℕ) → Field FormRef
-form_in words.Rect r rest = Ok (Rect r, rest)
-form_in words.Round r rest = corner_at rest >>= λ c. Ok (Round r c.0, c.1)
-form_in words.Oval r rest = Ok (Oval r, rest)
-form_in words.FrameRect r rest = pen_at rest >>= λ p. Ok (FrameRect r p.0, p.1)
-form_in words.FrameRound r rest = corner_at rest >>= λ c. pen_at c.1 >>= λ p. Ok (FrameRound r c.0 p.0, p.1)
-form_in words.FrameOval r rest = pen_at rest >>= λ p. Ok (FrameOval r p.0, p.1)
-
 -- words that are the numbers of a form
 abbrev pub form_at : FormWord → Option (List ℕ) → Field FormRef
-form_at word rest = rect_at rest >>= λ r. form_in word r.0 r.1
+form_at words.Rect rest = rect_at rest >>= λ r. Ok (Rect r.0, r.1)
+form_at words.Round rest = rect_at rest >>= λ r. corner_at r.1 >>= λ c. Ok (Round r.0 c.0, c.1)
+form_at words.Oval rest = rect_at rest >>= λ r. Ok (Oval r.0, r.1)
+form_at words.FrameRect rest = rect_at rest >>= λ r. pen_at r.1 >>= λ p. Ok (FrameRect r.0 p.0, p.1)
+form_at words.FrameRound rest = rect_at rest >>= λ r. corner_at r.1 >>= λ c. pen_at c.1 >>= λ p. Ok (FrameRound r.0 c.0 p.0, p.1)
+form_at words.FrameOval rest = rect_at rest >>= λ r. pen_at r.1 >>= λ p. Ok (FrameOval r.0 p.0, p.1)
+form_at words.Line rest = point_at rest >>= λ a. point_at a.1 >>= λ b. pen_at b.1 >>= λ p. Ok (Line a.0 b.0 p.0, p.1)

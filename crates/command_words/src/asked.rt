@@ -44,7 +44,8 @@ pub fn asked_word_of(word: &[u8]) -> Option<AskedWord>
 fn form_word_of(word: &[u8]) -> Option<AskedWord>
     ensures { result ≡ named word.now form_words }
 {
-    drawn_form_of(word).map(AskedWord::Form)
+    let form = drawn_form_of(word)?;
+    Some(AskedWord::Form(form))
 }
 
 /// The words after `region`: a name, what is asked for by it, and nothing after that.

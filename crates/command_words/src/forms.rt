@@ -1,11 +1,11 @@
-//! The words of forms: shapes that are painted or framed.
+//! The words of forms: shapes that are painted or framed, and lines.
 ghost use Rattle.std.specs.Prelude.{◌≡◌};
 ghost use Rattle.line_words.specs.Tables.{named};
-ghost use Rattle.command_words.specs.Forms.{corner_at, pen_at, form_in, form_at, drawn_forms};
+ghost use Rattle.command_words.specs.Forms.{corner_at, pen_at, form_at, drawn_forms};
 
 use lent_ops::{CornerRef, FormRef, PenRef};
 use line_words::{Words, named};
-use tb_geom::{Rect, Refusal};
+use tb_geom::Refusal;
 
 /// The name of a form. It says which words follow.
 #[derive(Clone, Copy, Debug, PartialEq, Eq)]
@@ -16,15 +16,17 @@ pub enum FormWord {
     FrameRect,
     FrameRound,
     FrameOval,
+    Line,
 }
 
 /// Each name that `draw` has for a form, and what it stands for.
-static DRAWN_FORMS: [(&[u8], FormWord); 5] = [
+static DRAWN_FORMS: [(&[u8], FormWord); 6] = [
     (b"round", FormWord::Round),
     (b"oval", FormWord::Oval),
     (b"frect", FormWord::FrameRect),
     (b"fround", FormWord::FrameRound),
     (b"foval", FormWord::FrameOval),
+    (b"line", FormWord::Line),
 ];
 
 /// The form with this name in `draw`, byte by byte; None of a word that names none.
@@ -39,36 +41,49 @@ impl FormWord {
     pub fn form<'a>(self, words: Words<'a>) -> Result<(FormRef, Words<'a>), Refusal>
         ensures { result ≡ form_at self words.entry }
     {
-        let (rect, words) = words.rect()?;
-        self.form_in(rect, words)
-    }
-
-    /// The numbers of a form after those of its rectangle, and the words after them.
-    fn form_in<'a>(self, rect: Rect, words: Words<'a>) -> Result<(FormRef, Words<'a>), Refusal>
-        ensures { result ≡ form_in self rect words.entry }
-    {
         match self {
-            FormWord::Rect => Ok((FormRef::Rect(rect), words)),
+            FormWord::Rect => {
+                let (rect, words) = words.rect()?;
+                Ok((FormRef::Rect(rect), words))
+            }
             FormWord::Round => {
+                let (rect, words) = words.rect()?;
                 let (corner, words) = corner(words)?;
                 Ok((FormRef::Round(rect, corner), words))
             }
-            FormWord::Oval => Ok((FormRef::Oval(rect), words)),
+            FormWord::Oval => {
+                let (rect, words) = words.rect()?;
+                Ok((FormRef::Oval(rect), words))
+            }
             FormWord::FrameRect => {
+                let (rect, words) = words.rect()?;
                 let (pen, words) = pen(words)?;
                 Ok((FormRef::FrameRect(rect, pen), words))
             }
             FormWord::FrameRound => {
+                let (rect, words) = words.rect()?;
                 let (corner, words) = corner(words)?;
                 let (pen, words) = pen(words)?;
                 Ok((FormRef::FrameRound(rect, corner, pen), words))
             }
             FormWord::FrameOval => {
+                let (rect, words) = words.rect()?;
                 let (pen, words) = pen(words)?;
                 Ok((FormRef::FrameOval(rect, pen), words))
             }
+            FormWord::Line => line(words),
         }
     }
+}
+
+/// The two ends of a line and its pen, and the words after them.
+fn line<'a>(words: Words<'a>) -> Result<(FormRef, Words<'a>), Refusal>
+    ensures { result ≡ form_at FormWord.Line words.entry }
+{
+    let (from, words) = words.point()?;
+    let (to, words) = words.point()?;
+    let (pen, words) = pen(words)?;
+    Ok((FormRef::Line(from, to, pen), words))
 }
 
 /// The width and height of a corner, and the words after them.

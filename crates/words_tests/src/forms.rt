@@ -38,6 +38,15 @@ fn numbers(form: &FormRef) -> (u8, Rect, [i32; 2], [i32; 2]) {
         FormRef::FrameRect(rect, pen) => (b'R', *rect, NONE, of_pen(pen)),
         FormRef::FrameRound(rect, corner, pen) => (b'C', *rect, of_corner(corner), of_pen(pen)),
         FormRef::FrameOval(rect, pen) => (b'O', *rect, NONE, of_pen(pen)),
+        FormRef::Line(from, to, pen) => {
+            let ends = Rect {
+                left: from.h,
+                top: from.v,
+                right: to.h,
+                bottom: to.v,
+            };
+            (b'l', ends, NONE, of_pen(pen))
+        }
     }
 }
 
@@ -63,7 +72,7 @@ const SIDES: Rect = Rect {
 
 #[test]
 fn numbers_of_forms_are_judged_by_nobody(rt: HostRuntime) {
-    let lines: [(&[u8], u8, [i32; 2], [i32; 2]); 6] = [
+    let lines: [(&[u8], u8, [i32; 2], [i32; 2]); 7] = [
         (b"region rect -1 2 300 -99999", b'r', NONE, NONE),
         (b"region round -1 2 300 -99999 -5 6", b'c', [-5, 6], NONE),
         (b"region oval -1 2 300 -99999", b'o', NONE, NONE),
@@ -75,6 +84,7 @@ fn numbers_of_forms_are_judged_by_nobody(rt: HostRuntime) {
             [7, 8],
         ),
         (b"region foval -1 2 300 -99999 7 8", b'O', NONE, [7, 8]),
+        (b"region line -1 2 300 -99999 7 8", b'l', NONE, [7, 8]),
     ];
     for (line, letter, corner, pen) in lines {
         assert!(rt; form_of(3, line) == Some((letter, SIDES, corner, pen)));
