@@ -82,6 +82,7 @@ module _ (version : ℤ) where
   shaded_says had forms.FrameRect = λ l t r b w h. all_said-mapped _ _ shade_shape (all_said-any _ (λ s. had) shade_shape)
   shaded_says had forms.FrameRound = λ l t r b w h pw ph. all_said-mapped _ _ shade_shape (all_said-any _ (λ s. had) shade_shape)
   shaded_says had forms.FrameOval = λ l t r b w h. all_said-mapped _ _ shade_shape (all_said-any _ (λ s. had) shade_shape)
+  shaded_says had forms.Line = λ fh fv th tv w h. all_said-mapped _ _ shade_shape (all_said-any _ (λ s. had) shade_shape)
 
   operation_says : (operation : Option Operation) → ((x : Operation) → operation ≡ Some x → has_word (int_le (pos 3) version) x ≡ true)
       → AllSaid (λ s. has_operation version s ≡ true) (operation_shape operation)
