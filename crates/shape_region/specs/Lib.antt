@@ -1,4 +1,3 @@
--- What the contracts speak of: the rows of shapes and how they differ, the bytes of regions that are told, and how far they are written.
+-- What the contracts speak of: the rows of shapes and how they differ, and polygons by their points.
 pub mod Rows
-pub mod Told
-pub mod Written
+pub mod Polygons

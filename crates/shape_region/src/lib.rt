@@ -1,23 +1,29 @@
-//! Regions of round shapes, of their frames, and of the insides that these leave, and the bytes of such regions.
+//! Regions of round shapes, of lines and polygons, of frames and of the insides that these leave, and the bytes of such
+//! regions.
 //!
 //! `Rows` is a set of pixels with two runs in a row at most (`TwoRuns`). A strip of `shape_strips` has one (`Solid`); a
 //! `Frame` has the run of its shape less that of its inside. `form_region` makes the region of such a set in one pass
 //! over its rows, from the top down. It keeps the edges of the row above, four at most. Where a row differs from that
 //! one, it adds the row's inversion points: the columns that are an edge of one of the two alone, eight at most, which
-//! are found without memory (`turns`). So no pixel is looked at.
+//! are found without memory (`turns`). So no pixel is looked at. `form_bytes` goes the same way, and writes the points.
 //!
-//! `form_bytes` goes the same way, and writes the points into a `RegionWriter` of `region_bytes`, which counts on where
-//! memory is refused. So bytes that would be too many are known as that, whatever memory there is, and the region
-//! itself is never made.
+//! A polygon is the odd sum of the bands of its edges, and its frame the union of their lines. Both are made of the first
+//! half of the edges and the second one, so that each edge is in few regions on the way. The bytes of both are written row
+//! by row, with no region made (`pixel_rows`).
 //!
 //! Rectangles are in the coordinate space of the call that uses the region. Each call that takes a rectangle refuses one
 //! with a side outside -16384..=16383 as OutOfRange, as `Region::from_rect` does; those that take a shape refuse for
-//! want of memory alone, and `form_bytes` as TooLong before that. The words of the contracts stand in `shape_strips`,
-//! and those on bytes in `specs::Told`.
+//! want of memory alone, and those that tell bytes as TooLong before that. The words of the contracts stand in
+//! `shape_strips`, those on bytes in `pixel_rows`, and those on polygons in `specs::Polygons`.
 #![tactic(auto)]
 
 mod frame;
+mod frame_polygon_rows;
+pub mod laws;
+mod line;
 mod making;
+mod polygon;
+mod polygon_rows;
 mod round;
 mod rows;
 mod strip;
@@ -28,9 +34,13 @@ mod writing;
 pub use frame::{
     Frame, frame_oval_region, frame_rect_region, frame_round_rect_region, inside_region,
 };
+pub use frame_polygon_rows::frame_polygon_bytes;
+pub use line::{fits_at_all, frame_polygon_region, line_region};
 pub use making::form_region;
+pub use polygon::{are_in_range, polygon_region};
+pub use polygon_rows::polygon_bytes;
 pub use round::{oval_region, round_rect_region};
 pub use rows::{Rows, Solid};
-pub use strip::strip_region;
+pub use strip::{placed_run, strip_region};
 pub use two_runs::{Edges, TwoRuns};
 pub use writing::form_bytes;
