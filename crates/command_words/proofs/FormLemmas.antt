@@ -1,15 +1,18 @@
 -- What is read of a form and of what follows it.
-use Rattle.std.proofs.Common.{◌≡◌, ℕ, ℤ, List, Option, Ok, Err, refl, ◌∙◌}
+use Rattle.std.proofs.Common.{◌≡◌, ℕ, ℤ, Bool, true, false, List, Option, Ok, Err, refl, ◌∙◌, if◌then◌else◌}
+use Rattle.tb_geom.specs.declared.refusal.Refusal.TheVariants.{BadSyntax}
+use Rattle.tb_geom.specs.declared.point.Point.{Point}
 use Rattle.tb_geom.specs.declared.rect.Rect.{Rect}
 use Rattle.lent_ops.specs.declared.form_ref.CornerRef.{CornerRef}
 use Rattle.lent_ops.specs.declared.form_ref.FormRef.{FormRef}
-use Rattle.lent_ops.specs.declared.form_ref.FormRef.TheVariants.{Rect as RectForm, Round, Oval, FrameRect, FrameRound, FrameOval}
+use Rattle.lent_ops.specs.declared.form_ref.FormRef.TheVariants.{Rect as RectForm, Round, Oval, FrameRect, FrameRound, FrameOval, Line, Polygon, FramePolygon}
 use Rattle.lent_ops.specs.declared.form_ref.PenRef.{PenRef}
-use Rattle.line_words.specs.Words.{◌>>=◌, Field, number_at, rect_at}
-use Rattle.line_words.specs.Shapes.{Shape, number, rect, reading}
+use Rattle.lent_ops.specs.Points.{are_points}
+use Rattle.line_words.specs.Words.{◌>>=◌, Field, hex_at, number_at, point_at, rect_at}
+use Rattle.line_words.specs.Shapes.{Shape, never, number, point, rect, reading}
 use Rattle.command_words.specs.declared.forms.FormWord.{FormWord}
 use Rattle.command_words.specs.declared.forms.FormWord.TheVariants as words
-use Rattle.command_words.specs.Forms.{corner, pen, form_shape, corner_at, pen_at, form_at}
+use Rattle.command_words.specs.Forms.{corner, pen, points, form_shape, corner_at, pen_at, points_at, form_at}
 
 -- what follows a word is read after the word and all that belongs to it, or after the word alone
 field_then : {A B C : Type 0} (w : Field C) (shape : C → Shape A) (rest_at : C → Option (List ℕ) → Field B) (next : B → Shape A)
@@ -46,6 +49,23 @@ rect_then next rest =
     (λ top more. number_at more >>= λ right. number_at right.1 >>= λ bottom. Ok (sides left top right.0 bottom.0, bottom.1)) next
     (λ top more. pair_then (sides left top) next more))
 
+point_then : {A : Type 0} (next : Point → Shape A) (rest : Option (List ℕ)) → reading (point next) rest ≡ (point_at rest >>= λ x. reading (next x.0) x.1)
+point_then next rest = pair_then {B = Point} (λ h v. record { h = h; v = v }) next rest
+
+-- the bytes of points, if they are that
+abbrev points_if : Bool → List ℕ → Option (List ℕ) → Field (List ℕ)
+points_if formed bytes more = if formed then Ok (bytes, more) else Err BadSyntax
+
+points_then : {A : Type 0} (next : List ℕ → Shape A) (rest : Option (List ℕ)) → reading (points next) rest ≡ (points_at rest >>= λ x. reading (next x.0) x.1)
+points_then next rest =
+    field_then (hex_at rest) (λ bytes. if are_points bytes then next bytes else never) (λ bytes more. points_if (are_points bytes) bytes more) next
+    (λ bytes more. by_form (are_points bytes) bytes more)
+  where
+    by_form : (formed : Bool) (bytes : List ℕ) (more : Option (List ℕ))
+        → reading (if formed then next bytes else never) more ≡ (points_if formed bytes more >>= λ x. reading (next x.0) x.1)
+    by_form true bytes more = refl
+    by_form false bytes more = refl
+
 -- a form is read by its numbers, and then what follows it
 pub form_then : {A : Type 0} (word : FormWord) (next : FormRef → Shape A) (rest : Option (List ℕ)) → reading (form_shape word next) rest ≡ (form_at word rest >>= λ x. reading (next x.0) x.1)
 form_then words.Rect next rest =
@@ -77,3 +97,19 @@ form_then words.FrameRound next rest =
     ∙ field_then (corner_at more) (λ c. pen (λ p. next (FrameRound r c p))) (λ c more. pen_at more >>= λ p. Ok (FrameRound r c p.0, p.1)) next
     (λ c more. pen_then (λ p. next (FrameRound r c p)) more
     ∙ field_then (pen_at more) (λ p. next (FrameRound r c p)) (λ p more. Ok (FrameRound r c p, more)) next (λ p more. refl)))
+form_then words.Line next rest =
+    point_then (λ a. point (λ b. pen (λ p. next (Line a b p)))) rest
+    ∙ field_then (point_at rest) (λ a. point (λ b. pen (λ p. next (Line a b p))))
+    (λ a more. point_at more >>= λ b. pen_at b.1 >>= λ p. Ok (Line a b.0 p.0, p.1)) next
+    (λ a more. point_then (λ b. pen (λ p. next (Line a b p))) more
+    ∙ field_then (point_at more) (λ b. pen (λ p. next (Line a b p))) (λ b more. pen_at more >>= λ p. Ok (Line a b p.0, p.1)) next
+    (λ b more. pen_then (λ p. next (Line a b p)) more
+    ∙ field_then (pen_at more) (λ p. next (Line a b p)) (λ p more. Ok (Line a b p, more)) next (λ p more. refl)))
+form_then words.Polygon next rest =
+    points_then (λ xs. next (Polygon xs)) rest
+    ∙ field_then (points_at rest) (λ xs. next (Polygon xs)) (λ xs more. Ok (Polygon xs, more)) next (λ xs more. refl)
+form_then words.FramePolygon next rest =
+    points_then (λ xs. pen (λ p. next (FramePolygon xs p))) rest
+    ∙ field_then (points_at rest) (λ xs. pen (λ p. next (FramePolygon xs p))) (λ xs more. pen_at more >>= λ p. Ok (FramePolygon xs p.0, p.1)) next
+    (λ xs more. pen_then (λ p. next (FramePolygon xs p)) more
+    ∙ field_then (pen_at more) (λ p. next (FramePolygon xs p)) (λ p more. Ok (FramePolygon xs p, more)) next (λ p more. refl))

@@ -1,13 +1,13 @@
--- The words of forms, which are shapes that are painted or framed: a name, and numbers.
-use Rattle.std.specs.Prelude.{ℕ, List, [], ◌∷◌, Option, Some, None, Ok, codes}
+-- The words of forms, which are shapes that are painted or framed, and lines: a name, and numbers or bytes.
+use Rattle.std.specs.Prelude.{ℕ, List, [], ◌∷◌, Option, Ok, Err, codes, if◌then◌else◌}
+use Rattle.tb_geom.specs.declared.refusal.Refusal.TheVariants.{BadSyntax}
 use Rattle.lent_ops.specs.declared.form_ref.CornerRef.{CornerRef}
 use Rattle.lent_ops.specs.declared.form_ref.FormRef.{FormRef}
-use Rattle.lent_ops.specs.declared.form_ref.FormRef.TheVariants.{Rect, Round, Oval, FrameRect, FrameRound, FrameOval}
+use Rattle.lent_ops.specs.declared.form_ref.FormRef.TheVariants.{Rect, Round, Oval, FrameRect, FrameRound, FrameOval, Line, Polygon, FramePolygon}
 use Rattle.lent_ops.specs.declared.form_ref.PenRef.{PenRef}
-use Rattle.tb_geom.specs.declared.rect.Rect.{Rect as Sides}
-use Rattle.line_words.specs.Words.{◌>>=◌, Field, number_at, rect_at}
-use Rattle.line_words.specs.Shapes.{Shape, says, never, number, name, rect}
-use Rattle.line_words.specs.Tables.{named}
+use Rattle.lent_ops.specs.Points.{are_points}
+use Rattle.line_words.specs.Words.{◌>>=◌, Field, hex_at, number_at, point_at, rect_at}
+use Rattle.line_words.specs.Shapes.{Shape, hex, never, number, point, rect}
 use Rattle.command_words.specs.declared.forms.FormWord.{FormWord}
 use Rattle.command_words.specs.declared.forms.FormWord.TheVariants as words
 
@@ -19,7 +19,11 @@ corner next = number (λ width. number (λ height. next (record { width = width;
 abbrev pub pen : {A : Type 0} → (PenRef → Shape A) → Shape A
 pen next = number (λ width. number (λ height. next (record { width = width; height = height })))
 
--- the numbers of a form, before what follows them
+-- HEX, where the bytes are four for each point
+abbrev pub points : {A : Type 0} → (List ℕ → Shape A) → Shape A
+points next = hex (λ bytes. if are_points bytes then next bytes else never)
+
+-- the numbers and bytes of a form, before what follows them
 abbrev pub form_shape : {A : Type 0} → FormWord → (FormRef → Shape A) → Shape A
 form_shape words.Rect next = rect (λ r. next (Rect r))
 form_shape words.Round next = rect (λ r. corner (λ c. next (Round r c)))
@@ -27,6 +31,9 @@ form_shape words.Oval next = rect (λ r. next (Oval r))
 form_shape words.FrameRect next = rect (λ r. pen (λ p. next (FrameRect r p)))
 form_shape words.FrameRound next = rect (λ r. corner (λ c. pen (λ p. next (FrameRound r c p))))
 form_shape words.FrameOval next = rect (λ r. pen (λ p. next (FrameOval r p)))
+form_shape words.Line next = point (λ a. point (λ b. pen (λ p. next (Line a b p))))
+form_shape words.Polygon next = points (λ xs. next (Polygon xs))
+form_shape words.FramePolygon next = points (λ xs. pen (λ p. next (FramePolygon xs p)))
 
 -- the names of forms in `draw`
 abbrev pub drawn_forms : List (List ℕ × FormWord)
@@ -36,20 +43,10 @@ drawn_forms =
     ∷ (codes "frect", words.FrameRect)
     ∷ (codes "fround", words.FrameRound)
     ∷ (codes "foval", words.FrameOval)
+    ∷ (codes "line", words.Line)
+    ∷ (codes "poly", words.Polygon)
+    ∷ (codes "fpoly", words.FramePolygon)
     ∷ []
-
--- and in `region`
-abbrev pub asked_forms : List (List ℕ × FormWord)
-asked_forms = (codes "rect", words.Rect) ∷ drawn_forms
-
--- the words that follow a name, if a form has it, and no more
-abbrev pub named_form_shape : Option FormWord → Shape FormRef
-named_form_shape None = never
-named_form_shape (Some word) = form_shape word says
-
--- FORM
-unfoldable pub asked_shape : Shape FormRef
-asked_shape = name (λ word. named_form_shape (named word asked_forms))
 
 -- two words that are the size of a corner
 abbrev pub corner_at : Option (List ℕ) → Field CornerRef
@@ -59,15 +56,18 @@ corner_at rest = number_at rest >>= λ width. number_at width.1 >>= λ height. O
 abbrev pub pen_at : Option (List ℕ) → Field PenRef
 pen_at rest = number_at rest >>= λ width. number_at width.1 >>= λ height. Ok (record { width = width.0; height = height.0 }, height.1)
 
--- words that are the other numbers of a form in this rectangle
-abbrev pub form_in : FormWord → Sides → Option (List ℕ) → Field FormRef
-form_in words.Rect r rest = Ok (Rect r, rest)
-form_in words.Round r rest = corner_at rest >>= λ c. Ok (Round r c.0, c.1)
-form_in words.Oval r rest = Ok (Oval r, rest)
-form_in words.FrameRect r rest = pen_at rest >>= λ p. Ok (FrameRect r p.0, p.1)
-form_in words.FrameRound r rest = corner_at rest >>= λ c. pen_at c.1 >>= λ p. Ok (FrameRound r c.0 p.0, p.1)
-form_in words.FrameOval r rest = pen_at rest >>= λ p. Ok (FrameOval r p.0, p.1)
+-- a word that is the bytes of points
+abbrev pub points_at : Option (List ℕ) → Field (List ℕ)
+points_at rest = hex_at rest >>= λ bytes. if are_points bytes.0 then Ok (bytes.0, bytes.1) else Err BadSyntax
 
--- words that are the numbers of a form
+-- words that are the numbers and bytes of a form
 abbrev pub form_at : FormWord → Option (List ℕ) → Field FormRef
-form_at word rest = rect_at rest >>= λ r. form_in word r.0 r.1
+form_at words.Rect rest = rect_at rest >>= λ r. Ok (Rect r.0, r.1)
+form_at words.Round rest = rect_at rest >>= λ r. corner_at r.1 >>= λ c. Ok (Round r.0 c.0, c.1)
+form_at words.Oval rest = rect_at rest >>= λ r. Ok (Oval r.0, r.1)
+form_at words.FrameRect rest = rect_at rest >>= λ r. pen_at r.1 >>= λ p. Ok (FrameRect r.0 p.0, p.1)
+form_at words.FrameRound rest = rect_at rest >>= λ r. corner_at r.1 >>= λ c. pen_at c.1 >>= λ p. Ok (FrameRound r.0 c.0 p.0, p.1)
+form_at words.FrameOval rest = rect_at rest >>= λ r. pen_at r.1 >>= λ p. Ok (FrameOval r.0 p.0, p.1)
+form_at words.Line rest = point_at rest >>= λ a. point_at a.1 >>= λ b. pen_at b.1 >>= λ p. Ok (Line a.0 b.0 p.0, p.1)
+form_at words.Polygon rest = points_at rest >>= λ xs. Ok (Polygon xs.0, xs.1)
+form_at words.FramePolygon rest = points_at rest >>= λ xs. pen_at xs.1 >>= λ p. Ok (FramePolygon xs.0 p.0, p.1)

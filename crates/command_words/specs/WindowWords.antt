@@ -10,7 +10,7 @@ use Rattle.line_words.specs.Shapes.{Shape, says, number, flag, name, text, seria
 use Rattle.command_words.specs.declared.windows.WindowVerb.{WindowVerb}
 use Rattle.command_words.specs.declared.windows.WindowVerb.TheVariants as verbs
 use Rattle.command_words.specs.Drawings.{drawing_shape}
-use Rattle.command_words.specs.Forms.{asked_shape}
+use Rattle.command_words.specs.Asked.{asked_shape}
 
 -- KIND h v width height SHOWN GOAWAY "title"
 abbrev pub new_shape : Shape NewWindow

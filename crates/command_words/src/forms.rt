@@ -1,13 +1,11 @@
-//! The words of forms: shapes that are painted or framed.
+//! The words of forms: shapes that are painted or framed, and lines.
 ghost use Rattle.std.specs.Prelude.{◌≡◌};
-ghost use Rattle.line_words.specs.Shapes.{reading, says};
 ghost use Rattle.line_words.specs.Tables.{named};
-ghost use Rattle.command_words.specs.Forms.{corner_at, pen_at, form_in, form_at, form_shape, drawn_forms};
-ghost use Rattle.command_words.specs.Forms.{asked_forms, named_form_shape, asked_shape};
+ghost use Rattle.command_words.specs.Forms.{corner_at, pen_at, points_at, form_at, drawn_forms};
 
-use lent_ops::{CornerRef, FormRef, PenRef};
+use lent_ops::{CornerRef, FormRef, PenRef, are_points};
 use line_words::{Words, named};
-use tb_geom::{BytesRef, Rect, Refusal};
+use tb_geom::{BytesRef, Refusal};
 
 /// The name of a form. It says which words follow.
 #[derive(Clone, Copy, Debug, PartialEq, Eq)]
@@ -18,15 +16,21 @@ pub enum FormWord {
     FrameRect,
     FrameRound,
     FrameOval,
+    Line,
+    Polygon,
+    FramePolygon,
 }
 
 /// Each name that `draw` has for a form, and what it stands for.
-static DRAWN_FORMS: [(&[u8], FormWord); 5] = [
+static DRAWN_FORMS: [(&[u8], FormWord); 8] = [
     (b"round", FormWord::Round),
     (b"oval", FormWord::Oval),
     (b"frect", FormWord::FrameRect),
     (b"fround", FormWord::FrameRound),
     (b"foval", FormWord::FrameOval),
+    (b"line", FormWord::Line),
+    (b"poly", FormWord::Polygon),
+    (b"fpoly", FormWord::FramePolygon),
 ];
 
 /// The form with this name in `draw`, byte by byte; None of a word that names none.
@@ -36,81 +40,74 @@ pub fn drawn_form_of(word: &[u8]) -> Option<FormWord>
     named(&DRAWN_FORMS, word)
 }
 
-/// The form with this name in `region`, where a rectangle has one too.
-pub fn asked_form_of(word: &[u8]) -> Option<FormWord>
-    ensures { result ≡ named word.now asked_forms }
-{
-    if word == b"rect".as_slice() {
-        Some(FormWord::Rect)
-    } else {
-        drawn_form_of(word)
-    }
-}
-
-/// The words after `region`: the name of a form and its numbers, and nothing after them.
-#[tactic(auto, unfolding(crate::specs::Forms::asked_shape))]
-pub fn asked_form(words: Words<'_>) -> Result<FormRef, Refusal>
-    ensures { result ≡ reading asked_shape words.entry }
-{
-    let (name, words) = words.name()?;
-    named_form(&name, words)
-}
-
-/// The words after the name of a form in `region`.
-fn named_form(name: &BytesRef<'_>, words: Words<'_>) -> Result<FormRef, Refusal>
-    ensures { result ≡ reading (named_form_shape (named name.now asked_forms)) words.entry }
-{
-    match asked_form_of(name.as_slice()) {
-        None => Err(Refusal::BadSyntax),
-        Some(word) => last_form(word, words),
-    }
-}
-
-/// The numbers of a form, and nothing after them.
-#[tactic(auto, using(crate::proofs::FormLemmas::form_then))]
-fn last_form(word: FormWord, words: Words<'_>) -> Result<FormRef, Refusal>
-    ensures { result ≡ reading (form_shape word says) words.entry }
-{
-    let (form, words) = word.form(words)?;
-    words.end()?;
-    Ok(form)
-}
-
 impl FormWord {
-    /// The numbers of a form, and the words after them.
-    pub fn form<'a>(self, words: Words<'a>) -> Result<(FormRef, Words<'a>), Refusal>
+    /// The numbers and bytes of a form, and the words after them.
+    pub fn form<'a>(self, words: Words<'a>) -> Result<(FormRef<'a>, Words<'a>), Refusal>
         ensures { result ≡ form_at self words.entry }
     {
-        let (rect, words) = words.rect()?;
-        self.form_in(rect, words)
-    }
-
-    /// The numbers of a form after those of its rectangle, and the words after them.
-    fn form_in<'a>(self, rect: Rect, words: Words<'a>) -> Result<(FormRef, Words<'a>), Refusal>
-        ensures { result ≡ form_in self rect words.entry }
-    {
         match self {
-            FormWord::Rect => Ok((FormRef::Rect(rect), words)),
+            FormWord::Rect => {
+                let (rect, words) = words.rect()?;
+                Ok((FormRef::Rect(rect), words))
+            }
             FormWord::Round => {
+                let (rect, words) = words.rect()?;
                 let (corner, words) = corner(words)?;
                 Ok((FormRef::Round(rect, corner), words))
             }
-            FormWord::Oval => Ok((FormRef::Oval(rect), words)),
+            FormWord::Oval => {
+                let (rect, words) = words.rect()?;
+                Ok((FormRef::Oval(rect), words))
+            }
             FormWord::FrameRect => {
+                let (rect, words) = words.rect()?;
                 let (pen, words) = pen(words)?;
                 Ok((FormRef::FrameRect(rect, pen), words))
             }
             FormWord::FrameRound => {
+                let (rect, words) = words.rect()?;
                 let (corner, words) = corner(words)?;
                 let (pen, words) = pen(words)?;
                 Ok((FormRef::FrameRound(rect, corner, pen), words))
             }
             FormWord::FrameOval => {
+                let (rect, words) = words.rect()?;
                 let (pen, words) = pen(words)?;
                 Ok((FormRef::FrameOval(rect, pen), words))
             }
+            FormWord::Line => line(words),
+            FormWord::Polygon => {
+                let (points, words) = points(words)?;
+                Ok((FormRef::Polygon(points), words))
+            }
+            FormWord::FramePolygon => {
+                let (points, words) = points(words)?;
+                let (pen, words) = pen(words)?;
+                Ok((FormRef::FramePolygon(points, pen), words))
+            }
         }
     }
+}
+
+/// The two ends of a line and its pen, and the words after them.
+fn line<'a>(words: Words<'a>) -> Result<(FormRef<'a>, Words<'a>), Refusal>
+    ensures { result ≡ form_at FormWord.Line words.entry }
+{
+    let (from, words) = words.point()?;
+    let (to, words) = words.point()?;
+    let (pen, words) = pen(words)?;
+    Ok((FormRef::Line(from, to, pen), words))
+}
+
+/// The bytes of points, and the words after them.
+fn points<'a>(words: Words<'a>) -> Result<(BytesRef<'a>, Words<'a>), Refusal>
+    ensures { result ≡ points_at words.entry }
+{
+    let (points, words) = words.hex()?;
+    if !are_points(points.as_slice()) {
+        return Err(Refusal::BadSyntax);
+    }
+    Ok((points, words))
 }
 
 /// The width and height of a corner, and the words after them.

@@ -54,5 +54,6 @@ fn form_operation_of(version: i32, word: &[u8]) -> Option<Operation>
     if version < VERSION_OF_FORMS {
         return None;
     }
-    drawn_form_of(word).map(Operation::Form)
+    let form = drawn_form_of(word)?;
+    Some(Operation::Form(form))
 }

@@ -4,8 +4,8 @@ ghost use Rattle.line_words.specs.Shapes.{reading};
 ghost use Rattle.command_words.specs.WindowWords.{new_shape, behind_shape, move_shape, size_shape, zoom_shape};
 ghost use Rattle.command_words.specs.WindowWords.{show_hide_shape, scroll_shape, other_window, no_picture, window_shape};
 
+use crate::asked::asked_region;
 use crate::drawing::drawing;
-use crate::forms::asked_form;
 use def_iface::Size;
 use desk_call::{
     MoveWindow, NewPicture, NewWindow, PictureRef, ScrollPicture, SendBehind, ShowHide, SizeWindow,
@@ -67,7 +67,7 @@ impl WindowVerb {
             WindowVerb::Info => Ok(WindowCall::Info(words.last_serial()?)),
             WindowVerb::UpdateRegion => Ok(WindowCall::UpdateRegion(words.last_serial()?)),
             WindowVerb::VisibleRegion => Ok(WindowCall::VisibleRegion(words.last_serial()?)),
-            WindowVerb::Region => Ok(WindowCall::Region(asked_form(words)?)),
+            WindowVerb::Region => Ok(WindowCall::Region(asked_region(words)?)),
         }
     }
 }

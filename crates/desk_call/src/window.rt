@@ -2,7 +2,7 @@
 
 use def_iface::Size;
 use draw_port::Picture;
-use lent_ops::{FormRef, OpRef};
+use lent_ops::{OpRef, RegionRef};
 use std::alloc::{AllocError, Global};
 use std::marker::Model;
 use tb_geom::{BytesRef, Point};
@@ -68,9 +68,10 @@ pub enum WindowCall<'a> {
     /// The bytes of a window's update region, in the window's own coordinates: what of its visible
     /// region is to be redrawn. TooLong where they are more than 32766.
     UpdateRegion(u64),
-    /// The bytes of the region of a shape, which has to do with no window. OutOfRange where a number of the shape leaves its
-    /// range, TooLong where the bytes are more than 32766.
-    Region(FormRef),
+    /// The bytes of a region that has to do with no window: of a shape, of a region, moved, or of what two regions make
+    /// together. BadRegion where bytes have not the form of a region's, OutOfRange where a number leaves its range or a moved
+    /// pixel does, TooLong where the bytes are more than 32766.
+    Region(RegionRef<'a>),
 }
 
 /// A window that is to be visible, or hidden.

@@ -15,12 +15,14 @@ use Rattle.lent_ops.specs.declared.op_ref.LineRef.{LineRef}
 use Rattle.lent_ops.specs.declared.op_ref.OpRef.{OpRef}
 use Rattle.lent_ops.specs.declared.op_ref.ShapeRef.{ShapeRef}
 use Rattle.lent_ops.specs.declared.op_ref.ShapeRef.TheVariants.{Erase as EraseRef, Invert as InvertRef, Fill as FillRef, Frame as FrameRef, HLine as HLineRef, VLine as VLineRef, Text as RunRef, Bits as ImageRef, FillRgn as FillRgnRef, Form as FormShapeRef}
-use Rattle.lent_ops.specs.Forms.{is_form_in_range, form_pixels}
+use Rattle.lent_ops.specs.Forms.{form_pixels, has_points, is_form_in_range, is_form_long}
 
--- whether the image of a shape has rows and columns, and its bytes are those of its rows; of a shape without one, true
-abbrev pub has_rows : ShapeRef → Bool
-has_rows (ImageRef b) = are_rows b.width b.height b.rows
-has_rows s = true
+-- whether a shape has its bytes: an image has rows and columns, and its bytes are those of its rows; those of a polygon are
+-- its points'
+abbrev pub has_bytes : ShapeRef → Bool
+has_bytes (ImageRef b) = are_rows b.width b.height b.rows
+has_bytes (FormShapeRef f k) = has_points f
+has_bytes s = true
 
 -- a line begins at a coordinate, and has 0 to 1024 pixels
 abbrev pub is_line : LineRef → Bool
@@ -40,9 +42,10 @@ is_shape_in_range (ImageRef b) = in_plane b.place && (int_le b.width (pos 256) &
 is_shape_in_range (FillRgnRef bytes k) = true
 is_shape_in_range (FormShapeRef f k) = is_form_in_range f
 
--- whether a text has more than 255 characters
+-- whether a text has more than 255 characters, or a polygon more than 1024 points
 abbrev pub is_long : ShapeRef → Bool
 is_long (RunRef t) = nat_lt 255 (length t.text)
+is_long (FormShapeRef f k) = is_form_long f
 is_long s = false
 
 -- the bytes of the region that a shape fills
@@ -82,25 +85,25 @@ SomeRegion P op = HasSome op.clip P ⊎ HasSome (region_of op.shape) P
 
 -- nothing is wrong with the operation
 pub record IsGood (op : OpRef) : Type 0 where
-  pub rows : has_rows op.shape ≡ true
+  pub bytes : has_bytes op.shape ≡ true
   pub regions : EachRegion IsRegion op
   pub near : is_shape_in_range op.shape ≡ true
   pub short : is_long op.shape ≡ false
 
--- the bytes of one of its regions have not the form, and its image has its rows
+-- the bytes of one of its regions have not the form, and its shape has its bytes
 pub record IsBadlyFormed (op : OpRef) : Type 0 where
-  pub rows : has_rows op.shape ≡ true
+  pub bytes : has_bytes op.shape ≡ true
   pub bad : SomeRegion (λ bytes. HasForm bytes → ⊥) op
 
 -- a number of its shape or of one of its regions leaves its range; nothing of the above is wrong
 pub record IsFarOut (op : OpRef) : Type 0 where
-  pub rows : has_rows op.shape ≡ true
+  pub bytes : has_bytes op.shape ≡ true
   pub formed : EachRegion HasForm op
   pub far : (is_shape_in_range op.shape ≡ false) ⊎ SomeRegion IsFormOutOfRange op
 
--- its text is long; nothing of the above is wrong
+-- its text or polygon is long; nothing of the above is wrong
 pub record IsOverlong (op : OpRef) : Type 0 where
-  pub rows : has_rows op.shape ≡ true
+  pub bytes : has_bytes op.shape ≡ true
   pub regions : EachRegion IsRegion op
   pub near : is_shape_in_range op.shape ≡ true
   pub long : is_long op.shape ≡ true
@@ -108,7 +111,7 @@ pub record IsOverlong (op : OpRef) : Type 0 where
 -- why an operation is refused
 abbrev pub IsRefused : OpRef → Refusal → Type 0
 IsRefused op e =
-    ((e ≡ BadSyntax) × (has_rows op.shape ≡ false))
+    ((e ≡ BadSyntax) × (has_bytes op.shape ≡ false))
     ⊎ (((e ≡ BadRegion) × IsBadlyFormed op)
     ⊎ (((e ≡ OutOfRange) × IsFarOut op)
     ⊎ ((e ≡ TooLong) × IsOverlong op)))

@@ -1,5 +1,5 @@
-//! Shapes that calls carry, painted or framed.
-use tb_geom::Rect;
+//! Shapes that calls carry: painted, framed, or a line.
+use tb_geom::{BytesRef, Point, Rect};
 
 /// A corner of any size, as `Corner`.
 #[derive(Clone, Copy)]
@@ -15,13 +15,20 @@ pub struct PenRef {
     pub height: i32,
 }
 
-/// A shape that is painted or framed, whose numbers nobody has judged.
-#[derive(Clone, Copy)]
-pub enum FormRef {
+/// A shape that is painted or framed, or a line, whose numbers and bytes nobody has judged.
+#[derive(Drop)]
+pub enum FormRef<'a> {
     Rect(Rect),
     Round(Rect, CornerRef),
     Oval(Rect),
     FrameRect(Rect, PenRef),
     FrameRound(Rect, CornerRef, PenRef),
     FrameOval(Rect, PenRef),
+    /// A line from one point to another, by a pen that hangs below and right of it.
+    Line(Point, Point, PenRef),
+    /// The polygon of the points whose bytes these are: of each its row and then its column, two bytes each, the high one
+    /// first, as they stand in a polygon behind its rectangle (*Inside Macintosh* I, "QuickDraw": the type `Polygon`).
+    Polygon(BytesRef<'a>),
+    /// The frame of that polygon.
+    FramePolygon(BytesRef<'a>, PenRef),
 }

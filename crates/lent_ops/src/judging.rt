@@ -1,6 +1,6 @@
 //! Why operations that calls carry are refused.
 ghost use Rattle.std.specs.Prelude.{◌≡◌, Some, MatchResult};
-ghost use Rattle.lent_ops.specs.OpRefs.{has_rows, is_line, is_shape_in_range, is_long, region_of, HasForm, HasSome, Stands, IsGood, IsRefused};
+ghost use Rattle.lent_ops.specs.OpRefs.{has_bytes, is_line, is_shape_in_range, is_long, region_of, HasForm, HasSome, Stands, IsGood, IsRefused};
 
 use crate::op_ref::{BitsRef, LineRef, OpRef, ShapeRef};
 use draw_port::LONGEST_TEXT;
@@ -15,15 +15,17 @@ const LONGEST_SIDE: i32 = 256;
 
 impl OpRef<'_> {
     /// Judges the operation without memory. The refusal is the first of these that applies: BadSyntax
-    /// where an image is without rows or columns, or its bytes are not `(width + 7) / 8` for each row;
+    /// where an image is without rows or columns, or its bytes are not `(width + 7) / 8` for each row, or those of a polygon
+    /// not four for each point;
     /// BadRegion where the bytes of the clip or of the shape's region have not the form of a region's;
     /// OutOfRange where a coordinate of the shape or of a region lies outside -16384..=16383, the count
     /// of a line outside 0..=1024, a side of a form's corner outside 0..=32767 or of its pen outside 0..=1024, or an
-    /// image is wider or higher than 256; TooLong where a text has more than 255 characters.
+    /// image is wider or higher than 256; TooLong where a text has more than 255 characters,
+    /// or a polygon more than 1024 points.
     pub fn judge(&self) -> Result<(), Refusal>
         ensures { MatchResult result (λ _. IsGood self.now) (IsRefused self.now) }
     {
-        if !self.shape.has_rows() {
+        if !self.shape.has_bytes() {
             return Err(Refusal::BadSyntax);
         }
         let is_clip_in_range = is_clip_in_range(&self.clip)?;
@@ -40,7 +42,7 @@ impl OpRef<'_> {
 
 /// Whether the bytes of a region say coordinates in range alone. BadRegion where they have not the
 /// form of a region's.
-fn is_in_range(bytes: &BytesRef) -> Result<bool, Refusal>
+pub(crate) fn is_in_range(bytes: &BytesRef) -> Result<bool, Refusal>
     ensures { MatchResult result
         (Stands (Some bytes.now))
         (λ e. (e ≡ Refusal.BadRegion) × (HasForm bytes.now → ⊥)) }
@@ -77,12 +79,13 @@ impl ShapeRef<'_> {
         }
     }
 
-    /// Whether an image has rows and columns, and just the bytes of its rows.
-    fn has_rows(&self) -> bool
-        ensures { result ≡ has_rows self.now }
+    /// Whether an image has rows and columns, and just the bytes of its rows, and a polygon the bytes of points.
+    fn has_bytes(&self) -> bool
+        ensures { result ≡ has_bytes self.now }
     {
         match self {
             ShapeRef::Bits(bits) => bits.has_rows(),
+            ShapeRef::Form(form, _) => form.has_points(),
             _ => true,
         }
     }
@@ -102,12 +105,13 @@ impl ShapeRef<'_> {
         }
     }
 
-    /// Whether a text has more than 255 characters.
+    /// Whether a text has more than 255 characters, or a polygon more than 1024 points.
     fn is_long(&self) -> bool
         ensures { result ≡ is_long self.now }
     {
         match self {
             ShapeRef::Text(run) => run.text.as_slice().len() > LONGEST_TEXT,
+            ShapeRef::Form(form, _) => form.is_long(),
             _ => false,
         }
     }
@@ -132,7 +136,7 @@ impl BitsRef<'_> {
 
     /// Whether the image has rows and columns, and just the bytes of its rows.
     fn has_rows(&self) -> bool
-        ensures { result ≡ has_rows (ShapeRef.Bits self.now) }
+        ensures { result ≡ has_bytes (ShapeRef.Bits self.now) }
     {
         self.rows.are_rows(self.width, self.height)
     }

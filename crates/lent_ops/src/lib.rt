@@ -5,16 +5,27 @@
 //! `draw_port` that it means (`IsMeant`), with bytes and regions of its own. The bytes are the `BytesRef` of
 //! `tb_geom`, which contracts see as the list of them.
 //!
-//! A `FormRef` is a shape of `shape_region`, painted or framed, whose numbers nobody has judged. Once `FormRef::is_near`
-//! says that each lies in its range, `to_region` gives the region of its pixels, and `to_bytes` the bytes of that
-//! region. An operation with a form is a fill of that region.
+//! A `FormRef` is a shape of `shape_region`, painted or framed, whose numbers nobody has judged, or the bytes of a polygon's
+//! points. Once `FormRef::is_near` says that each lies in its range, and `is_long` that there are not too many points,
+//! `to_region` gives the region of its pixels, and `to_bytes` the bytes of that region. An operation with a form is a fill
+//! of that region.
+//!
+//! A `RegionRef` is a region that a call asks for: of a form, of bytes, moved, or of what two regions make together. Its
+//! `judge` says why it is refused, without memory, and `to_bytes` tells its bytes.
 #![tactic(auto)]
 
+mod asking;
 mod form_ref;
 mod forms;
 mod judging;
 mod op_ref;
 mod owning;
+mod points;
+mod polygons;
+mod region_ref;
 
 pub use form_ref::{CornerRef, FormRef, PenRef};
 pub use op_ref::{BitsRef, LineRef, OpRef, ShapeRef, TextRef};
+pub use points::are_points;
+pub use region_ref::{Distance, RegionRef};
+pub use shape_region::Combination;

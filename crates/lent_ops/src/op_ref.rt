@@ -42,7 +42,7 @@ pub enum ShapeRef<'a> {
     Bits(BitsRef<'a>),
     FillRgn(BytesRef<'a>, Shade),
     /// A shape that is painted or framed, as the fill of its region.
-    Form(FormRef, Shade),
+    Form(FormRef<'a>, Shade),
 }
 
 /// A drawing operation as a call carries it: `Op`, with borrowed bytes that nobody has judged.

@@ -1,7 +1,7 @@
 //! Operations made of those that calls carry.
 ghost use Rattle.std.specs.Prelude.{◌≡◌, ◌⊎◌, ◌≤◌, ◌≤ℤ◌, pos, nat_abs, true, false, length, IfOk, MatchResult};
 ghost use Rattle.region_bytes.specs.Bytes.{IsRegionBytes};
-ghost use Rattle.lent_ops.specs.OpRefs.{has_rows, is_shape_in_range, is_line, is_long, IsGood, IsRefused, IsMeant, MeansShape, MeansClip};
+ghost use Rattle.lent_ops.specs.OpRefs.{has_bytes, is_shape_in_range, is_line, is_long, IsGood, IsRefused, IsMeant, MeansShape, MeansClip};
 
 use crate::op_ref::{BitsRef, LineRef, OpRef, ShapeRef, TextRef};
 use draw_port::{Bytes, Line, Op, RowsOfBits, Shape, ShortText, TextRun};
@@ -46,7 +46,7 @@ fn to_clip(clip: &Option<BytesRef>, alloc: Global) -> Result<Option<Region>, All
 
 impl ShapeRef<'_> {
     fn to_shape(&self, alloc: Global) -> Result<Shape, AllocError>
-        requires rows { has_rows self.now ≡ true }
+        requires bytes { has_bytes self.now ≡ true }
         requires near { is_shape_in_range self.now ≡ true }
         requires short { is_long self.now ≡ false }
         ensures { IfOk result (MeansShape self.now) }

@@ -101,7 +101,7 @@ fn given_operations_are_drawn(rt: HostRuntime) -> Result<(), Fail> {
 }
 
 /// A form that is filled.
-fn filled(form: FormRef) -> ShapeRef<'static> {
+fn filled(form: FormRef<'_>) -> ShapeRef<'_> {
     ShapeRef::Form(form, shade(Pattern::BLACK, Mode::Xor))
 }
 
@@ -138,6 +138,45 @@ fn forms_are_refused_out_of_range(rt: HostRuntime) {
     assert!(rt; pen_refusal(-1, 1) == out);
     assert!(rt; pen_refusal(1, -1) == out);
     assert!(rt; refusal(Some(&[1]), filled(FormRef::Oval(far))) == Some(Refusal::BadRegion));
+}
+
+/// Why a polygon of these bytes is refused.
+fn polygon_refusal(bytes: &[u8]) -> Option<Refusal> {
+    refusal(None, filled(FormRef::Polygon(BytesRef::new(bytes))))
+}
+
+#[test]
+fn polygons_have_1024_points_at_most(rt: HostRuntime) {
+    let mut bytes = [0; 4100];
+    assert!(rt; polygon_refusal(&bytes[..4096]) == None);
+    assert!(rt; polygon_refusal(&bytes[..4095]) == Some(Refusal::BadSyntax));
+    assert!(rt; polygon_refusal(&bytes[..4099]) == Some(Refusal::BadSyntax));
+    assert!(rt; polygon_refusal(&bytes) == Some(Refusal::TooLong));
+    bytes[4098] = 0x40;
+    assert!(rt; polygon_refusal(&bytes) == Some(Refusal::OutOfRange));
+}
+
+/// A triangle: the points 0 0, 8 0 and 0 8.
+const TRIANGLE: [u8; 12] = [0, 0, 0, 0, 0, 0, 0, 8, 0, 8, 0, 0];
+
+#[test]
+fn polygons_are_drawn(rt: HostRuntime) -> Result<(), Fail> {
+    let alloc = rt.alloc();
+    let font = Font::from_bytes(alloc, &SMALL)?;
+    let mut picture = Picture::new(alloc);
+    let triangle = OpRef {
+        clip: None,
+        shape: filled(FormRef::Polygon(BytesRef::new(&TRIANGLE))),
+    };
+    picture.push(triangle.to_op(alloc)?)?;
+    let shown = drawn(alloc, &font, &picture)?;
+    assert!(rt;
+        shows(
+            &shown,
+            "11111110 11111100 11111000 11110000 11100000 11000000 10000000 00000000 "
+        )
+    );
+    Ok(())
 }
 
 #[test]

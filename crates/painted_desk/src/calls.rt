@@ -42,7 +42,7 @@ pub fn bar(alloc: Global) -> Result<Picture, Refusal> {
 }
 
 /// The call that makes a window of this kind, whose content is six pixels wide and begins at this place of the screen.
-fn opening(kind: &'static [u8], place: Point, height: i32) -> Call<'static> {
+fn opening<'a>(kind: &'static [u8], place: Point, height: i32) -> Call<'a> {
     Call::Window(WindowCall::New(NewWindow {
         kind: BytesRef::new(kind),
         place,

@@ -14,7 +14,7 @@ use Rattle.desk_call.specs.declared.control.ControlCall.TheVariants as controls
 use Rattle.desk_call.specs.declared.list.ListCall.TheVariants as lists
 use Rattle.desk_call.specs.declared.menu.MenuCall.TheVariants as menus
 use Rattle.desk_call.specs.declared.update.UpdateCall.TheVariants.{Invalidate, Validate}
-use Rattle.desk_call.specs.declared.window.WindowCall.TheVariants.{New, NewFloating, Draw}
+use Rattle.desk_call.specs.declared.window.WindowCall.TheVariants.{New, NewFloating, Draw, Region}
 use Rattle.window_mgr.specs.Begin.{empty_desk}
 use Rattle.window_mgr.specs.Refused.{is_found}
 use Rattle.list_mgr.specs.ListRefusals.{lacks_kind}
@@ -61,6 +61,7 @@ pub known_so : (call : Asked) (stocks : AllSlots) (form : Option Refusal) → Is
 known_so (Window (New w)) stocks form is = by_kind (has_kind w.kind stocks.windows) form is
 known_so (Window (NewFloating w)) stocks form is = by_kind (has_kind w.kind stocks.windows) form is
 known_so (Window (Draw d)) stocks form (judged, found, is) = by_bytes (is_found BadSyntax judged) (is_found BadRegion judged) form is
+known_so (Window (Region r)) stocks form (judged, found, is) = by_bytes (is_found BadSyntax judged) (is_found BadRegion judged) form is
 known_so (Window _) stocks form is = by_bytes false false form is
 known_so (Update (Invalidate m)) stocks form (judged, found, is) = by_bytes false (is_found BadRegion judged) form is
 known_so (Update (Validate m)) stocks form (judged, found, is) = by_bytes false (is_found BadRegion judged) form is

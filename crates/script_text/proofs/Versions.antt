@@ -5,9 +5,12 @@ use Rattle.std.specs.List.{list_all}
 use Rattle.std.proofs.lemmas.Bool.{and_parts}
 use Rattle.tb_geom.specs.declared.refusal.Refusal.TheVariants.{BadSyntax, TooLong}
 use Rattle.desk_call.specs.declared.call.Call.TheVariants as calls
+use Rattle.lent_ops.specs.declared.form_ref.FormRef.TheVariants.{FramePolygon, Polygon}
+use Rattle.lent_ops.specs.declared.op_ref.ShapeRef.{ShapeRef}
 use Rattle.lent_ops.specs.declared.op_ref.ShapeRef.TheVariants as shapes
+use Rattle.lent_ops.specs.Points.{are_points}
 use Rattle.line_words.specs.Words.{◌>>=◌, Field, word_at, is_plain, serial_of}
-use Rattle.line_words.specs.Shapes.{mapped}
+use Rattle.line_words.specs.Shapes.{Shape, mapped, never}
 use Rattle.line_words.specs.Tables.{named}
 use Rattle.command_words.specs.declared.forms.FormWord.{FormWord}
 use Rattle.command_words.specs.declared.forms.FormWord.TheVariants as forms
@@ -20,7 +23,8 @@ use Rattle.command_words.specs.declared.windows.WindowVerb.TheVariants as window
 use Rattle.command_words.specs.ControlWords.{control_shape}
 use Rattle.command_words.specs.Drawings.{shade_shape, shaded_rect_shape, line_shape, run_shape, bits_shape, region_shape, operations, operations_of, operation_shape, clipped_shape, clip_shape, drawing_shape}
 use Rattle.command_words.specs.EventWords.{event_shape}
-use Rattle.command_words.specs.Forms.{drawn_forms, form_shape, asked_shape}
+use Rattle.command_words.specs.Asked.{asked_shape}
+use Rattle.command_words.specs.Forms.{drawn_forms, form_shape, pen}
 use Rattle.command_words.specs.FrameWords.{frame_shape}
 use Rattle.command_words.specs.ListWords.{list_shape}
 use Rattle.command_words.specs.MenuWords.{menu_shape}
@@ -74,6 +78,12 @@ module _ (version : ℤ) where
   abbrev IsHad : Command → Type 0
   IsHad command = has_command version command ≡ true
 
+  -- what a shape says is said of points, if the bytes are that
+  points_say : (shape : Shape ShapeRef) (formed : Bool) → AllSaid (λ s. has_operation version s ≡ true) shape
+      → AllSaid (λ s. has_operation version s ≡ true) (if formed then shape else never)
+  points_say shape true says = says
+  points_say shape false says = tt
+
   shaded_says : (had : int_le (pos 3) version ≡ true) (word : FormWord) → AllSaid (λ s. has_operation version s ≡ true) (form_shape word (λ form. mapped (λ shade. shapes.Form form shade) shade_shape))
   shaded_says had forms.Rect = λ l t r b. all_said-mapped _ _ shade_shape (all_said-any _ (λ s. had) shade_shape)
   shaded_says had forms.Round = λ l t r b w h. all_said-mapped _ _ shade_shape (all_said-any _ (λ s. had) shade_shape)
@@ -81,6 +91,11 @@ module _ (version : ℤ) where
   shaded_says had forms.FrameRect = λ l t r b w h. all_said-mapped _ _ shade_shape (all_said-any _ (λ s. had) shade_shape)
   shaded_says had forms.FrameRound = λ l t r b w h pw ph. all_said-mapped _ _ shade_shape (all_said-any _ (λ s. had) shade_shape)
   shaded_says had forms.FrameOval = λ l t r b w h. all_said-mapped _ _ shade_shape (all_said-any _ (λ s. had) shade_shape)
+  shaded_says had forms.Line = λ fh fv th tv w h. all_said-mapped _ _ shade_shape (all_said-any _ (λ s. had) shade_shape)
+  shaded_says had forms.Polygon = λ bytes. points_say (mapped (λ shade. shapes.Form (Polygon bytes) shade) shade_shape) (are_points bytes)
+      (all_said-mapped _ _ shade_shape (all_said-any _ (λ s. had) shade_shape))
+  shaded_says had forms.FramePolygon = λ bytes. points_say (pen (λ p. mapped (λ shade. shapes.Form (FramePolygon bytes p) shade) shade_shape)) (are_points bytes)
+      (λ w h. all_said-mapped _ _ shade_shape (all_said-any _ (λ s. had) shade_shape))
 
   operation_says : (operation : Option Operation) → ((x : Operation) → operation ≡ Some x → has_word (int_le (pos 3) version) x ≡ true)
       → AllSaid (λ s. has_operation version s ≡ true) (operation_shape operation)

@@ -4,11 +4,11 @@ use Rattle.tb_geom.specs.declared.refusal.Refusal.{Refusal}
 use Rattle.tb_geom.specs.Refusals.{name_of, number_of}
 use Rattle.desk_call.specs.declared.call.Reply.{Reply}
 use Rattle.desk_call.specs.declared.call.Reply.TheVariants as replies
-use Rattle.command_words.specs.WindowLines.{window_reply_text, frame_reply_text, outline_reply_text}
-use Rattle.command_words.specs.ControlLines.{control_reply_text}
-use Rattle.command_words.specs.ListLines.{list_reply_text}
-use Rattle.command_words.specs.MenuLines.{menu_reply_text}
-use Rattle.command_words.specs.EventLines.{event_reply_text}
+use Rattle.reply_lines.specs.WindowLines.{window_reply_text, frame_reply_text, outline_reply_text}
+use Rattle.reply_lines.specs.ControlLines.{control_reply_text}
+use Rattle.reply_lines.specs.ListLines.{list_reply_text}
+use Rattle.reply_lines.specs.MenuLines.{menu_reply_text}
+use Rattle.reply_lines.specs.EventLines.{event_reply_text}
 
 -- a refusal, by its number and its name
 abbrev pub refused_text : Refusal → List ℕ

@@ -3,12 +3,12 @@ ghost use Rattle.std.specs.Prelude.{◌≡◌, false};
 ghost use Rattle.watched_io.specs.Writes.{Sends};
 ghost use Rattle.script_text.specs.Replies.{refused_text, reply_text};
 
-use command_words::{
+use desk_call::Reply;
+use itoa::Buffer;
+use reply_lines::{
     write_control_reply, write_event_reply, write_frame_reply, write_list_reply, write_menu_reply,
     write_outline_reply, write_window_reply,
 };
-use desk_call::Reply;
-use itoa::Buffer;
 use tb_geom::Refusal;
 use watched_io::{Sink, send_all};
 

@@ -27,14 +27,14 @@ pub record AreMade (s : PixelSet) (rows : List EdgeRow) (above : List ℤ) (v : 
   pub passed : (h w : ℤ) → w <ℤ v → in_rows rows h w ≡ s (record { h = h; v = w })
   pub ahead : (h w : ℤ) → v ≤ℤ w → in_rows rows h w ≡ inside above h
 
-differ_back : (a b : Bool) → differ (differ a b) a ≡ b
+pub differ_back : (a b : Bool) → differ (differ a b) a ≡ b
 differ_back true true = refl
 differ_back true false = refl
 differ_back false true = refl
 differ_back false false = refl
 
 -- what a row of turns leaves above it, and from there on
-unturned : (old new : List EdgeRow) (v : ℤ) (t : ℤ → Bool) → IsPushed old new v t → (h w : ℤ) → w <ℤ v → in_rows new h w ≡ in_rows old h w
+pub unturned : (old new : List EdgeRow) (v : ℤ) (t : ℤ → Bool) → IsPushed old new v t → (h w : ℤ) → w <ℤ v → in_rows new h w ≡ in_rows old h w
 unturned old new v t p h w l = pushed_pixel old new v t p h w ∙ (λ i. differ (int_le-false v w l i && t h) (in_rows old h w))
 
 turned : (old new : List EdgeRow) (v : ℤ) (above row : List ℤ) → IsPushed old new v (turns above row) → (h w : ℤ) → v ≤ℤ w

@@ -1,15 +1,16 @@
-//! What the definitions of round shapes, insides and frames say.
-ghost use Rattle.std.specs.Prelude.{◌≡◌, true, false, ◌&&◌, ◌||◌, ◌⊎◌, pos, ◌+ℤ◌, ◌-ℤ◌};
-ghost use Rattle.std.specs.Int.{abs_diff};
+//! What the definitions of round shapes, insides, frames and lines say.
+ghost use Rattle.std.specs.Prelude.{◌≡◌, true, false, ◌&&◌, ◌||◌, ◌⊎◌, ℤ, pos, ◌+ℤ◌, ◌-ℤ◌, ◌≤ℤ◌};
+ghost use Rattle.std.specs.Int.{abs_diff, int_max, int_min};
 ghost use Rattle.tb_geom.specs.declared.point.Point.{Point};
 ghost use Rattle.tb_geom.specs.declared.rect.Rect.{Rect};
-ghost use Rattle.tb_geom.specs.Rects.{rect_holds};
+ghost use Rattle.tb_geom.specs.Rects.{between, rect_holds};
 ghost use Rattle.region_rows.specs.Counts.{count_to};
 ghost use Rattle.shape_strips.specs.declared.corner.Corner.{Corner};
 ghost use Rattle.shape_strips.specs.declared.pen.Pen.{Pen};
 ghost use Rattle.shape_strips.specs.Ovals.{in_oval};
 ghost use Rattle.shape_strips.specs.Rounds.{oval_holds, round_holds};
 ghost use Rattle.shape_strips.specs.Frames.{frame_holds, has_size, inside_holds, surrounds};
+ghost use Rattle.shape_strips.specs.Lines.{is_flat, thin_holds};
 ghost use Rattle.shape_strips.specs.Mirrors.{mirrored_across, mirrored_diagonally, mirrored_down};
 
 /// A round shape without rounded corners is its rectangle.
@@ -59,4 +60,25 @@ pub fn frames_and_insides_are_shapes()
         → (frame_holds r c pen p || inside_holds r c pen p) ≡ round_holds r c p }
     ensures apart { (r : Rect) (c : Corner) (pen : Pen) (p : Point)
         → (frame_holds r c pen p && inside_holds r c pen p) ≡ false }
+{}
+
+/// A thin line is the same from either end, and has both.
+pub fn lines_are_the_same_from_either_end()
+    ensures same { (a b p : Point) → thin_holds a b p ≡ thin_holds b a p }
+    ensures ends { (a b : Point) → (thin_holds a b a ≡ true) × (thin_holds a b b ≡ true) }
+{}
+
+/// A flat line has one pixel in each column from one end to the other, a steep line in each row. So a thin line has one
+/// pixel more than it goes to the side, or down.
+pub fn lines_have_one_pixel_a_column_or_row()
+    ensures flat { (a b : Point) (h : ℤ) → is_flat a b ≡ true → int_min a.h b.h ≤ℤ h → h ≤ℤ int_max a.h b.h
+        → (one : ℤ) × ((v : ℤ) → thin_holds a b (record { h = h; v = v }) ≡ between one v (one +ℤ pos 1)) }
+    ensures steep { (a b : Point) (v : ℤ) → is_flat a b ≡ false → int_min a.v b.v ≤ℤ v → v ≤ℤ int_max a.v b.v
+        → (one : ℤ) × ((h : ℤ) → thin_holds a b (record { h = h; v = v }) ≡ between one h (one +ℤ pos 1)) }
+{}
+
+/// And it has none beside the rectangle of its ends.
+pub fn lines_lie_between_their_ends()
+    ensures { (a b p : Point) → thin_holds a b p ≡ true
+        → (int_min a.h b.h ≤ℤ p.h) × (p.h ≤ℤ int_max a.h b.h) × (int_min a.v b.v ≤ℤ p.v) × (p.v ≤ℤ int_max a.v b.v) }
 {}

@@ -1,5 +1,5 @@
 //! Runs of pixels in a row.
-ghost use Rattle.std.specs.Prelude.{◌≡◌, ◌&&◌, ℤ, pos, ◌+ℤ◌, ◌-ℤ◌, false};
+ghost use Rattle.std.specs.Prelude.{◌≡◌, ◌&&◌, ◌<◌, ℤ, pos, ◌+ℤ◌, ◌-ℤ◌, ◌≤ℤ◌, false};
 
 /// The columns `left <= h < right` of a row, none where `right <= left`. Its coordinate space is that of the strip.
 #[derive(Clone, Copy, Debug, PartialEq, Eq)]
@@ -10,6 +10,7 @@ pub struct Run {
 
 impl Run {
     ghost use Rattle.shape_strips.specs.Runs.{run_holds};
+    ghost use Rattle.shape_strips.specs.Lines.{some_below};
 
     /// The run without columns.
     pub fn empty() -> Run
@@ -25,6 +26,21 @@ impl Run {
         Run {
             left: self.left.max(other.left),
             right: self.right.min(other.right),
+        }
+    }
+
+    /// The columns that a pen of so many columns covers while its first one is one of the run's.
+    pub(crate) fn widened(self, columns: u16) -> Run
+        requires some { 0 < columns }
+        requires right { self.right ≤ℤ pos 65536 }
+        ensures { (h : ℤ) → run_holds result h ≡ some_below columns (λ i. run_holds self (h -ℤ pos i)) }
+    {
+        if self.right <= self.left {
+            return Run::empty();
+        }
+        Run {
+            left: self.left,
+            right: self.right + (i32::from(columns) - 1),
         }
     }
 

@@ -26,7 +26,7 @@ const SIZES: u16 = 10;
 
 /// Whether a form is in range, and made of the pixels that a slow program gives, as a region and as bytes.
 fn is_made<P: Pixels>(alloc: Global, form: FormRef, of: &P, sides: Rect) -> Result<bool, Refusal> {
-    if !form.is_near() {
+    if !form.is_near() || form.is_long() {
         return Ok(false);
     }
     let region = form.to_region(alloc)?;

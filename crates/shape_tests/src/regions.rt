@@ -89,13 +89,13 @@ fn every_small_oval_is_made_of_its_pixels(rt: HostRuntime) -> Result<(), Fail> {
 }
 
 /// Whether a region lies within these sides, and has the pixels there that are drawn, row by row.
-fn shows(alloc: Global, region: &Region, sides: Rect, drawn: &[u8]) -> Result<bool, Refusal> {
+pub fn shows(alloc: Global, region: &Region, sides: Rect, drawn: &[u8]) -> Result<bool, Refusal> {
     let shown = picture(alloc, region, sides)?;
     Ok(shown.as_slice() == drawn && region.bbox().union(sides) == sides)
 }
 
 /// The sides of most pictures.
-const EIGHT: Rect = rect!(0, 0, 8, 8);
+pub const EIGHT: Rect = rect!(0, 0, 8, 8);
 
 /// An oval of 8 by 8 pixels.
 const OVAL: &'static [u8] =

@@ -47,7 +47,7 @@ fn is_row<P: Pixels>(run: Run, of: &P, v: i32, sides: Rect) -> bool {
 }
 
 /// Whether the runs of a strip are the rows of a set, within the sides.
-fn are_rows<S: Strip, P: Pixels>(strip: &S, of: &P, sides: Rect) -> bool {
+pub fn are_rows<S: Strip, P: Pixels>(strip: &S, of: &P, sides: Rect) -> bool {
     for v in sides.top..sides.bottom {
         if !is_row(strip.run(v), of, v, sides) {
             return false;

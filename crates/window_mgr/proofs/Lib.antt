@@ -60,7 +60,7 @@ pub mod UpdateSteps
 pub mod FrameSteps
 pub mod FrameTold
 pub mod BarTitles
-pub mod FormLemmas
+pub mod AskedLemmas
 pub mod FrameRight
 pub mod ScreenSides
 pub mod StepsShowing

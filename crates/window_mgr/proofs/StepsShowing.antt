@@ -12,7 +12,7 @@ use Rattle.desk_layers.specs.Owner.{Owner, owner, own_bit, same_owner, is_conten
 use Rattle.desk_layers.specs.Scratch.{scratch}
 use Rattle.desk_layers.specs.Change.{Change, IsChanged, no_change, had, stale_by, image_by}
 use Rattle.desk_layers.proofs.Painting.{scratch_is_owners}
-use Rattle.lent_ops.specs.Forms.{form_holds}
+use Rattle.lent_ops.specs.Asked.{asked_holds}
 use Rattle.desk_call.specs.declared.window.WindowCall.{WindowCall}
 use Rattle.desk_call.specs.declared.window.WindowCall.TheVariants.{New, NewFloating, Dispose, Show, Hide, ShowHide, Select, BringToFront, SendBehind, Move, Size, Zoom, Draw, SetPicture, Scroll, Find, Front, Info, VisibleRegion, UpdateRegion, Region}
 use Rattle.desk_call.specs.declared.window.WindowReply.{WindowReply}
@@ -226,7 +226,7 @@ module _ (shows : List ℕ → Part → PixelSet) where
   step_effect (Find p) answer s t distinct (told, same) = (told ∙ ap reply.Found (sym (found_showing s.desk p)), unchanged_showing s t same)
   step_effect (VisibleRegion n) answer s t distinct effect = effect_showing (Describes (visible_of n)) answer s t (visible_showing n) distinct effect
   step_effect (UpdateRegion n) answer s t distinct effect = effect_showing (Describes (update_of n)) answer s t (λ u p. update_showing shows u n p) distinct effect
-  step_effect (Region f) answer s t distinct effect = effect_showing (Describes (λ u. form_holds f)) answer s t (λ u p. refl) distinct effect
+  step_effect (Region f) answer s t distinct effect = effect_showing (Describes (λ u. asked_holds f)) answer s t (λ u p. refl) distinct effect
   step_effect (Size z) answer s t distinct effect = effect_showing (effect_of (Size z) s.desk) answer s t (places_alike _) distinct effect
   step_effect (Zoom z) answer s t distinct effect =
       subst (λ o. IsEffect (places o) answer (state_showing shows s) (state_showing shows t)) (sym (zoomed_showing z (record_with z.window s.desk.windows) s.desk))

@@ -4,7 +4,7 @@ use Rattle.tb_geom.specs.declared.point.Point.{Point}
 use Rattle.tb_geom.specs.Points.{PixelSet, plus, minus}
 use Rattle.draw_port.specs.declared.shapes.Op.{Op}
 use Rattle.draw_port.specs.Ops.{op_value}
-use Rattle.lent_ops.specs.Forms.{form_holds}
+use Rattle.lent_ops.specs.Asked.{asked_holds}
 use Rattle.lent_ops.specs.OpRefs.{IsMeant}
 use Rattle.std.specs.Option.{is_some}
 use Rattle.def_iface.specs.WindowNews.{WindowNews, AllWindowNews, told_placed, new_window_news}
@@ -207,7 +207,7 @@ effect_of Front desk = Tells (reply.Front (front_of desk.windows))
 effect_of (Info s) desk = Tells (info_of (record_with s desk.windows))
 effect_of (VisibleRegion s) desk = Describes (visible_of s)
 effect_of (UpdateRegion s) desk = Describes (update_of s)
-effect_of (Region f) desk = Describes (λ state. form_holds f)
+effect_of (Region r) desk = Describes (λ state. asked_holds r)
 
 -- what a call of such an effect answers and leaves: a call that tells something, or describes a region, changes nothing
 abbrev pub IsEffect : Effect → WindowReply → FullState → FullState → Type 0

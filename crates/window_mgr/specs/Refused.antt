@@ -8,9 +8,9 @@ use Rattle.tb_geom.specs.declared.refusal.Refusal.TheVariants.{NoSuchName, NoSuc
 use Rattle.tb_geom.specs.Refusals.{first_refusal, number_of}
 use Rattle.tb_geom.specs.Rects.{in_plane}
 use Rattle.draw_port.specs.declared.shapes.Op.{Op}
-use Rattle.lent_ops.specs.declared.form_ref.FormRef.{FormRef}
 use Rattle.lent_ops.specs.declared.op_ref.OpRef.{OpRef}
-use Rattle.lent_ops.specs.Forms.{form_holds, is_form_in_range}
+use Rattle.lent_ops.specs.declared.region_ref.RegionRef.{RegionRef}
+use Rattle.lent_ops.specs.Asked.{asked_holds, IsGoodRegion, IsRegionRefused}
 use Rattle.lent_ops.specs.OpRefs.{IsGood, IsRefused}
 use Rattle.def_iface.specs.declared.size.Size as sizes
 use Rattle.def_iface.specs.WindowSlots.{has_kind, offered}
@@ -71,6 +71,11 @@ is_formal _ = false
 abbrev pub IsJudged : OpRef → Option Refusal → Type 0
 IsJudged op None = IsGood op
 IsJudged op (Some e) = IsRefused op e
+
+-- what judging a region that is asked for finds
+abbrev pub IsRegionJudged : RegionRef → Option Refusal → Type 0
+IsRegionJudged r None = IsGoodRegion r
+IsRegionJudged r (Some e) = IsRegionRefused r e
 
 -- judging found this
 abbrev pub is_found : Refusal → Option Refusal → Bool
@@ -184,11 +189,11 @@ abbrev pub IsUntold : ℕ → PixelSet → FullDesk → Option Refusal → Type 
 IsUntold s set desk why = (long : Bool) × IsMeasured set long
     × (first_refusal ((is_missing s desk.windows, NoSuchWindow) ∷ (long, TooLong) ∷ []) ≡ why)
 
--- why the region of a shape may not be told: a number leaves its range, or the bytes would be too long
-abbrev pub IsFormUntold : FormRef → Option Refusal → Type 0
-IsFormUntold f why =
-    ((is_form_in_range f ≡ false) × (Some OutOfRange ≡ why))
-    ⊎ ((is_form_in_range f ≡ true) × ((long : Bool) × IsMeasured (form_holds f) long × (first_refusal ((long, TooLong) ∷ []) ≡ why)))
+-- why a region that is asked for may not be told: what it is made of is refused, or its bytes would be too long
+abbrev pub IsAskedUntold : RegionRef → Option Refusal → Type 0
+IsAskedUntold r why =
+    ((e : Refusal) × IsRegionRefused r e × (Some e ≡ why))
+    ⊎ (IsGoodRegion r × ((long : Bool) × IsMeasured (asked_holds r) long × (first_refusal ((long, TooLong) ∷ []) ≡ why)))
 
 -- why the call refuses, want of memory aside
 abbrev pub IsRefusal : WindowCall → FullState → Option Refusal → Type 0
@@ -206,7 +211,7 @@ IsRefusal (Find p) state why = first_refusal ((not (in_plane p), OutOfRange) ∷
 IsRefusal Front state why = None ≡ why
 IsRefusal (VisibleRegion s) state why = IsUntold s (visible_of s state) state.desk why
 IsRefusal (UpdateRegion s) state why = IsUntold s (update_of s state) state.desk why
-IsRefusal (Region f) state why = IsFormUntold f why
+IsRefusal (Region r) state why = IsAskedUntold r why
 IsRefusal (Dispose s) state why = first_refusal (window_refusals s state.desk) ≡ why
 IsRefusal (Show s) state why = first_refusal (window_refusals s state.desk) ≡ why
 IsRefusal (Hide s) state why = first_refusal (window_refusals s state.desk) ≡ why
@@ -220,6 +225,8 @@ abbrev pub IsFormRefusal : WindowCall → FullDesk → Option Refusal → Type 0
 IsFormRefusal (New w) desk why = first_refusal (kind_refusals w desk) ≡ why
 IsFormRefusal (NewFloating w) desk why = first_refusal (kind_refusals w desk) ≡ why
 IsFormRefusal (Draw d) desk why = (judged : Option Refusal) × IsJudged d.operation judged
+    × (first_refusal (form_refusals judged) ≡ why)
+IsFormRefusal (Region r) desk why = (judged : Option Refusal) × IsRegionJudged r judged
     × (first_refusal (form_refusals judged) ≡ why)
 IsFormRefusal _ desk why = None ≡ why
 

@@ -21,6 +21,10 @@ pub fn form_refusal(call: &WindowCall<'_>, stock: &WindowStock) -> Option<Refusa
             Err(refusal) if is_formal(refusal) => Some(refusal),
             _ => None,
         },
+        WindowCall::Region(region) => match region.judge() {
+            Err(refusal) if is_formal(refusal) => Some(refusal),
+            _ => None,
+        },
         _ => None,
     }
 }

@@ -61,7 +61,7 @@ impl WindowManager {
             WindowCall::Info(window) => self.answer_info(*window),
             WindowCall::VisibleRegion(window) => self.answer_region(*window, AskedRegion::Visible),
             WindowCall::UpdateRegion(window) => self.answer_region(*window, AskedRegion::Update),
-            WindowCall::Region(form) => self.answer_form(form),
+            WindowCall::Region(region) => self.answer_asked(region),
         }
     }
 

@@ -1,4 +1,4 @@
-//! The calls that tell regions: a window's, and that of a shape.
+//! The calls that tell regions: a window's, and one that is asked for by itself.
 ghost use Rattle.std.specs.Prelude.{◌≡◌, true, MatchResult};
 ghost use Rattle.tb_geom.specs.declared.point.Point.{Point};
 ghost use Rattle.tb_geom.specs.Points.{plus};
@@ -10,7 +10,7 @@ ghost use Rattle.window_mgr.specs.Telling.{AreRegionBytes, IsNotTold, kept_regio
 ghost use Rattle.window_mgr.specs.Step.{IsWindowStep};
 
 use crate::{DeskWindows, WindowManager, WindowReply};
-use lent_ops::FormRef;
+use lent_ops::RegionRef;
 use scan_region::Region;
 use std::alloc::Global;
 use tb_geom::{Point, Refusal};
@@ -47,15 +47,12 @@ impl WindowManager {
         }
     }
 
-    /// Tells the region of a shape.
-    pub(crate) fn answer_form(&self, form: &FormRef) -> Result<WindowReply, Refusal>
+    /// Tells the region that is asked for.
+    pub(crate) fn answer_asked(&self, region: &RegionRef<'_>) -> Result<WindowReply, Refusal>
         requires { ⟦<Self as DeskWindows>⟧.IsKept self.now }
-        ensures { ⟦<Self as DeskWindows>⟧.LeavesState (IsWindowStep (asks.Region form.now) result) self.now self.now }
+        ensures { ⟦<Self as DeskWindows>⟧.LeavesState (IsWindowStep (asks.Region region.now) result) self.now self.now }
     {
-        if !form.is_near() {
-            return Err(Refusal::OutOfRange);
-        }
-        match form.to_bytes(self.alloc) {
+        match region.to_bytes(self.alloc) {
             Ok(bytes) => Ok(WindowReply::Region(bytes)),
             Err(refusal) => Err(refusal),
         }

@@ -1,9 +1,10 @@
 //! Lines that ask something about controls, and what is answered about them.
 
-use command_words::{Verb, verb_of, write_control_reply};
+use command_words::{Verb, verb_of};
 use control_values::{ControlPart, ControlValues, Highlight};
 use desk_call::{ControlCall, ControlInfo, ControlOf, ControlReply, FoundControl};
 use line_words::Words;
+use reply_lines::write_control_reply;
 use std::test::Fail;
 use tb_geom::{Point, Refusal};
 use watched_io::WatchedWriter;

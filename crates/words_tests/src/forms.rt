@@ -2,9 +2,9 @@
 
 use command_words::{Verb, verb_of};
 use desk_call::WindowCall;
-use lent_ops::{CornerRef, FormRef, PenRef, ShapeRef};
+use lent_ops::{CornerRef, FormRef, PenRef, RegionRef, ShapeRef};
 use line_words::Words;
-use tb_geom::{Rect, Refusal};
+use tb_geom::{BytesRef, Rect, Refusal};
 
 /// What a line of at most 100 bytes asks about windows in a script of this version, which is read from the room. NoSuchName
 /// where its first word is no verb for windows.
@@ -38,13 +38,38 @@ fn numbers(form: &FormRef) -> (u8, Rect, [i32; 2], [i32; 2]) {
         FormRef::FrameRect(rect, pen) => (b'R', *rect, NONE, of_pen(pen)),
         FormRef::FrameRound(rect, corner, pen) => (b'C', *rect, of_corner(corner), of_pen(pen)),
         FormRef::FrameOval(rect, pen) => (b'O', *rect, NONE, of_pen(pen)),
+        FormRef::Line(from, to, pen) => {
+            let ends = Rect {
+                left: from.h,
+                top: from.v,
+                right: to.h,
+                bottom: to.v,
+            };
+            (b'l', ends, NONE, of_pen(pen))
+        }
+        FormRef::Polygon(bytes) => (b'p', box_of(bytes), NONE, NONE),
+        FormRef::FramePolygon(bytes, pen) => (b'P', box_of(bytes), NONE, of_pen(pen)),
+    }
+}
+
+/// The first four bytes of some.
+fn box_of(bytes: &BytesRef) -> Rect {
+    let at = |place: usize| bytes
+        .as_slice()
+        .get(place)
+        .map_or(-1, |byte| i32::from(*byte));
+    Rect {
+        left: at(0),
+        top: at(1),
+        right: at(2),
+        bottom: at(3),
     }
 }
 
 /// The form whose region a line asks for, or the form that it draws, in a script of this version.
 fn form_of(version: i32, line: &[u8]) -> Option<(u8, Rect, [i32; 2], [i32; 2])> {
     match asked(version, &mut [0; 100], line).ok()? {
-        WindowCall::Region(form) => Some(numbers(&form)),
+        WindowCall::Region(RegionRef::Form(form)) => Some(numbers(&form)),
         WindowCall::Draw(drawing) => match drawing.operation.shape {
             ShapeRef::Form(form, _) => Some(numbers(&form)),
             _ => None,
@@ -63,7 +88,7 @@ const SIDES: Rect = Rect {
 
 #[test]
 fn numbers_of_forms_are_judged_by_nobody(rt: HostRuntime) {
-    let lines: [(&[u8], u8, [i32; 2], [i32; 2]); 6] = [
+    let lines: [(&[u8], u8, [i32; 2], [i32; 2]); 7] = [
         (b"region rect -1 2 300 -99999", b'r', NONE, NONE),
         (b"region round -1 2 300 -99999 -5 6", b'c', [-5, 6], NONE),
         (b"region oval -1 2 300 -99999", b'o', NONE, NONE),
@@ -75,10 +100,37 @@ fn numbers_of_forms_are_judged_by_nobody(rt: HostRuntime) {
             [7, 8],
         ),
         (b"region foval -1 2 300 -99999 7 8", b'O', NONE, [7, 8]),
+        (b"region line -1 2 300 -99999 7 8", b'l', NONE, [7, 8]),
     ];
     for (line, letter, corner, pen) in lines {
         assert!(rt; form_of(3, line) == Some((letter, SIDES, corner, pen)));
         assert!(rt; asked(2, &mut [0; 100], line).err() == Some(Refusal::NoSuchName));
+    }
+}
+
+#[test]
+fn bytes_of_polygons_are_lent_as_they_stand(rt: HostRuntime) {
+    let sides = Rect {
+        left: 1,
+        top: 2,
+        right: 254,
+        bottom: 255,
+    };
+    let lines: [(&[u8], u8, [i32; 2]); 3] = [
+        (b"region poly 0102FEFF", b'p', NONE),
+        (b"region fpoly 0102FEff00000000 7 -8", b'P', [7, -8]),
+        (b"draw 1 fpoly 0102feFF 7 8 patCopy black", b'P', [7, 8]),
+    ];
+    for (line, letter, pen) in lines {
+        assert!(rt; form_of(3, line) == Some((letter, sides, NONE, pen)));
+    }
+    let uneven: [&[u8]; 3] = [
+        b"region poly 0102FE",
+        b"region fpoly 0102 1 1",
+        b"draw 1 poly 01 nomode black",
+    ];
+    for line in uneven {
+        assert!(rt; asked(3, &mut [0; 100], line).err() == Some(Refusal::BadSyntax));
     }
 }
 

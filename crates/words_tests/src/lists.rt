@@ -1,9 +1,10 @@
 //! Lines that ask something about lists, and what is answered about them.
 
-use command_words::{Verb, verb_of, write_list_reply};
+use command_words::{Verb, verb_of};
 use desk_call::{CellOf, ListCall, ListOf, ListReply};
 use line_words::Words;
 use list_cells::Cell;
+use reply_lines::write_list_reply;
 use std::test::Fail;
 use tb_geom::Refusal;
 use watched_io::WatchedWriter;

@@ -25,6 +25,7 @@ COLORED = [
     [("draw", "Command"), ("1", "Number"), ("clip", "Operation"), ("0A0B", ""), ("rgn", "Operation"), ("0F", "")],
     [("draw", "Command"), ("1", "Number"), ("foval", "Operation"), ("-2", "Number"), ("patXor", "Mode"), ("black", "Pattern")],
     [("region", "Command"), ("fround", "Operation"), ("0", "Number"), ("oval", "")],
+    [("region", "Command"), ("union", "Operation"), ("0F", ""), ("line", "")],
     [("region", "Command"), ("fill", "")],
     [("frontwin", "Command")],
     [("front", "Command"), ("2", "Number")],

@@ -10,6 +10,8 @@ from desk_kit.talk import OWN, Look, Talk, completions
 from place import TOP, same
 
 # A manual of two commands and a refusal.
+# What region has after the ovals and their frames.
+MADE = ("line ", "poly ", "fpoly ", "rgn ", "offset ", "union ", "sect ", "diff ", "xor ")
 SMALL = """# Small
 
 Words before.
@@ -219,14 +221,15 @@ def words_are_completed(_):
         ("list 1 ", "", ["text "]),
         ("post ", "", []),
         ("draw ", "", []),
-        ("draw 1 ", "f", ["fill ", "frame ", "frect ", "fround ", "foval "]),
+        ("draw 1 ", "f", ["fill ", "frame ", "frect ", "fround ", "foval ", "fpoly "]),
         ("draw 1 ", "c", ["clip "]),
         ("draw 1 clip ", "", []),
         ("draw 1 clip 000A ", "r", ["rgn ", "round "]),
         ("draw 1 foval 0 0 8 8 1 1 ", "notPatX", ["notPatXor "]),
         ("", "reg", ["region "]),
-        ("region ", "", ["rect ", "round ", "oval ", "frect ", "fround ", "foval "]),
+        ("region ", "", ["rect ", "round ", "oval ", "frect ", "fround ", "foval ", *MADE]),
         ("region ", "fr", ["frect ", "fround "]),
+        ("region ", "p", ["poly "]),
         ("region oval ", "", []),
         ("draw 1 fill 0 0 2 ", "p", []),
         ("draw 1 fill 0 0 2 2 ", "pat", ["patCopy ", "patOr ", "patXor ", "patBic "]),

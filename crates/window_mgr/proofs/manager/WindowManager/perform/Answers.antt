@@ -58,7 +58,7 @@ pub returns-in-Info : goal.returns-in-Info
 returns-in-Info g c = let done = c.answer_info.ensures _ c.requires in record { whole = done.0; step = rw c.in-Info.is (done.1); sparing = rw c.in-Info.is tt; quiet = on_refusal c.answer_info.result _ refl }
 
 pub returns-in-Region : goal.returns-in-Region
-returns-in-Region g c = let done = c.answer_form.ensures _ c.requires in record { whole = done.0; step = rw c.in-Region.is (done.1); sparing = rw c.in-Region.is tt; quiet = on_refusal c.answer_form.result _ refl }
+returns-in-Region g c = let done = c.answer_asked.ensures _ c.requires in record { whole = done.0; step = rw c.in-Region.is (done.1); sparing = rw c.in-Region.is tt; quiet = on_refusal c.answer_asked.result _ refl }
 
 pub returns-in-VisibleRegion : goal.returns-in-VisibleRegion
 returns-in-VisibleRegion g c = let done = c.answer_region.ensures.step _ c.requires in record { whole = done.0; step = rw c.in-VisibleRegion.is (done.1); sparing = rw c.in-VisibleRegion.is tt; quiet = on_refusal c.answer_region.result _ c.answer_region.ensures.quiet }

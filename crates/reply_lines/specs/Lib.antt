@@ -1,0 +1,5 @@
+pub mod ControlLines
+pub mod EventLines
+pub mod ListLines
+pub mod MenuLines
+pub mod WindowLines

@@ -1,0 +1,4 @@
+-- Lemmas.
+pub mod EndLemmas
+pub mod LineLemmas
+pub mod FollowLemmas
