@@ -1,7 +1,7 @@
 -- The words of regions that are asked for.
 use Rattle.std.specs.Prelude.{ℕ, List, [], ◌∷◌, ◌++◌, map, Option, Some, None, codes}
-use Rattle.shape_region.specs.declared.combination.Combination.{Combination}
-use Rattle.shape_region.specs.declared.combination.Combination.TheVariants.{Union, Sect, Diff, Xor}
+use Rattle.pixel_rows.specs.declared.combination.Combination.{Combination}
+use Rattle.pixel_rows.specs.declared.combination.Combination.TheVariants.{Union, Sect, Diff, Xor}
 use Rattle.lent_ops.specs.declared.region_ref.RegionRef.{RegionRef}
 use Rattle.lent_ops.specs.declared.region_ref.RegionRef.TheVariants.{Form, Rgn, Offset, Combined}
 use Rattle.line_words.specs.Shapes.{Shape, says, never, number, name, hex}

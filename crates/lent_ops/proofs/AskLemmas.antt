@@ -4,7 +4,7 @@ use Rattle.tb_geom.specs.declared.refusal.Refusal.{Refusal}
 use Rattle.tb_geom.specs.declared.refusal.Refusal.TheVariants.{NoMemory}
 use Rattle.region_bytes.specs.Bytes.{IsRegionBytes}
 use Rattle.region_bytes.specs.Text.{pixels_of}
-use Rattle.shape_region.specs.Told.{AreRegionBytes, IsNotTold}
+use Rattle.pixel_rows.specs.Told.{AreRegionBytes, IsNotTold}
 use Rattle.lent_ops.specs.declared.region_ref.RegionRef.{RegionRef}
 use Rattle.lent_ops.specs.Asked.{IsGoodRegion, IsRegionRefused, asked_holds, said_holds}
 use Rattle.lent_ops.specs.OpRefs.{HasForm, IsFormOutOfRange, IsRegion, Stands}

@@ -8,7 +8,7 @@ use Rattle.tb_geom.specs.Pixels.{holds}
 use Rattle.tb_geom.specs.Rects.{is_coordinate}
 use Rattle.region_bytes.specs.Text.{pixels_of}
 use Rattle.scan_region.specs.Moves.{StaysInRange}
-use Rattle.shape_region.specs.Combined.{combined, moved}
+use Rattle.pixel_rows.specs.Combined.{combined, moved}
 use Rattle.lent_ops.specs.declared.region_ref.Distance.{Distance}
 use Rattle.lent_ops.specs.declared.region_ref.RegionRef.{RegionRef}
 use Rattle.lent_ops.specs.declared.region_ref.RegionRef.TheVariants.{Form, Rgn, Offset, Combined}

@@ -1,15 +1,15 @@
 //! Regions that calls ask for: why they are refused, and their bytes.
 ghost use Rattle.std.specs.Prelude.{◌≡◌, ◌⊎◌, ◌↔◌, true, false, IsTrue, MatchResult};
 ghost use Rattle.region_bytes.specs.Text.{pixels_of};
-ghost use Rattle.shape_region.specs.Told.{AreRegionBytes, IsNotTold};
+ghost use Rattle.pixel_rows.specs.Told.{AreRegionBytes, IsNotTold};
 ghost use Rattle.lent_ops.specs.Asked.{asked_holds, is_distance, IsGoodRegion, IsMoved, IsRegionRefused};
 ghost use Rattle.lent_ops.specs.OpRefs.{HasForm, IsFormOutOfRange, IsRegion};
 
 use crate::form_ref::FormRef;
 use crate::judging::is_in_range;
 use crate::region_ref::{Distance, RegionRef};
+use pixel_rows::{can_move, combined_bytes, moved_bytes};
 use region_bytes::RegionBytes;
-use shape_region::{can_move, combined_bytes, moved_bytes};
 use std::alloc::Global;
 use tb_geom::{BytesRef, Refusal};
 

@@ -8,7 +8,7 @@ ghost use Rattle.shape_strips.specs.Rounds.{round_holds};
 ghost use Rattle.shape_strips.specs.Frames.{frame_holds};
 ghost use Rattle.shape_strips.specs.Lines.{line_holds, pen_fits};
 ghost use Rattle.shape_region.specs.Polygons.{are_in_plane, frame_polygon_holds, polygon_holds};
-ghost use Rattle.shape_region.specs.Told.{AreRegionBytes, IsNotTold};
+ghost use Rattle.pixel_rows.specs.Told.{AreRegionBytes, IsNotTold};
 ghost use Rattle.lent_ops.specs.Forms.{corner_of, form_holds, has_points, is_corner, is_form_in_range, is_form_long, is_line_in_range, is_pen, pen_of};
 ghost use Rattle.lent_ops.specs.Points.{are_many, points_of};
 ghost use Rattle.lent_ops.specs.Judged.{judged_holds};

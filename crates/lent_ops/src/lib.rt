@@ -26,6 +26,6 @@ mod region_ref;
 
 pub use form_ref::{CornerRef, FormRef, PenRef};
 pub use op_ref::{BitsRef, LineRef, OpRef, ShapeRef, TextRef};
+pub use pixel_rows::Combination;
 pub use points::are_points;
 pub use region_ref::{Distance, RegionRef};
-pub use shape_region::Combination;

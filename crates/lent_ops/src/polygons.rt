@@ -5,7 +5,7 @@ ghost use Rattle.tb_geom.specs.declared.point.Point.{Point};
 ghost use Rattle.tb_geom.specs.Pixels.{holds};
 ghost use Rattle.shape_strips.specs.Lines.{pen_fits};
 ghost use Rattle.shape_region.specs.Polygons.{are_in_plane, polygon_holds, frame_polygon_holds};
-ghost use Rattle.shape_region.specs.Told.{AreRegionBytes, IsNotTold};
+ghost use Rattle.pixel_rows.specs.Told.{AreRegionBytes, IsNotTold};
 ghost use Rattle.lent_ops.specs.Points.{are_many, points_of};
 
 use crate::points::Points;

@@ -1,6 +1,6 @@
 //! Regions that calls ask for.
 use crate::form_ref::FormRef;
-use shape_region::Combination;
+use pixel_rows::Combination;
 use tb_geom::BytesRef;
 
 /// How far a region is moved, to the right and down.

@@ -1,5 +1,5 @@
 -- How far the rows of a shape are made.
-use Rattle.std.proofs.Common.{◌≡◌, ◌&&◌, Bool, true, false, inl, inr, List, [], ℤ, pos, ◌-ℤ◌, ◌+ℤ◌, ◌≤ℤ◌, ◌<ℤ◌, refl, sym, ap, ◌∙◌, arith}
+use Rattle.std.proofs.Common.{◌≡◌, ◌&&◌, true, false, inl, inr, List, [], ℤ, pos, ◌-ℤ◌, ◌+ℤ◌, ◌≤ℤ◌, ◌<ℤ◌, sym, ap, ◌∙◌, arith}
 use Rattle.std.proofs.lemmas.Int.{ints, by_lt_z}
 use Rattle.std.proofs.lemmas.Bool.{and_parts, and_right, cases_Bool}
 use Rattle.tb_geom.specs.declared.point.Point.{Point}
@@ -8,7 +8,7 @@ use Rattle.tb_geom.specs.Points.{PixelSet}
 use Rattle.tb_geom.specs.Rects.{between, is_in_range, is_empty_rect, rect_holds}
 use Rattle.tb_geom.proofs.RectLemmas.{between-in, holds_none}
 use Rattle.region_bytes.specs.Points.{in_rows}
-use Rattle.region_bytes.proofs.Edges.{int_le-true, int_le-false, inside-nil, IsRow-nil}
+use Rattle.region_bytes.proofs.Edges.{int_le-true, inside-nil, IsRow-nil}
 use Rattle.region_bytes.proofs.Rows.{nil_has}
 use Rattle.region_rows.specs.Edges.{differ, inside, IsCoordinate, IsRow}
 use Rattle.region_rows.specs.Pairs.{AreStacked}
@@ -17,8 +17,10 @@ use Rattle.region_rows.proofs.PairRows.{none_stacked, pushed_pixel, stacked, sta
 use Rattle.shape_strips.specs.declared.run.Run.{Run}
 use Rattle.shape_strips.specs.Runs.{run_holds}
 use Rattle.shape_strips.proofs.RangeLemmas.{row_of, sides_in}
-use Rattle.shape_strips.proofs.RunLemmas.{between_before, between_past}
-use Rattle.shape_region.specs.Rows.{turns, AreBounds, IsPlaced}
+use Rattle.shape_strips.proofs.RunLemmas.{between_before}
+use Rattle.pixel_rows.proofs.RowLemmas.{below_none, differ_back, unturned}
+use Rattle.shape_region.specs.Rows.{turns}
+use Rattle.pixel_rows.specs.Bounds.{AreBounds, IsPlaced}
 
 -- the rows of a set above the row v are made, and the last of them, with these edges, goes on below
 pub record AreMade (s : PixelSet) (rows : List EdgeRow) (above : List ℤ) (v : ℤ) : Type 0 where
@@ -26,16 +28,6 @@ pub record AreMade (s : PixelSet) (rows : List EdgeRow) (above : List ℤ) (v : 
   pub row : IsRow above
   pub passed : (h w : ℤ) → w <ℤ v → in_rows rows h w ≡ s (record { h = h; v = w })
   pub ahead : (h w : ℤ) → v ≤ℤ w → in_rows rows h w ≡ inside above h
-
-pub differ_back : (a b : Bool) → differ (differ a b) a ≡ b
-differ_back true true = refl
-differ_back true false = refl
-differ_back false true = refl
-differ_back false false = refl
-
--- what a row of turns leaves above it, and from there on
-pub unturned : (old new : List EdgeRow) (v : ℤ) (t : ℤ → Bool) → IsPushed old new v t → (h w : ℤ) → w <ℤ v → in_rows new h w ≡ in_rows old h w
-unturned old new v t p h w l = pushed_pixel old new v t p h w ∙ (λ i. differ (int_le-false v w l i && t h) (in_rows old h w))
 
 turned : (old new : List EdgeRow) (v : ℤ) (above row : List ℤ) → IsPushed old new v (turns above row) → (h w : ℤ) → v ≤ℤ w
     → in_rows old h w ≡ inside above h → in_rows new h w ≡ inside row h
@@ -130,10 +122,6 @@ one_made s old new above row v made top is_row pixels p =
 
     stacked_on : AreStacked new ((v +ℤ pos 1) -ℤ pos 1)
     stacked_on = rw one_less (stacked old new (v -ℤ pos 1) v (turns above row) made.are_stacked (omega (arith, ints)) top p)
-
--- below the last row the set has no pixel
-pub below_none : (s : PixelSet) (r : Rect) → AreBounds s r → (h w : ℤ) → r.bottom ≤ℤ w → s (record { h = h; v = w }) ≡ false
-below_none s r b h w l = b.around (record { h = h; v = w }) (and_right (between r.left h r.right) _ (between_past r.top w r.bottom l))
 
 -- all rows are made, and the one below them
 module _ (s : PixelSet) (r : Rect) (old new : List EdgeRow) (above : List ℤ) (b : AreBounds s r) (made : AreMade s old above r.bottom)

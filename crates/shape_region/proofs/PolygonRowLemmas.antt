@@ -22,15 +22,15 @@ use Rattle.shape_strips.proofs.BandLemmas.{passes_above, passes_column, passes_l
 use Rattle.shape_strips.proofs.Products.{times_le}
 use Rattle.shape_strips.proofs.RangeLemmas.{coordinate_from, coordinate_high, coordinate_low, in_range_from, sides_in}
 use Rattle.shape_strips.proofs.RunLemmas.{between_before, between_past}
-use Rattle.shape_region.specs.declared.columns.Columns.{Columns}
-use Rattle.shape_region.specs.declared.combination.Combination.TheVariants.{Union}
-use Rattle.shape_region.specs.Columns.{has_column, is_edge}
+use Rattle.pixel_rows.specs.declared.columns.Columns.{Columns}
+use Rattle.pixel_rows.specs.declared.combination.Combination.TheVariants.{Union}
+use Rattle.pixel_rows.specs.Columns.{has_column, is_edge}
 use Rattle.shape_region.specs.Polygons.{odd_edges, polygon_holds, single_point, some_line}
-use Rattle.shape_region.specs.Rows.{AreBounds}
-use Rattle.shape_region.proofs.BoxLemmas.{both_bounds, from_false}
-use Rattle.shape_region.proofs.ColumnLemmas.{over}
+use Rattle.pixel_rows.specs.Bounds.{AreBounds}
+use Rattle.pixel_rows.proofs.BoxLemmas.{both_bounds, from_false}
+use Rattle.pixel_rows.proofs.ColumnLemmas.{over}
 use Rattle.shape_region.proofs.PolygonLemmas.{edge_past, edges_by, AreAll}
-use Rattle.shape_region.proofs.RunLemmas.{between_same}
+use Rattle.pixel_rows.proofs.RowLemmas.{between_same}
 
 -- ---- where an edge turns a row
 

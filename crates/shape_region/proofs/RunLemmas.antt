@@ -15,10 +15,7 @@ use Rattle.shape_strips.specs.Rounds.{round_holds}
 use Rattle.shape_strips.specs.Frames.{frame_holds, has_size, inside_holds}
 use Rattle.shape_strips.proofs.LawLemmas.{inside_is_surrounded}
 use Rattle.shape_strips.proofs.RangeLemmas.{row_of}
-
--- between equal numbers there is none
-pub between_same : (x h y : ℤ) → x ≡ y → between x h y ≡ false
-between_same x h y e = grind (arith, ints)
+use Rattle.pixel_rows.proofs.RowLemmas.{between_same}
 
 pub first_none : (x y h : ℤ) (b : Bool) → x ≡ y → (between x h y || b) ≡ b
 first_none x y h b e = λ i. between_same x h y e i || b

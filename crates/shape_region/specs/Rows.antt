@@ -1,23 +1,8 @@
 -- Shapes row by row: the columns of a row, and where a row differs from the one above.
-use Rattle.std.specs.Prelude.{◌≡◌, Bool, true, false, ◌||◌, List, ℤ, ◌≤ℤ◌}
-use Rattle.tb_geom.specs.declared.point.Point.{Point}
-use Rattle.tb_geom.specs.declared.rect.Rect.{Rect}
-use Rattle.tb_geom.specs.Points.{PixelSet}
-use Rattle.tb_geom.specs.Rects.{between, is_in_range, rect_holds}
+use Rattle.std.specs.Prelude.{Bool, ◌||◌, List, ℤ, ◌≤ℤ◌}
+use Rattle.tb_geom.specs.Rects.{between}
 use Rattle.region_rows.specs.Edges.{differ, inside, IsCoordinate}
-use Rattle.shape_strips.specs.declared.run.Run.{Run}
 use Rattle.shape_region.specs.declared.two_runs.TwoRuns.{TwoRuns}
-
--- a rectangle in range around the set
-pub record AreBounds (s : PixelSet) (r : Rect) : Type 0 where
-  pub in_range : is_in_range r ≡ true
-  pub around : (p : Point) → rect_holds r p ≡ false → s p ≡ false
-
--- the ends of the run are coordinates, the left one no further right than the right one
-pub record IsPlaced (run : Run) : Type 0 where
-  pub left_in : IsCoordinate run.left
-  pub right_in : IsCoordinate run.right
-  pub order : run.left ≤ℤ run.right
 
 -- the columns of the two runs of a row
 abbrev pub two_runs : TwoRuns → ℤ → Bool

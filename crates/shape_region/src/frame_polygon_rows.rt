@@ -2,15 +2,14 @@
 ghost use Rattle.std.specs.Prelude.{◌≡◌, ◌||◌, true, ℤ, MatchResult};
 ghost use Rattle.std.specs.List.{list_all};
 ghost use Rattle.shape_strips.specs.Lines.{line_holds, pen_fits};
-ghost use Rattle.shape_region.specs.Columns.{has_column};
+ghost use Rattle.pixel_rows.specs.Columns.{has_column};
 ghost use Rattle.shape_region.specs.Polygons.{frame_polygon_holds, some_line};
-ghost use Rattle.shape_region.specs.Rows.{AreBounds};
-ghost use Rattle.shape_region.specs.Told.{AreRegionBytes, IsNotTold};
+ghost use Rattle.pixel_rows.specs.Bounds.{AreBounds};
+ghost use Rattle.pixel_rows.specs.Told.{AreRegionBytes, IsNotTold};
 
-use crate::columns::Columns;
-use crate::pixel_rows::{PixelRows, pixel_bytes};
 use crate::polygon_rows::single;
 use crate::strip::placed_run;
+use pixel_rows::{Columns, PixelRows, pixel_bytes};
 use shape_strips::{LineStrip, Pen, Strip};
 use std::alloc::Global;
 use tb_geom::{Point, Rect, Refusal};

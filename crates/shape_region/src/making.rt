@@ -5,7 +5,8 @@ ghost use Rattle.tb_geom.specs.Pixels.{holds};
 ghost use Rattle.region_bytes.specs.Points.{in_rows};
 ghost use Rattle.region_rows.specs.Edges.{inside, IsRow};
 ghost use Rattle.region_rows.specs.Rows.{AreRows, IsPushed};
-ghost use Rattle.shape_region.specs.Rows.{turns, AreBounds};
+ghost use Rattle.shape_region.specs.Rows.{turns};
+ghost use Rattle.pixel_rows.specs.Bounds.{AreBounds};
 
 use crate::rows::Rows;
 use crate::turns::turn_points;

@@ -4,13 +4,12 @@ ghost use Rattle.tb_geom.specs.declared.point.Point.{Point};
 ghost use Rattle.tb_geom.specs.Rects.{in_plane, rect_around};
 ghost use Rattle.region_rows.specs.Edges.{differ, IsCoordinate};
 ghost use Rattle.shape_strips.specs.Bands.{edge_turns};
-ghost use Rattle.shape_region.specs.Columns.{has_column, is_edge};
+ghost use Rattle.pixel_rows.specs.Columns.{has_column, is_edge};
 ghost use Rattle.shape_region.specs.Polygons.{are_in_plane, odd_edges, polygon_holds, single_point};
-ghost use Rattle.shape_region.specs.Rows.{AreBounds};
-ghost use Rattle.shape_region.specs.Told.{AreRegionBytes, IsNotTold};
+ghost use Rattle.pixel_rows.specs.Bounds.{AreBounds};
+ghost use Rattle.pixel_rows.specs.Told.{AreRegionBytes, IsNotTold};
 
-use crate::columns::Columns;
-use crate::pixel_rows::{PixelRows, pixel_bytes};
+use pixel_rows::{Columns, PixelRows, pixel_bytes};
 use shape_strips::{BandStrip, Strip};
 use std::alloc::Global;
 use tb_geom::{LAST_SIDE, Point, Rect, Refusal};

@@ -3,7 +3,7 @@ ghost use Rattle.std.specs.Prelude.{◌≡◌, ℤ, IfOk};
 ghost use Rattle.tb_geom.specs.declared.point.Point.{Point};
 ghost use Rattle.tb_geom.specs.Pixels.{holds};
 ghost use Rattle.shape_strips.specs.Runs.{run_holds};
-ghost use Rattle.shape_region.specs.Rows.{AreBounds, IsPlaced};
+ghost use Rattle.pixel_rows.specs.Bounds.{AreBounds, IsPlaced};
 
 use crate::making::form_region;
 use crate::rows::Solid;

@@ -3,7 +3,8 @@ ghost use Rattle.std.specs.Prelude.{◌≡◌, ◌&&◌, false, not, ℤ, ◌≤
 ghost use Rattle.tb_geom.specs.Rects.{between};
 ghost use Rattle.region_rows.specs.Edges.{inside, IsCoordinate, IsRow};
 ghost use Rattle.shape_strips.specs.Runs.{run_holds};
-ghost use Rattle.shape_region.specs.Rows.{two_runs, ArePlaced, IsPlaced};
+ghost use Rattle.shape_region.specs.Rows.{two_runs, ArePlaced};
+ghost use Rattle.pixel_rows.specs.Bounds.{IsPlaced};
 
 use arrayvec::ArrayVec;
 use shape_strips::Run;

@@ -5,9 +5,10 @@ ghost use Rattle.region_bytes.specs.Points.{PointRow, IsInRange, row_points};
 ghost use Rattle.region_bytes.specs.Writing.{IsWritten, AreWritten};
 ghost use Rattle.region_rows.specs.Edges.{IsCoordinate, IsRow};
 ghost use Rattle.region_rows.specs.Rows.{IsPushed};
-ghost use Rattle.shape_region.specs.Rows.{turns, AreBounds};
-ghost use Rattle.shape_region.specs.Told.{AreRegionBytes, IsNotTold};
-ghost use Rattle.shape_region.specs.Written.{AreWrittenRows};
+ghost use Rattle.shape_region.specs.Rows.{turns};
+ghost use Rattle.pixel_rows.specs.Bounds.{AreBounds};
+ghost use Rattle.pixel_rows.specs.Told.{AreRegionBytes, IsNotTold};
+ghost use Rattle.pixel_rows.specs.Written.{AreWrittenRows};
 
 use crate::making::{row_bounds, row_edges};
 use crate::rows::Rows;

@@ -1,8 +1,8 @@
 //! Bytes of what two regions make together, and of regions that are moved.
 
 use crate::bytes::Told;
+use pixel_rows::{Combination, can_move, combined_bytes, moved_bytes};
 use region_bytes::RegionBytes;
-use shape_region::{Combination, can_move, combined_bytes, moved_bytes};
 use std::alloc::{AllocError, Global};
 use std::test::Fail;
 use tb_geom::{Point, Rect, Refusal};

@@ -2,7 +2,7 @@
 use Rattle.std.specs.Prelude.{ℕ, false, ◌&&◌, Option, None, Some}
 use Rattle.tb_geom.specs.Points.{PixelSet, plus}
 use Rattle.tb_geom.specs.Pixels.{Pixels}
-pub use Rattle.shape_region.specs.Told.{IsRegionOf, IsLong, IsMeasured, AreRegionBytes, IsNotTold}
+pub use Rattle.pixel_rows.specs.Told.{IsRegionOf, IsLong, IsMeasured, AreRegionBytes, IsNotTold}
 use Rattle.desk_layers.specs.Desk.{on_screen}
 use Rattle.desk_layers.specs.Owner.{owner}
 use Rattle.desk_call.specs.declared.window.WindowCall.{WindowCall}

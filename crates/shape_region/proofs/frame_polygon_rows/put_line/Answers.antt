@@ -1,6 +1,6 @@
 use Rattle.std.proofs.Common.{◌||◌, ap, ◌∙◌}
 use Rattle.std.proofs.lemmas.Int.{to_z-of_z}
-use Rattle.shape_region.specs.Columns.{has_column}
+use Rattle.pixel_rows.specs.Columns.{has_column}
 use Rattle.shape_region.proofs.frame_polygon_rows.put_line.Goals as goal
 
 pub returns : goal.returns

@@ -3,7 +3,7 @@ use Rattle.std.proofs.lemmas.Int.{ints, to_z-of_z}
 use Rattle.std.specs.Ordering.{int_eq}
 use Rattle.region_rows.specs.Edges.{differ}
 use Rattle.shape_strips.proofs.RangeLemmas.{coordinate_from}
-use Rattle.shape_region.specs.Columns.{has_column}
+use Rattle.pixel_rows.specs.Columns.{has_column}
 use Rattle.shape_region.proofs.PolygonRowLemmas.{turn_here, turn_nowhere}
 use Rattle.shape_region.proofs.polygon_rows.flip_turn.Goals as goal
 

@@ -3,7 +3,7 @@ use Rattle.std.proofs.lemmas.Int.{to_z-of_z}
 use Rattle.tb_geom.specs.declared.point.Point.{Point}
 use Rattle.region_bytes.proofs.Rows.{differ-false}
 use Rattle.region_rows.specs.Edges.{differ}
-use Rattle.shape_region.specs.Columns.{is_edge}
+use Rattle.pixel_rows.specs.Columns.{is_edge}
 use Rattle.shape_region.specs.Polygons.{polygon_holds}
 use Rattle.shape_region.proofs.PolygonRowLemmas.{closed_by}
 use Rattle.shape_region.proofs.polygon_rows.polygon_edges.Goals as goal

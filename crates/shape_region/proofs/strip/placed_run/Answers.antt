@@ -1,7 +1,7 @@
 use Rattle.std.proofs.Common.{◌≤ℤ◌, ◌<ℤ◌, sym, ◌∙◌, subst, rules, SFits, w32}
 use Rattle.std.proofs.lemmas.Int.{ints, to_z-of_z}
 use Rattle.shape_strips.specs.Runs.{run_holds}
-use Rattle.shape_region.specs.Rows.{IsPlaced}
+use Rattle.pixel_rows.specs.Bounds.{IsPlaced}
 use Rattle.shape_region.proofs.MadeLemmas.{no_run_placed, run_placed, empty_row}
 use Rattle.shape_region.proofs.strip.placed_run.Goals as goal
 

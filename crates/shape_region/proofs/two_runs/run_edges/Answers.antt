@@ -3,7 +3,7 @@ use Rattle.std.proofs.lemmas.Int.{ints}
 use Rattle.region_bytes.proofs.Edges.{inside-nil, IsRow-nil}
 use Rattle.region_rows.specs.Edges.{inside, IsRow}
 use Rattle.region_rows.proofs.PairRows.{inside_two, row_of_two}
-use Rattle.shape_region.proofs.RunLemmas.{between_same}
+use Rattle.pixel_rows.proofs.RowLemmas.{between_same}
 use Rattle.shape_region.proofs.two_runs.run_edges.Goals as goal
 
 pub returns-then-left-right-clause-pixels : goal.returns-then-left-right-clause-pixels

@@ -1,5 +1,5 @@
 use Rattle.std.proofs.lemmas.Result.{MatchResult-weaker}
-use Rattle.shape_region.proofs.WrittenLemmas.{told, not_told}
+use Rattle.pixel_rows.proofs.ToldLemmas.{told, not_told}
 use Rattle.shape_region.proofs.writing.form_bytes.Goals as goal
 
 pub finish-requires : goal.finish-requires

@@ -2,7 +2,7 @@ use Rattle.std.proofs.Common.{◌<ℤ◌, pos, arith}
 use Rattle.std.proofs.lemmas.Int.{ints, to_z-of_z}
 use Rattle.shape_strips.proofs.RangeLemmas.{row_of, sides_in}
 use Rattle.shape_region.specs.Polygons.{polygon_holds}
-use Rattle.shape_region.proofs.ColumnLemmas.{beside_bounds, column_in}
+use Rattle.pixel_rows.proofs.ColumnLemmas.{beside_bounds, column_in}
 use Rattle.shape_region.proofs.polygon_rows.PolygonRowsPixelRows.row.Goals as goal
 
 pub returns : goal.returns

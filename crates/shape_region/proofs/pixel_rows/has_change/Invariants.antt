@@ -1,6 +1,0 @@
-use Rattle.std.proofs.Common.{◌≡◌, false, ℤ, ◌≤ℤ◌, ◌<ℤ◌}
-use Rattle.shape_region.specs.Columns.{changes}
-use Rattle.shape_region.proofs.pixel_rows.has_change.Given as goal
-
-abbrev pub invariant-loop-h : goal.invariant-loop-h
-invariant-loop-h l = (x : ℤ) → l.fn.bounds.left ≤ℤ x → x <ℤ l.h → changes l.above l.row x ≡ false

@@ -1,6 +1,0 @@
-use Rattle.tb_geom.specs.Pixels.{holds}
-use Rattle.shape_region.proofs.ColumnLemmas.{AreTurnsWith}
-use Rattle.shape_region.proofs.region_row.has_points.Given as goal
-
-abbrev pub invariant-loop-p : goal.invariant-loop-p
-invariant-loop-p l = AreTurnsWith l.p-iterator (holds l.region) l.v

@@ -1,6 +1,0 @@
-use Rattle.tb_geom.specs.Pixels.{holds}
-use Rattle.shape_region.proofs.ColumnLemmas.{AreEdgesWith}
-use Rattle.shape_region.proofs.region_row.row_edges.Given as goal
-
-abbrev pub invariant-loop-p : goal.invariant-loop-p
-invariant-loop-p l = AreEdgesWith l.edges l.p-iterator (holds l.region) l.v
