@@ -2,10 +2,12 @@
 its own protocol, and gives the pixels that it shows. Where there is none, nothing is tested. Every wait has an end.
 """
 
+import contextlib
 import json
 import os
 import select
 import shutil
+import signal
 import subprocess
 import sys
 import tempfile
@@ -90,7 +92,8 @@ class Browser:
         self.reader, other = os.pipe()
         words = ["--headless", "--no-sandbox", "--disable-gpu", "--remote-debugging-pipe", f"--user-data-dir={folder}"]
         called = [sys.executable, "-c", LAUNCH, str(theirs), str(other), browser(), *words, "about:blank"]
-        self.ran = subprocess.Popen(called, pass_fds=[theirs, other], stderr=subprocess.DEVNULL, stdout=subprocess.DEVNULL)
+        quiet = {"stdout": subprocess.DEVNULL, "stderr": subprocess.DEVNULL}
+        self.ran = subprocess.Popen(called, pass_fds=[theirs, other], start_new_session=True, **quiet)
         os.close(theirs)
         os.close(other)
         self.found, self.number, self.session, self.scale = b"", 0, None, 1
@@ -116,6 +119,9 @@ class Browser:
         except subprocess.TimeoutExpired:
             self.ran.kill()
             self.ran.wait()
+        # Other processes of the browser may outlive the first one, and write to its folder.
+        with contextlib.suppress(ProcessLookupError):
+            os.killpg(self.ran.pid, signal.SIGKILL)
 
     def call(self, method, **words):
         """What the browser answers to a call of its protocol. What it tells beside that is dropped."""
@@ -342,7 +348,8 @@ def tried(browser, served):
 
 def faults(program):
     """What is wrong, and nothing for each test that passes."""
-    with tempfile.TemporaryDirectory(prefix="desk-browser-") as folder:
+    # What a browser that was killed writes last may come after the folder is gone through.
+    with tempfile.TemporaryDirectory(prefix="desk-browser-", ignore_cleanup_errors=True) as folder:
         try:
             with Served(program, folder, SCRIPT) as served, Browser(os.path.join(folder, "profile")) as browser:
                 yield from tried(browser, served)
