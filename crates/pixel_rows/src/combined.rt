@@ -40,7 +40,7 @@ impl PixelRows for Combined<'_, '_> {
 }
 
 /// The columns that are meant of two rows, all of which lie within the bounds.
-fn meant_columns(how: Combination, first: &Columns, second: &Columns, bounds: Rect) -> Columns
+pub fn meant_columns(how: Combination, first: &Columns, second: &Columns, bounds: Rect) -> Columns
     requires in_range { is_in_range bounds ≡ true }
     requires within { (h : ℤ) → between bounds.left h bounds.right ≡ false
         → means how (has_column first.now h) (has_column second.now h) ≡ false }
