@@ -3,16 +3,17 @@ use Rattle.std.proofs.Common.{◌≡◌, ℕ, ℤ, Bool, true, false, List, Opti
 use Rattle.tb_geom.specs.declared.refusal.Refusal.TheVariants.{BadSyntax}
 use Rattle.tb_geom.specs.declared.point.Point.{Point}
 use Rattle.tb_geom.specs.declared.rect.Rect.{Rect}
+use Rattle.lent_ops.specs.declared.form_ref.AnglesRef.{AnglesRef}
 use Rattle.lent_ops.specs.declared.form_ref.CornerRef.{CornerRef}
 use Rattle.lent_ops.specs.declared.form_ref.FormRef.{FormRef}
-use Rattle.lent_ops.specs.declared.form_ref.FormRef.TheVariants.{Rect as RectForm, Round, Oval, FrameRect, FrameRound, FrameOval, Line, Polygon, FramePolygon}
+use Rattle.lent_ops.specs.declared.form_ref.FormRef.TheVariants.{Rect as RectForm, Round, Oval, FrameRect, FrameRound, FrameOval, Arc, FrameArc, Line, Polygon, FramePolygon}
 use Rattle.lent_ops.specs.declared.form_ref.PenRef.{PenRef}
 use Rattle.lent_ops.specs.Points.{are_points}
 use Rattle.line_words.specs.Words.{◌>>=◌, Field, hex_at, number_at, point_at, rect_at}
 use Rattle.line_words.specs.Shapes.{Shape, never, number, point, rect, reading}
 use Rattle.command_words.specs.declared.forms.FormWord.{FormWord}
 use Rattle.command_words.specs.declared.forms.FormWord.TheVariants as words
-use Rattle.command_words.specs.Forms.{corner, pen, points, form_shape, corner_at, pen_at, points_at, form_at}
+use Rattle.command_words.specs.Forms.{angles, corner, pen, points, form_shape, angles_at, corner_at, pen_at, points_at, form_at}
 
 -- what follows a word is read after the word and all that belongs to it, or after the word alone
 field_then : {A B C : Type 0} (w : Field C) (shape : C → Shape A) (rest_at : C → Option (List ℕ) → Field B) (next : B → Shape A)
@@ -35,8 +36,11 @@ pair_then of next rest =
 corner_then : {A : Type 0} (next : CornerRef → Shape A) (rest : Option (List ℕ)) → reading (corner next) rest ≡ (corner_at rest >>= λ x. reading (next x.0) x.1)
 corner_then next rest = pair_then {B = CornerRef} (λ width height. record { width = width; height = height }) next rest
 
-pen_then : {A : Type 0} (next : PenRef → Shape A) (rest : Option (List ℕ)) → reading (pen next) rest ≡ (pen_at rest >>= λ x. reading (next x.0) x.1)
+pub pen_then : {A : Type 0} (next : PenRef → Shape A) (rest : Option (List ℕ)) → reading (pen next) rest ≡ (pen_at rest >>= λ x. reading (next x.0) x.1)
 pen_then next rest = pair_then {B = PenRef} (λ width height. record { width = width; height = height }) next rest
+
+angles_then : {A : Type 0} (next : AnglesRef → Shape A) (rest : Option (List ℕ)) → reading (angles next) rest ≡ (angles_at rest >>= λ x. reading (next x.0) x.1)
+angles_then next rest = pair_then {B = AnglesRef} (λ start angle. record { start = start; angle = angle }) next rest
 
 abbrev sides : ℤ → ℤ → ℤ → ℤ → Rect
 sides left top right bottom = record { left = left; top = top; right = right; bottom = bottom }
@@ -97,6 +101,19 @@ form_then words.FrameRound next rest =
     ∙ field_then (corner_at more) (λ c. pen (λ p. next (FrameRound r c p))) (λ c more. pen_at more >>= λ p. Ok (FrameRound r c p.0, p.1)) next
     (λ c more. pen_then (λ p. next (FrameRound r c p)) more
     ∙ field_then (pen_at more) (λ p. next (FrameRound r c p)) (λ p more. Ok (FrameRound r c p, more)) next (λ p more. refl)))
+form_then words.Arc next rest =
+    rect_then (λ r. angles (λ a. next (Arc r a))) rest
+    ∙ field_then (rect_at rest) (λ r. angles (λ a. next (Arc r a))) (λ r more. angles_at more >>= λ a. Ok (Arc r a.0, a.1)) next
+    (λ r more. angles_then (λ a. next (Arc r a)) more
+    ∙ field_then (angles_at more) (λ a. next (Arc r a)) (λ a more. Ok (Arc r a, more)) next (λ a more. refl))
+form_then words.FrameArc next rest =
+    rect_then (λ r. angles (λ a. pen (λ p. next (FrameArc r a p)))) rest
+    ∙ field_then (rect_at rest) (λ r. angles (λ a. pen (λ p. next (FrameArc r a p))))
+    (λ r more. angles_at more >>= λ a. pen_at a.1 >>= λ p. Ok (FrameArc r a.0 p.0, p.1)) next
+    (λ r more. angles_then (λ a. pen (λ p. next (FrameArc r a p))) more
+    ∙ field_then (angles_at more) (λ a. pen (λ p. next (FrameArc r a p))) (λ a more. pen_at more >>= λ p. Ok (FrameArc r a p.0, p.1)) next
+    (λ a more. pen_then (λ p. next (FrameArc r a p)) more
+    ∙ field_then (pen_at more) (λ p. next (FrameArc r a p)) (λ p more. Ok (FrameArc r a p, more)) next (λ p more. refl)))
 form_then words.Line next rest =
     point_then (λ a. point (λ b. pen (λ p. next (Line a b p)))) rest
     ∙ field_then (point_at rest) (λ a. point (λ b. pen (λ p. next (Line a b p))))

@@ -8,14 +8,14 @@ use Rattle.lent_ops.specs.declared.op_ref.LineRef.{LineRef}
 use Rattle.lent_ops.specs.declared.op_ref.TextRef.{TextRef}
 use Rattle.lent_ops.specs.declared.op_ref.BitsRef.{BitsRef}
 use Rattle.lent_ops.specs.declared.op_ref.ShapeRef.{ShapeRef}
-use Rattle.lent_ops.specs.declared.op_ref.ShapeRef.TheVariants.{Erase, Invert, Fill, Frame, HLine, VLine, Text, Bits, FillRgn, Form}
+use Rattle.lent_ops.specs.declared.op_ref.ShapeRef.TheVariants.{Erase, Invert, Fill, Frame, HLine, VLine, Text, Bits, FillRgn, FrameRgn, Form}
 use Rattle.desk_call.specs.declared.window.Drawing.{Drawing}
 use Rattle.line_words.specs.Shapes.{Shape, ends, says, never, number, name, text, hex, serial, point, rect, mapped}
 use Rattle.line_words.specs.Tables.{named}
 use Rattle.command_words.specs.declared.forms.FormWord.{FormWord}
 use Rattle.command_words.specs.declared.operation.Operation.{Operation}
 use Rattle.command_words.specs.declared.operation.Operation.TheVariants as words
-use Rattle.command_words.specs.Forms.{drawn_forms, form_shape}
+use Rattle.command_words.specs.Forms.{drawn_forms, form_shape, pen}
 use Rattle.command_words.specs.Names.{shade_of, source_mode_of, text_mode_of}
 
 -- MODE PAT
@@ -45,6 +45,10 @@ bits_shape = point (λ place. number (λ width. number (λ height. name (λ mode
 unfoldable pub region_shape : Shape (List ℕ × Shade)
 region_shape = hex (λ bytes. mapped (λ shade. (bytes, shade)) shade_shape)
 
+-- HEX pw ph MODE PAT
+abbrev pub framed_region_shape : Shape ShapeRef
+framed_region_shape = hex (λ bytes. pen (λ p. mapped (λ shade. FrameRgn bytes p shade) shade_shape))
+
 -- a form's numbers, MODE PAT
 abbrev pub shaded_form_shape : FormWord → Shape ShapeRef
 shaded_form_shape word = form_shape word (λ form. mapped (λ shade. Form form shade) shade_shape)
@@ -63,13 +67,21 @@ operations =
     ∷ (codes "rgn", words.Rgn)
     ∷ []
 
--- and of those that are forms: version 3 brought them
-abbrev pub form_operations : ℤ → List (List ℕ × Operation)
-form_operations version = if int_le (pos 3) version then map (λ form. (form.0, words.Form form.1)) drawn_forms else []
+-- the name of the frame of a region
+abbrev pub frame_operations : List (List ℕ × Operation)
+frame_operations = (codes "frgn", words.FrameRgn) ∷ []
+
+-- those of forms
+abbrev pub form_operations : List (List ℕ × Operation)
+form_operations = map (λ form. (form.0, words.Form form.1)) drawn_forms
+
+-- version 3 brought these
+abbrev pub later_operations : ℤ → List (List ℕ × Operation)
+later_operations version = if int_le (pos 3) version then frame_operations ++ form_operations else []
 
 -- the names of operations in a script of this version
 unfoldable pub operations_of : ℤ → List (List ℕ × Operation)
-operations_of version = operations ++ form_operations version
+operations_of version = operations ++ later_operations version
 
 -- the words that follow a name, if an operation has it
 abbrev pub operation_shape : Option Operation → Shape ShapeRef
@@ -83,6 +95,7 @@ operation_shape (Some words.VLine) = mapped (λ p. VLine p.0 p.1) line_shape
 operation_shape (Some words.Text) = mapped Text run_shape
 operation_shape (Some words.Bits) = mapped Bits bits_shape
 operation_shape (Some words.Rgn) = mapped (λ p. FillRgn p.0 p.1) region_shape
+operation_shape (Some words.FrameRgn) = framed_region_shape
 operation_shape (Some (words.Form word)) = shaded_form_shape word
 
 -- an operation with its words, in a window with this clip, in a script of this version

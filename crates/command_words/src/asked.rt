@@ -2,10 +2,10 @@
 ghost use Rattle.std.specs.Prelude.{◌≡◌};
 ghost use Rattle.line_words.specs.Shapes.{reading, says};
 ghost use Rattle.line_words.specs.Tables.{named};
-ghost use Rattle.command_words.specs.Asked.{asked_shape, asked_words, both_shape, form_words, named_shape, offset_shape, rgn_shape, word_shape};
+ghost use Rattle.command_words.specs.Asked.{asked_shape, asked_words, both_shape, form_words, frame_shape, inset_shape, named_shape, offset_shape, rgn_shape, word_shape};
 ghost use Rattle.command_words.specs.Forms.{form_shape};
 
-use crate::forms::{FormWord, drawn_form_of};
+use crate::forms::{FormWord, drawn_form_of, pen};
 use lent_ops::{Combination, Distance, RegionRef};
 use line_words::{Words, named};
 use tb_geom::{BytesRef, Refusal};
@@ -16,14 +16,18 @@ pub enum AskedWord {
     Form(FormWord),
     Rgn,
     Offset,
+    Inset,
+    FrameRgn,
     Combined(Combination),
 }
 
 /// Each name that `draw` has not for a form, and what it stands for.
-static ASKED_WORDS: [(&[u8], AskedWord); 7] = [
+static ASKED_WORDS: [(&[u8], AskedWord); 9] = [
     (b"rect", AskedWord::Form(FormWord::Rect)),
     (b"rgn", AskedWord::Rgn),
     (b"offset", AskedWord::Offset),
+    (b"inset", AskedWord::Inset),
+    (b"frgn", AskedWord::FrameRgn),
     (b"union", AskedWord::Combined(Combination::Union)),
     (b"sect", AskedWord::Combined(Combination::Sect)),
     (b"diff", AskedWord::Combined(Combination::Diff)),
@@ -76,6 +80,8 @@ impl AskedWord {
             AskedWord::Form(word) => form_alone(word, words),
             AskedWord::Rgn => rgn(words),
             AskedWord::Offset => offset(words),
+            AskedWord::Inset => inset(words),
+            AskedWord::FrameRgn => frame(words),
             AskedWord::Combined(how) => both(how, words),
         }
     }
@@ -108,6 +114,27 @@ fn offset<'a>(words: Words<'a>) -> Result<RegionRef<'a>, Refusal>
     let (dh, words) = words.number()?;
     let dv = words.last_number()?;
     Ok(RegionRef::Offset(bytes, Distance { dh, dv }))
+}
+
+/// The bytes of a region, and how far it is inset.
+fn inset<'a>(words: Words<'a>) -> Result<RegionRef<'a>, Refusal>
+    ensures { result ≡ reading inset_shape words.entry }
+{
+    let (bytes, words) = words.hex()?;
+    let (dh, words) = words.number()?;
+    let dv = words.last_number()?;
+    Ok(RegionRef::Inset(bytes, Distance { dh, dv }))
+}
+
+/// The bytes of a region, and the pen that frames it.
+#[tactic(auto, using(crate::proofs::FormLemmas::pen_then))]
+fn frame<'a>(words: Words<'a>) -> Result<RegionRef<'a>, Refusal>
+    ensures { result ≡ reading frame_shape words.entry }
+{
+    let (bytes, words) = words.hex()?;
+    let (pen, words) = pen(words)?;
+    words.end()?;
+    Ok(RegionRef::FrameRgn(bytes, pen))
 }
 
 /// The bytes of two regions.

@@ -6,10 +6,10 @@ ghost use Rattle.std.specs.Prelude.{◌≡◌, Option};
 ghost use Rattle.line_words.specs.Shapes.{reading};
 ghost use Rattle.line_words.specs.Tables.{named};
 ghost use Rattle.command_words.specs.Drawings.{shade_shape, shaded_rect_shape, line_shape, run_shape};
-ghost use Rattle.command_words.specs.Drawings.{bits_shape, region_shape, shaded_form_shape, operation_shape};
+ghost use Rattle.command_words.specs.Drawings.{bits_shape, framed_region_shape, region_shape, shaded_form_shape, operation_shape};
 ghost use Rattle.command_words.specs.Drawings.{operations_of, clipped_shape, clip_shape, drawing_shape};
 
-use crate::forms::FormWord;
+use crate::forms::{FormWord, pen};
 use crate::names::{shade_of, source_mode_of, text_mode_of};
 use crate::operation::{Operation, operation_of};
 use desk_call::Drawing;
@@ -101,6 +101,7 @@ fn shape<'a>(operation: Operation, words: Words<'a>) -> Result<ShapeRef<'a>, Ref
             let (region, shade) = region(words)?;
             Ok(ShapeRef::FillRgn(region, shade))
         }
+        Operation::FrameRgn => framed_region(words),
         Operation::Form(word) => shaded_form(word, words),
     }
 }
@@ -181,6 +182,17 @@ fn region<'a>(words: Words<'a>) -> Result<(BytesRef<'a>, Shade), Refusal>
     let (region, words) = words.hex()?;
     let shade = shade(words)?;
     Ok((region, shade))
+}
+
+/// The bytes of a region, a pen, a mode and a pattern.
+#[tactic(auto, using(crate::proofs::FormLemmas::pen_then, line_words::proofs::Mapped::reading_mapped))]
+fn framed_region<'a>(words: Words<'a>) -> Result<ShapeRef<'a>, Refusal>
+    ensures { result ≡ reading framed_region_shape words.entry }
+{
+    let (region, words) = words.hex()?;
+    let (pen, words) = pen(words)?;
+    let shade = shade(words)?;
+    Ok(ShapeRef::FrameRgn(region, pen, shade))
 }
 
 /// The numbers of a form, a mode and a pattern.

@@ -1,9 +1,9 @@
 //! The words of forms: shapes that are painted or framed, and lines.
 ghost use Rattle.std.specs.Prelude.{◌≡◌};
 ghost use Rattle.line_words.specs.Tables.{named};
-ghost use Rattle.command_words.specs.Forms.{corner_at, pen_at, points_at, form_at, drawn_forms};
+ghost use Rattle.command_words.specs.Forms.{angles_at, corner_at, pen_at, points_at, form_at, drawn_forms};
 
-use lent_ops::{CornerRef, FormRef, PenRef, are_points};
+use lent_ops::{AnglesRef, CornerRef, FormRef, PenRef, are_points};
 use line_words::{Words, named};
 use tb_geom::{BytesRef, Refusal};
 
@@ -16,18 +16,22 @@ pub enum FormWord {
     FrameRect,
     FrameRound,
     FrameOval,
+    Arc,
+    FrameArc,
     Line,
     Polygon,
     FramePolygon,
 }
 
 /// Each name that `draw` has for a form, and what it stands for.
-static DRAWN_FORMS: [(&[u8], FormWord); 8] = [
+static DRAWN_FORMS: [(&[u8], FormWord); 10] = [
     (b"round", FormWord::Round),
     (b"oval", FormWord::Oval),
     (b"frect", FormWord::FrameRect),
     (b"fround", FormWord::FrameRound),
     (b"foval", FormWord::FrameOval),
+    (b"arc", FormWord::Arc),
+    (b"farc", FormWord::FrameArc),
     (b"line", FormWord::Line),
     (b"poly", FormWord::Polygon),
     (b"fpoly", FormWord::FramePolygon),
@@ -75,6 +79,17 @@ impl FormWord {
                 let (pen, words) = pen(words)?;
                 Ok((FormRef::FrameOval(rect, pen), words))
             }
+            FormWord::Arc => {
+                let (rect, words) = words.rect()?;
+                let (angles, words) = angles(words)?;
+                Ok((FormRef::Arc(rect, angles), words))
+            }
+            FormWord::FrameArc => {
+                let (rect, words) = words.rect()?;
+                let (angles, words) = angles(words)?;
+                let (pen, words) = pen(words)?;
+                Ok((FormRef::FrameArc(rect, angles, pen), words))
+            }
             FormWord::Line => line(words),
             FormWord::Polygon => {
                 let (points, words) = points(words)?;
@@ -99,6 +114,15 @@ fn line<'a>(words: Words<'a>) -> Result<(FormRef<'a>, Words<'a>), Refusal>
     Ok((FormRef::Line(from, to, pen), words))
 }
 
+/// The start and the angle of an arc, and the words after them.
+fn angles<'a>(words: Words<'a>) -> Result<(AnglesRef, Words<'a>), Refusal>
+    ensures { result ≡ angles_at words.entry }
+{
+    let (start, words) = words.number()?;
+    let (angle, words) = words.number()?;
+    Ok((AnglesRef { start, angle }, words))
+}
+
 /// The bytes of points, and the words after them.
 fn points<'a>(words: Words<'a>) -> Result<(BytesRef<'a>, Words<'a>), Refusal>
     ensures { result ≡ points_at words.entry }
@@ -120,7 +144,7 @@ fn corner<'a>(words: Words<'a>) -> Result<(CornerRef, Words<'a>), Refusal>
 }
 
 /// The width and height of a pen, and the words after them.
-fn pen<'a>(words: Words<'a>) -> Result<(PenRef, Words<'a>), Refusal>
+pub(crate) fn pen<'a>(words: Words<'a>) -> Result<(PenRef, Words<'a>), Refusal>
     ensures { result ≡ pen_at words.entry }
 {
     let (width, words) = words.number()?;

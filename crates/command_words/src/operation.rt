@@ -1,7 +1,7 @@
 //! The names of operations.
-ghost use Rattle.std.specs.Prelude.{◌≡◌};
+ghost use Rattle.std.specs.Prelude.{◌≡◌, ◌++◌};
 ghost use Rattle.line_words.specs.Tables.{named};
-ghost use Rattle.command_words.specs.Drawings.{operations_of, form_operations};
+ghost use Rattle.command_words.specs.Drawings.{operations_of, form_operations, frame_operations, later_operations};
 
 use crate::forms::{FormWord, drawn_form_of};
 use line_words::named;
@@ -18,6 +18,7 @@ pub enum Operation {
     Text,
     Bits,
     Rgn,
+    FrameRgn,
     Form(FormWord),
 }
 
@@ -34,6 +35,9 @@ static OPERATIONS: [(&[u8], Operation); 9] = [
     (b"rgn", Operation::Rgn),
 ];
 
+/// The name that version 3 brought beside those of forms.
+static FRAME_OPERATIONS: [(&[u8], Operation); 1] = [(b"frgn", Operation::FrameRgn)];
+
 /// The version that brought the forms.
 const VERSION_OF_FORMS: i32 = 3;
 
@@ -43,17 +47,34 @@ pub fn operation_of(version: i32, word: &[u8]) -> Option<Operation>
 {
     match named(&OPERATIONS, word) {
         Some(operation) => Some(operation),
-        None => form_operation_of(version, word),
+        None => later_operation_of(version, word),
     }
 }
 
-/// The same of the operations that are forms.
-fn form_operation_of(version: i32, word: &[u8]) -> Option<Operation>
-    ensures { result ≡ named word.now (form_operations version) }
+/// The same of the operations that not every version has.
+fn later_operation_of(version: i32, word: &[u8]) -> Option<Operation>
+    ensures { result ≡ named word.now (later_operations version) }
 {
     if version < VERSION_OF_FORMS {
         return None;
     }
+    shape_operation_of(word)
+}
+
+/// The same of those of version 3.
+fn shape_operation_of(word: &[u8]) -> Option<Operation>
+    ensures { result ≡ named word.now (frame_operations ++ form_operations) }
+{
+    match named(&FRAME_OPERATIONS, word) {
+        Some(operation) => Some(operation),
+        None => form_operation_of(word),
+    }
+}
+
+/// The same of those that are forms.
+fn form_operation_of(word: &[u8]) -> Option<Operation>
+    ensures { result ≡ named word.now form_operations }
+{
     let form = drawn_form_of(word)?;
     Some(Operation::Form(form))
 }

@@ -42,6 +42,7 @@ shape_is (lent.VLine l shade) shape is = is
 shape_is (lent.Text t) shape is = is
 shape_is (lent.Bits b) shape is = is
 shape_is (lent.Form form shade) shape is = is
+shape_is (lent.FrameRgn bytes pen shade) shape is = is
 shape_is (lent.FillRgn bytes shade) shape (region, its, is) = is ∙ ap (λ g. FillRgn g shade) (region_is bytes region its)
 
 clip_is : (given : Option (List ℕ)) (clip : Option Pixels) → MeansClip given clip → clip ≡ option_map pixels_of given

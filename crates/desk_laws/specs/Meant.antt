@@ -12,7 +12,7 @@ use Rattle.lent_ops.specs.declared.op_ref.OpRef.{OpRef}
 use Rattle.lent_ops.specs.declared.op_ref.ShapeRef.{ShapeRef}
 use Rattle.lent_ops.specs.declared.op_ref.ShapeRef.TheVariants as lent
 use Rattle.lent_ops.specs.Forms.{form_pixels}
-use Rattle.lent_ops.specs.OpRefs.{line_of}
+use Rattle.lent_ops.specs.OpRefs.{frame_pixels, line_of}
 use Rattle.desk_call.specs.declared.update.AreaRef.{AreaRef}
 use Rattle.desk_call.specs.declared.update.AreaRef.TheVariants as areas
 
@@ -38,6 +38,7 @@ shape_of (lent.Bits b) = Bits (record {
   rows = b.rows;
 })
 shape_of (lent.FillRgn bytes shade) = FillRgn (pixels_of bytes) shade
+shape_of (lent.FrameRgn bytes pen shade) = FillRgn (frame_pixels bytes pen) shade
 shape_of (lent.Form form shade) = FillRgn (form_pixels form) shade
 
 -- its operation: the shape, cut to its clip, if it has one

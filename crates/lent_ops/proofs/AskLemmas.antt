@@ -23,6 +23,15 @@ both_far x y true true one two e = absurd (cc)
 both_far x y true false one two e = ((formed (Some x) true one, formed (Some y) false two), inr two)
 both_far x y false b one two e = ((formed (Some x) false one, formed (Some y) b two), inl one)
 
+-- a region whose pen is one, or the one is far out or the other is none
+pub frame_region : (x : List ℕ) (a b : Bool) → Stands (Some x) a → (a && b) ≡ true → IsRegion x × (b ≡ true)
+frame_region x true b one e = (one, e)
+frame_region x false b one e = absurd (cc)
+
+pub far_or_thick : (x : List ℕ) (a b : Bool) → Stands (Some x) a → (a && b) ≡ false → HasForm x × (IsFormOutOfRange x ⊎ (b ≡ false))
+far_or_thick x true b one e = (formed (Some x) true one, inr e)
+far_or_thick x false b one e = (formed (Some x) false one, inl one)
+
 -- the bytes of a region are told of it
 pub told_itself : (bytes : List ℕ) (r : IsRegion bytes) → IsRegionBytes bytes (pixels_of bytes)
 told_itself bytes (s, is) = rw (sym (region_is bytes s is)) is

@@ -2,7 +2,7 @@
 use Rattle.std.proofs.Common.{◌≡◌, inl, inr, ℕ, pos, ◌+ℤ◌, Bool, true, false, ◌&&◌, if◌then◌else◌, List, refl, sym, ◌∙◌, arith}
 use Rattle.std.specs.Int.{int_min, int_max}
 use Rattle.std.specs.List.{list_all}
-use Rattle.std.proofs.lemmas.Bool.{and_parts, and_right, cases_Bool}
+use Rattle.std.proofs.lemmas.Bool.{and_left, and_parts, and_right, cases_Bool}
 use Rattle.std.proofs.lemmas.Int.{ints}
 use Rattle.tb_geom.specs.declared.point.Point.{Point}
 use Rattle.tb_geom.specs.declared.rect.Rect as rect
@@ -20,13 +20,14 @@ use Rattle.shape_strips.specs.Rounds.{no_corner, oval_corner, round_holds}
 use Rattle.shape_strips.proofs.PenLemmas.{line_none, line_outside, sides_of_line}
 use Rattle.shape_strips.proofs.RangeLemmas.{coordinate_from, in_range_from, sides_in}
 use Rattle.shape_strips.proofs.RoundLemmas.{outside_rect}
+use Rattle.shape_arcs.specs.Arcs.{wedge_holds}
 use Rattle.pixel_rows.specs.Told.{IsMeasured, AreRegionBytes, IsNotTold}
 use Rattle.shape_region.proofs.RunLemmas.{no_frame}
 use Rattle.lent_ops.specs.declared.form_ref.FormRef.{FormRef}
-use Rattle.lent_ops.specs.declared.form_ref.FormRef.TheVariants.{Rect, Round, Oval, FrameRect, FrameRound, FrameOval, Line, Polygon, FramePolygon}
+use Rattle.lent_ops.specs.declared.form_ref.FormRef.TheVariants.{Rect, Round, Oval, FrameRect, FrameRound, FrameOval, Arc, FrameArc, Line, Polygon, FramePolygon}
 use Rattle.lent_ops.proofs.PolygonLemmas.{frame_away, polygon_away}
 use Rattle.lent_ops.specs.Points.{points_of}
-use Rattle.lent_ops.specs.Forms.{is_corner, is_form_in_range, is_pen, corner_of, pen_of, form_holds, form_pixels}
+use Rattle.lent_ops.specs.Forms.{are_angles, is_corner, is_form_in_range, is_pen, corner_of, pen_of, form_holds, form_pixels}
 
 -- ---- bytes of the same pixels
 
@@ -107,6 +108,10 @@ module _ (p : Point) (out : in_plane p ≡ false) where
   form_away (FrameRect r n) e = out_of_frame r no_corner (pen_of n) (and_parts (is_in_range r) (is_pen n) e).0
   form_away (FrameRound r c n) e = out_of_frame r (corner_of c) (pen_of n) (and_parts (is_in_range r) (is_corner c && is_pen n) e).0
   form_away (FrameOval r n) e = out_of_frame r (oval_corner r) (pen_of n) (and_parts (is_in_range r) (is_pen n) e).0
+  form_away (Arc r a) e = and_left (round_holds r (oval_corner r) p) (wedge_holds r a.start a.angle p) (out_of_round r (oval_corner r) (and_parts (is_in_range r) (are_angles a) e).0)
+  form_away (FrameArc r a n) e =
+      and_left (frame_holds r (oval_corner r) (pen_of n) p) (wedge_holds r a.start a.angle p)
+      (out_of_frame r (oval_corner r) (pen_of n) (and_parts (is_in_range r) (are_angles a && is_pen n) e).0)
   form_away (Line a b n) e =
       let both = and_parts (pen_fits (pen_of n) a) (pen_fits (pen_of n) b) (and_parts (is_pen n) (pen_fits (pen_of n) a && pen_fits (pen_of n) b) e).1 in
       line_away (pen_of n) a b both.0 both.1

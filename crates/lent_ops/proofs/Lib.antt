@@ -5,3 +5,4 @@ pub mod FormLemmas
 pub mod SaidPixels
 pub mod AskLemmas
 pub mod PointLemmas
+pub mod FrameLemmas

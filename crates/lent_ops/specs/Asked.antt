@@ -9,10 +9,12 @@ use Rattle.tb_geom.specs.Rects.{is_coordinate}
 use Rattle.region_bytes.specs.Text.{pixels_of}
 use Rattle.scan_region.specs.Moves.{StaysInRange}
 use Rattle.pixel_rows.specs.Combined.{combined, moved}
+use Rattle.region_inset.specs.Insets.{inset, region_frame, LiesInRange}
+use Rattle.lent_ops.specs.declared.form_ref.PenRef.{PenRef}
 use Rattle.lent_ops.specs.declared.region_ref.Distance.{Distance}
 use Rattle.lent_ops.specs.declared.region_ref.RegionRef.{RegionRef}
-use Rattle.lent_ops.specs.declared.region_ref.RegionRef.TheVariants.{Form, Rgn, Offset, Combined}
-use Rattle.lent_ops.specs.Forms.{form_holds, has_points, is_form_in_range, is_form_long}
+use Rattle.lent_ops.specs.declared.region_ref.RegionRef.TheVariants.{Form, Rgn, Offset, Inset, FrameRgn, Combined}
+use Rattle.lent_ops.specs.Forms.{form_holds, has_points, is_form_in_range, is_form_long, is_pen, pen_of}
 use Rattle.lent_ops.specs.OpRefs.{HasForm, IsFormOutOfRange, IsRegion}
 
 -- the pixels that the bytes say
@@ -28,6 +30,8 @@ abbrev pub asked_holds : RegionRef → PixelSet
 asked_holds (Form f) = form_holds f
 asked_holds (Rgn bytes) = said_holds bytes
 asked_holds (Offset bytes d) = moved (said_holds bytes) (way d)
+asked_holds (Inset bytes d) = inset (said_holds bytes) d.dh d.dv
+asked_holds (FrameRgn bytes p) = region_frame (said_holds bytes) (pen_of p)
 asked_holds (Combined how a b) = combined how (said_holds a) (said_holds b)
 
 -- the bytes of each region that it is made of are as P says
@@ -35,6 +39,8 @@ abbrev pub EachMade : (List ℕ → Type 0) → RegionRef → Type 0
 EachMade P (Form f) = Unit {0}
 EachMade P (Rgn bytes) = P bytes
 EachMade P (Offset bytes d) = P bytes
+EachMade P (Inset bytes d) = P bytes
+EachMade P (FrameRgn bytes p) = P bytes
 EachMade P (Combined how a b) = P a × P b
 
 -- those of one of them are
@@ -42,6 +48,8 @@ abbrev pub SomeMade : (List ℕ → Type 0) → RegionRef → Type 0
 SomeMade P (Form f) = ⊥
 SomeMade P (Rgn bytes) = P bytes
 SomeMade P (Offset bytes d) = P bytes
+SomeMade P (Inset bytes d) = P bytes
+SomeMade P (FrameRgn bytes p) = P bytes
 SomeMade P (Combined how a b) = P a ⊎ P b
 
 -- both numbers lie in -16384..16383
@@ -52,11 +60,17 @@ is_distance d = is_coordinate d.dh && is_coordinate d.dv
 abbrev pub IsMoved : List ℕ → Distance → Type 0
 IsMoved bytes d = (is_distance d ≡ true) × StaysInRange (pixels_of bytes) (way d)
 
--- its own numbers lie in their ranges, and a region that is moved stays in range
+-- the region of these bytes may be inset so far, and what that gives lies in range
+abbrev pub IsInset : List ℕ → Distance → Type 0
+IsInset bytes d = (is_distance d ≡ true) × LiesInRange (inset (said_holds bytes) d.dh d.dv)
+
+-- its own numbers lie in their ranges, and so does a region that is moved or inset
 abbrev pub IsNear : RegionRef → Type 0
 IsNear (Form f) = is_form_in_range f ≡ true
 IsNear (Rgn bytes) = Unit {0}
 IsNear (Offset bytes d) = IsMoved bytes d
+IsNear (Inset bytes d) = IsInset bytes d
+IsNear (FrameRgn bytes p) = is_pen p ≡ true
 IsNear (Combined how a b) = Unit {0}
 
 -- they do not, or it does not
@@ -64,6 +78,8 @@ abbrev pub IsAway : RegionRef → Type 0
 IsAway (Form f) = is_form_in_range f ≡ false
 IsAway (Rgn bytes) = ⊥
 IsAway (Offset bytes d) = IsMoved bytes d → ⊥
+IsAway (Inset bytes d) = IsInset bytes d → ⊥
+IsAway (FrameRgn bytes p) = is_pen p ≡ false
 IsAway (Combined how a b) = ⊥
 
 -- the bytes of a polygon are those of points

@@ -1,5 +1,5 @@
 -- Shapes that calls carry: their numbers and bytes, and the pixels that they mean.
-use Rattle.std.specs.Prelude.{ℤ, Bool, true, false, ◌&&◌, pos, int_le, nat_abs}
+use Rattle.std.specs.Prelude.{ℤ, Bool, true, false, ◌&&◌, pos, negsuc, int_le, nat_abs}
 use Rattle.std.specs.List.{list_all}
 use Rattle.tb_geom.specs.declared.point.Point.{Point}
 use Rattle.tb_geom.specs.Points.{PixelSet}
@@ -11,10 +11,12 @@ use Rattle.shape_strips.specs.Rounds.{no_corner, oval_corner, oval_holds, round_
 use Rattle.shape_strips.specs.Frames.{frame_holds}
 use Rattle.shape_strips.specs.Lines.{line_holds, pen_fits}
 use Rattle.shape_region.specs.Polygons.{are_in_plane, frame_polygon_holds, polygon_holds}
+use Rattle.shape_arcs.specs.Arcs.{arc_holds, frame_arc_holds}
+use Rattle.lent_ops.specs.declared.form_ref.AnglesRef.{AnglesRef}
 use Rattle.lent_ops.specs.declared.form_ref.CornerRef.{CornerRef}
 use Rattle.lent_ops.specs.declared.form_ref.PenRef.{PenRef}
 use Rattle.lent_ops.specs.declared.form_ref.FormRef.{FormRef}
-use Rattle.lent_ops.specs.declared.form_ref.FormRef.TheVariants.{Rect, Round, Oval, FrameRect, FrameRound, FrameOval, Line, Polygon, FramePolygon}
+use Rattle.lent_ops.specs.declared.form_ref.FormRef.TheVariants.{Rect, Round, Oval, FrameRect, FrameRound, FrameOval, Arc, FrameArc, Line, Polygon, FramePolygon}
 use Rattle.lent_ops.specs.Points.{are_many, are_points, points_of}
 
 -- a side of a corner: 0 to 32767
@@ -30,6 +32,13 @@ is_corner c = is_corner_side c.width && is_corner_side c.height
 
 abbrev pub is_pen : PenRef → Bool
 is_pen p = is_pen_side p.width && is_pen_side p.height
+
+-- a number of degrees: -32768 to 32767
+abbrev pub is_degree : ℤ → Bool
+is_degree n = int_le (negsuc 32767) n && int_le n (pos 32767)
+
+abbrev pub are_angles : AnglesRef → Bool
+are_angles a = is_degree a.start && is_degree a.angle
 
 -- the corner and the pen that given ones are
 abbrev pub corner_of : CornerRef → Corner
@@ -62,6 +71,8 @@ is_form_in_range (Oval r) = is_in_range r
 is_form_in_range (FrameRect r p) = is_in_range r && is_pen p
 is_form_in_range (FrameRound r c p) = is_in_range r && (is_corner c && is_pen p)
 is_form_in_range (FrameOval r p) = is_in_range r && is_pen p
+is_form_in_range (Arc r a) = is_in_range r && are_angles a
+is_form_in_range (FrameArc r a p) = is_in_range r && (are_angles a && is_pen p)
 is_form_in_range (Line a b p) = is_line_in_range a b p
 is_form_in_range (Polygon bytes) = are_in_plane (points_of bytes)
 is_form_in_range (FramePolygon bytes p) = is_pen p && list_all (pen_fits (pen_of p)) (points_of bytes)
@@ -74,6 +85,8 @@ form_holds (Oval r) = oval_holds r
 form_holds (FrameRect r p) = frame_holds r no_corner (pen_of p)
 form_holds (FrameRound r c p) = frame_holds r (corner_of c) (pen_of p)
 form_holds (FrameOval r p) = frame_holds r (oval_corner r) (pen_of p)
+form_holds (Arc r a) = arc_holds r a.start a.angle
+form_holds (FrameArc r a p) = frame_arc_holds r a.start a.angle (pen_of p)
 form_holds (Line a b p) = line_holds a b (pen_of p)
 form_holds (Polygon bytes) = polygon_holds (points_of bytes)
 form_holds (FramePolygon bytes p) = frame_polygon_holds (points_of bytes) (pen_of p)

@@ -2,20 +2,23 @@
 use Rattle.std.specs.Prelude.{◌≡◌, ◌⊎◌, ℕ, Bool, true, false, ◌&&◌, nat_lt, pos, int_le, nat_abs, List, length, All, Option, Some, None, IfSome}
 use Rattle.tb_geom.specs.declared.refusal.Refusal.{Refusal}
 use Rattle.tb_geom.specs.declared.refusal.Refusal.TheVariants.{BadSyntax, BadRegion, OutOfRange, TooLong}
-use Rattle.tb_geom.specs.Pixels.{Pixels}
+use Rattle.tb_geom.specs.Pixels.{Pixels, holds, pixels_where}
 use Rattle.tb_geom.specs.Rects.{in_plane, is_in_range}
 use Rattle.tb_geom.specs.LentBytes.{are_rows}
 use Rattle.region_bytes.specs.Points.{PointRow, IsInRange}
 use Rattle.region_bytes.specs.Bytes.{IsForm, IsRegionBytes}
+use Rattle.region_bytes.specs.Text.{pixels_of}
+use Rattle.region_inset.specs.Insets.{region_frame}
 use Rattle.draw_port.specs.declared.shapes.Line.{Line}
 use Rattle.draw_port.specs.declared.shapes.Op.{Op}
 use Rattle.draw_port.specs.declared.shapes.Shape.{Shape}
 use Rattle.draw_port.specs.declared.shapes.Shape.TheVariants.{Erase, Invert, Fill, Frame, HLine, VLine, Text, Bits, FillRgn}
+use Rattle.lent_ops.specs.declared.form_ref.PenRef.{PenRef}
 use Rattle.lent_ops.specs.declared.op_ref.LineRef.{LineRef}
 use Rattle.lent_ops.specs.declared.op_ref.OpRef.{OpRef}
 use Rattle.lent_ops.specs.declared.op_ref.ShapeRef.{ShapeRef}
-use Rattle.lent_ops.specs.declared.op_ref.ShapeRef.TheVariants.{Erase as EraseRef, Invert as InvertRef, Fill as FillRef, Frame as FrameRef, HLine as HLineRef, VLine as VLineRef, Text as RunRef, Bits as ImageRef, FillRgn as FillRgnRef, Form as FormShapeRef}
-use Rattle.lent_ops.specs.Forms.{form_pixels, has_points, is_form_in_range, is_form_long}
+use Rattle.lent_ops.specs.declared.op_ref.ShapeRef.TheVariants.{Erase as EraseRef, Invert as InvertRef, Fill as FillRef, Frame as FrameRef, HLine as HLineRef, VLine as VLineRef, Text as RunRef, Bits as ImageRef, FillRgn as FillRgnRef, FrameRgn as FrameRgnRef, Form as FormShapeRef}
+use Rattle.lent_ops.specs.Forms.{form_pixels, has_points, is_form_in_range, is_form_long, is_pen, pen_of}
 
 -- whether a shape has its bytes: an image has rows and columns, and its bytes are those of its rows; those of a polygon are
 -- its points'
@@ -40,6 +43,7 @@ is_shape_in_range (VLineRef l k) = is_line l
 is_shape_in_range (RunRef t) = in_plane t.pen
 is_shape_in_range (ImageRef b) = in_plane b.place && (int_le b.width (pos 256) && int_le b.height (pos 256))
 is_shape_in_range (FillRgnRef bytes k) = true
+is_shape_in_range (FrameRgnRef bytes p k) = is_pen p
 is_shape_in_range (FormShapeRef f k) = is_form_in_range f
 
 -- whether a text has more than 255 characters, or a polygon more than 1024 points
@@ -48,9 +52,10 @@ is_long (RunRef t) = nat_lt 255 (length t.text)
 is_long (FormShapeRef f k) = is_form_long f
 is_long s = false
 
--- the bytes of the region that a shape fills
+-- the bytes of the region that a shape fills or frames
 abbrev pub region_of : ShapeRef → Option (List ℕ)
 region_of (FillRgnRef bytes k) = Some bytes
+region_of (FrameRgnRef bytes p k) = Some bytes
 region_of s = None
 
 -- the bytes have the form of a region's
@@ -120,6 +125,10 @@ IsRefused op e =
 abbrev pub line_of : LineRef → Line
 line_of l = record { start = l.start; count = nat_abs l.count }
 
+-- the finite set of the pixels of the frame of the region that the bytes say
+abbrev pub frame_pixels : List ℕ → PenRef → Pixels
+frame_pixels bytes p = pixels_where (λ h v. region_frame (holds (pixels_of bytes)) (pen_of p) (record { h = h; v = v }))
+
 -- the shape is what the given one means
 abbrev pub MeansShape : ShapeRef → Shape → Type 0
 MeansShape (EraseRef r) s = s ≡ Erase r
@@ -131,6 +140,7 @@ MeansShape (VLineRef l k) s = s ≡ VLine (line_of l) k
 MeansShape (RunRef t) s = s ≡ Text (record { pen = t.pen; mode = t.mode; text = t.text })
 MeansShape (ImageRef b) s = s ≡ Bits (record { place = b.place; width = nat_abs b.width; height = nat_abs b.height; mode = b.mode; rows = b.rows })
 MeansShape (FillRgnRef bytes k) s = (g : Pixels) × IsRegionBytes bytes g × (s ≡ FillRgn g k)
+MeansShape (FrameRgnRef bytes p k) s = s ≡ FillRgn (frame_pixels bytes p) k
 MeansShape (FormShapeRef f k) s = s ≡ FillRgn (form_pixels f) k
 
 -- the clip is the one whose bytes are given, where they are

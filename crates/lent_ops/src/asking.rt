@@ -2,21 +2,23 @@
 ghost use Rattle.std.specs.Prelude.{◌≡◌, ◌⊎◌, ◌↔◌, true, false, IsTrue, MatchResult};
 ghost use Rattle.region_bytes.specs.Text.{pixels_of};
 ghost use Rattle.pixel_rows.specs.Told.{AreRegionBytes, IsNotTold};
-ghost use Rattle.lent_ops.specs.Asked.{asked_holds, is_distance, IsGoodRegion, IsMoved, IsRegionRefused};
+ghost use Rattle.lent_ops.specs.Asked.{asked_holds, is_distance, IsGoodRegion, IsInset, IsMoved, IsRegionRefused};
+ghost use Rattle.lent_ops.specs.Forms.{is_pen};
 ghost use Rattle.lent_ops.specs.OpRefs.{HasForm, IsFormOutOfRange, IsRegion};
 
-use crate::form_ref::FormRef;
+use crate::form_ref::{FormRef, PenRef};
 use crate::judging::is_in_range;
 use crate::region_ref::{Distance, RegionRef};
 use pixel_rows::{can_move, combined_bytes, moved_bytes};
 use region_bytes::RegionBytes;
+use region_inset::{can_inset, frame_region_bytes, inset_bytes};
 use std::alloc::Global;
 use tb_geom::{BytesRef, Refusal};
 
 impl RegionRef<'_> {
     /// Judges the region without memory. The refusal is the first of these that applies: BadSyntax where the bytes of a
     /// polygon are not four for each point; BadRegion where bytes have not the form of a region's; OutOfRange where a number of a shape leaves its range, a coordinate of a region or a distance lies
-    /// outside -16384..=16383, or a pixel of a moved region outside -16384..=16382; TooLong where a polygon has more than 1024 points.
+    /// outside -16384..=16383, or a pixel of a region that is moved or inset outside -16384..=16382; TooLong where a polygon has more than 1024 points.
     pub fn judge(&self) -> Result<(), Refusal>
         ensures { MatchResult result (λ _. IsGoodRegion self.now) (IsRegionRefused self.now) }
     {
@@ -24,6 +26,8 @@ impl RegionRef<'_> {
             RegionRef::Form(form) => judge_form(form),
             RegionRef::Rgn(bytes) => in_range(is_in_range(bytes)?),
             RegionRef::Offset(bytes, distance) => judge_moved(bytes, *distance),
+            RegionRef::Inset(bytes, distance) => judge_inset(bytes, *distance),
+            RegionRef::FrameRgn(bytes, pen) => judge_frame(bytes, *pen),
             RegionRef::Combined(_, first, second) => judge_both(first, second),
         }
     }
@@ -42,6 +46,12 @@ impl RegionRef<'_> {
             RegionRef::Rgn(bytes) => copied(alloc, bytes.as_slice()),
             RegionRef::Offset(bytes, distance) => {
                 moved_bytes(alloc, &read(bytes), distance.dh, distance.dv)
+            }
+            RegionRef::Inset(bytes, distance) => {
+                inset_bytes(alloc, &read(bytes), distance.dh, distance.dv)
+            }
+            RegionRef::FrameRgn(bytes, pen) => {
+                frame_region_bytes(alloc, &read(bytes), pen.to_pen())
             }
             RegionRef::Combined(how, first, second) => {
                 combined_bytes(alloc, *how, &read(first), &read(second))
@@ -98,6 +108,28 @@ fn judge_moved(bytes: &BytesRef, distance: Distance) -> Result<(), Refusal>
     in_range(may_move(bytes, distance))
 }
 
+/// Judges the bytes of a region and how far it is inset.
+fn judge_inset(bytes: &BytesRef, distance: Distance) -> Result<(), Refusal>
+    ensures { MatchResult result (λ _. IsRegion bytes.now × IsInset bytes.now distance)
+        (λ e. ((e ≡ Refusal.BadRegion) × (HasForm bytes.now → ⊥))
+        ⊎ ((e ≡ Refusal.OutOfRange) × (IsFormOutOfRange bytes.now ⊎ (IsRegion bytes.now × (IsInset bytes.now distance → ⊥))))) }
+{
+    if !is_in_range(bytes)? {
+        return Err(Refusal::OutOfRange);
+    }
+    in_range(may_inset(bytes, distance))
+}
+
+/// Judges the bytes of a region and the pen that frames it.
+fn judge_frame(bytes: &BytesRef, pen: PenRef) -> Result<(), Refusal>
+    ensures { MatchResult result (λ _. IsRegion bytes.now × (is_pen pen ≡ true))
+        (λ e. ((e ≡ Refusal.BadRegion) × (HasForm bytes.now → ⊥))
+        ⊎ ((e ≡ Refusal.OutOfRange) × (HasForm bytes.now × (IsFormOutOfRange bytes.now ⊎ (is_pen pen ≡ false))))) }
+{
+    let is_in_range = is_in_range(bytes)?;
+    in_range(is_in_range & pen.is_near())
+}
+
 /// Judges the bytes of two regions.
 fn judge_both(first: &BytesRef, second: &BytesRef) -> Result<(), Refusal>
     ensures { MatchResult result (λ _. IsRegion first.now × IsRegion second.now)
@@ -129,6 +161,16 @@ fn may_move(bytes: &BytesRef, distance: Distance) -> bool
 {
     let Distance { dh, dv } = distance;
     distance.is_near() && can_move(&read(bytes), dh, dv)
+}
+
+/// Whether a region of these bytes may be inset so far: both numbers lie in -16384..=16383, and each pixel of what that
+/// gives in -16384..=16382.
+fn may_inset(bytes: &BytesRef, distance: Distance) -> bool
+    requires { IsRegion bytes.now }
+    ensures { IsTrue result ↔ IsInset bytes.now distance }
+{
+    let Distance { dh, dv } = distance;
+    distance.is_near() && can_inset(&read(bytes), dh, dv)
 }
 
 impl Distance {

@@ -15,6 +15,13 @@ pub struct PenRef {
     pub height: i32,
 }
 
+/// Whole degrees of any size, clockwise from twelve o'clock: where an arc starts, and over which angle it goes.
+#[derive(Clone, Copy)]
+pub struct AnglesRef {
+    pub start: i32,
+    pub angle: i32,
+}
+
 /// A shape that is painted or framed, or a line, whose numbers and bytes nobody has judged.
 #[derive(Drop)]
 pub enum FormRef<'a> {
@@ -24,6 +31,10 @@ pub enum FormRef<'a> {
     FrameRect(Rect, PenRef),
     FrameRound(Rect, CornerRef, PenRef),
     FrameOval(Rect, PenRef),
+    /// What a wedge has of the oval of a rectangle.
+    Arc(Rect, AnglesRef),
+    /// What it has of the oval's frame.
+    FrameArc(Rect, AnglesRef, PenRef),
     /// A line from one point to another, by a pen that hangs below and right of it.
     Line(Point, Point, PenRef),
     /// The polygon of the points whose bytes these are: of each its row and then its column, two bytes each, the high one

@@ -8,15 +8,17 @@ ghost use Rattle.shape_strips.specs.Rounds.{round_holds};
 ghost use Rattle.shape_strips.specs.Frames.{frame_holds};
 ghost use Rattle.shape_strips.specs.Lines.{line_holds, pen_fits};
 ghost use Rattle.shape_region.specs.Polygons.{are_in_plane, frame_polygon_holds, polygon_holds};
+ghost use Rattle.shape_arcs.specs.Arcs.{arc_holds, frame_arc_holds};
 ghost use Rattle.pixel_rows.specs.Told.{AreRegionBytes, IsNotTold};
-ghost use Rattle.lent_ops.specs.Forms.{corner_of, form_holds, has_points, is_corner, is_form_in_range, is_form_long, is_line_in_range, is_pen, pen_of};
+ghost use Rattle.lent_ops.specs.Forms.{are_angles, corner_of, form_holds, has_points, is_corner, is_form_in_range, is_form_long, is_line_in_range, is_pen, pen_of};
 ghost use Rattle.lent_ops.specs.Points.{are_many, points_of};
 ghost use Rattle.lent_ops.specs.Judged.{judged_holds};
 
-use crate::form_ref::{CornerRef, FormRef, PenRef};
+use crate::form_ref::{AnglesRef, CornerRef, FormRef, PenRef};
 use crate::points::{are_many, are_near, are_points, fits_at_all};
 use crate::polygons::{FramedPolygon, Polygon};
 use scan_region::Region;
+use shape_arcs::{Arc, FrameArc};
 use shape_region::{Frame, Solid, form_bytes, form_region};
 use shape_strips::{Corner, LineStrip, Pen, RoundStrip};
 use std::alloc::{AllocError, Global};
@@ -28,6 +30,10 @@ const LONGEST_CORNER: i32 = 32767;
 /// The longest side that a pen may have.
 const LONGEST_PEN: i32 = 1024;
 
+/// The least degree that an arc may start at or go over, and the greatest.
+const FIRST_DEGREE: i32 = -32768;
+const LAST_DEGREE: i32 = 32767;
+
 /// A form whose numbers are judged.
 #[derive(Clone, Copy)]
 enum Judged<'a> {
@@ -36,6 +42,8 @@ enum Judged<'a> {
     Drawn(LineStrip),
     Filled(Polygon<'a>),
     Outlined(FramedPolygon<'a>),
+    Wedge(Arc),
+    FramedWedge(FrameArc),
 }
 
 impl<'a> FormRef<'a> {
@@ -62,7 +70,7 @@ impl<'a> FormRef<'a> {
     }
 
     /// Whether each number of the form lies in its range: the sides of the rectangle in -16384..=16383, those of the
-    /// corner in 0..=32767, and those of the pen in 0..=1024; the ends of a line in -16384..=16383, and its pixels in
+    /// corner in 0..=32767, and those of the pen in 0..=1024; the degrees of an arc in -32768..=32767; the ends of a line in -16384..=16383, and its pixels in
     /// -16384..=16382; the points of a polygon as the ends of a line, without its pen where it is not framed.
     pub fn is_near(&self) -> bool
         ensures { result ≡ is_form_in_range self.now }
@@ -75,6 +83,10 @@ impl<'a> FormRef<'a> {
             }
             FormRef::FrameRound(rect, corner, pen) => {
                 rect.is_in_range() && (corner.is_near() && pen.is_near())
+            }
+            FormRef::Arc(rect, angles) => rect.is_in_range() && angles.are_near(),
+            FormRef::FrameArc(rect, angles, pen) => {
+                rect.is_in_range() && (angles.are_near() && pen.is_near())
             }
             FormRef::Line(from, to, pen) => is_line_near(*from, *to, *pen),
             FormRef::Polygon(bytes) => are_near(bytes.as_slice()),
@@ -94,6 +106,8 @@ impl<'a> FormRef<'a> {
             Judged::Drawn(line) => form_region(alloc, &Solid { strip: &line }),
             Judged::Filled(polygon) => polygon.region(alloc),
             Judged::Outlined(frame) => frame.region(alloc),
+            Judged::Wedge(arc) => arc.region(alloc),
+            Judged::FramedWedge(frame) => frame.region(alloc),
         }
     }
 
@@ -111,6 +125,8 @@ impl<'a> FormRef<'a> {
             Judged::Drawn(line) => form_bytes(alloc, &Solid { strip: &line }),
             Judged::Filled(polygon) => polygon.told(alloc),
             Judged::Outlined(frame) => frame.told(alloc),
+            Judged::Wedge(arc) => arc.told(alloc),
+            Judged::FramedWedge(frame) => frame.told(alloc),
         }
     }
 
@@ -127,6 +143,8 @@ impl<'a> FormRef<'a> {
             FormRef::FrameRect(rect, pen) => framed(*rect, Corner::none(), *pen),
             FormRef::FrameRound(rect, corner, pen) => framed(*rect, corner.to_corner(), *pen),
             FormRef::FrameOval(rect, pen) => framed(*rect, Corner::of_oval(*rect), *pen),
+            FormRef::Arc(rect, angles) => wedge(*rect, *angles),
+            FormRef::FrameArc(rect, angles, pen) => framed_wedge(*rect, *angles, *pen),
             FormRef::Line(from, to, pen) => drawn(*from, *to, *pen),
             FormRef::Polygon(bytes) => filled(bytes.as_slice()),
             FormRef::FramePolygon(bytes, pen) => outlined(bytes.as_slice(), *pen),
@@ -201,6 +219,38 @@ fn framed<'a>(rect: Rect, corner: Corner, pen: PenRef) -> Judged<'a>
     Judged::Framed(Frame { rect, corner, pen })
 }
 
+/// The form of an arc.
+fn wedge<'a>(rect: Rect, angles: AnglesRef) -> Judged<'a>
+    requires rect { is_in_range rect ≡ true }
+    requires angles { are_angles angles ≡ true }
+    ensures { (p : Point) → judged_holds result p ≡ arc_holds rect angles.start angles.angle p }
+{
+    let AnglesRef { start, angle } = angles;
+    Judged::Wedge(Arc { rect, start, angle })
+}
+
+/// The form of an arc that a pen frames.
+fn framed_wedge<'a>(rect: Rect, angles: AnglesRef, pen: PenRef) -> Judged<'a>
+    requires rect { is_in_range rect ≡ true }
+    requires angles { are_angles angles ≡ true }
+    requires pen { is_pen pen ≡ true }
+    ensures { (p : Point) → judged_holds result p ≡ frame_arc_holds rect angles.start angles.angle (pen_of pen) p }
+{
+    let AnglesRef { start, angle } = angles;
+    let pen = pen.to_pen();
+    Judged::FramedWedge(FrameArc { rect, start, angle, pen })
+}
+
+impl AnglesRef {
+    /// Whether both numbers lie in -32768..=32767.
+    fn are_near(&self) -> bool
+        ensures { result ≡ are_angles self.now }
+    {
+        (FIRST_DEGREE <= self.start && self.start <= LAST_DEGREE)
+            && (FIRST_DEGREE <= self.angle && self.angle <= LAST_DEGREE)
+    }
+}
+
 impl CornerRef {
     /// Whether each side lies in 0..=32767.
     fn is_near(&self) -> bool
@@ -224,14 +274,14 @@ impl CornerRef {
 
 impl PenRef {
     /// Whether each side lies in 0..=1024.
-    fn is_near(&self) -> bool
+    pub(crate) fn is_near(&self) -> bool
         ensures { result ≡ is_pen self.now }
     {
         (0 <= self.width && self.width <= LONGEST_PEN)
             && (0 <= self.height && self.height <= LONGEST_PEN)
     }
 
-    fn to_pen(&self) -> Pen
+    pub(crate) fn to_pen(&self) -> Pen
         requires { is_pen self.now ≡ true }
         ensures { result ≡ pen_of self.now }
     {

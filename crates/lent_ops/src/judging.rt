@@ -74,7 +74,7 @@ impl ShapeRef<'_> {
             (λ e. (e ≡ Refusal.BadRegion) × HasSome (region_of self.now) (λ bytes. HasForm bytes → ⊥)) }
     {
         match self {
-            ShapeRef::FillRgn(bytes, _) => is_in_range(bytes),
+            ShapeRef::FillRgn(bytes, _) | ShapeRef::FrameRgn(bytes, _, _) => is_in_range(bytes),
             _ => Ok(true),
         }
     }
@@ -101,6 +101,7 @@ impl ShapeRef<'_> {
             ShapeRef::Text(run) => run.pen.is_in_range(),
             ShapeRef::Bits(bits) => bits.is_near(),
             ShapeRef::FillRgn(..) => true,
+            ShapeRef::FrameRgn(_, pen, _) => pen.is_near(),
             ShapeRef::Form(form, _) => form.is_near(),
         }
     }

@@ -24,7 +24,7 @@ mod points;
 mod polygons;
 mod region_ref;
 
-pub use form_ref::{CornerRef, FormRef, PenRef};
+pub use form_ref::{AnglesRef, CornerRef, FormRef, PenRef};
 pub use op_ref::{BitsRef, LineRef, OpRef, ShapeRef, TextRef};
 pub use pixel_rows::Combination;
 pub use points::are_points;

@@ -1,5 +1,5 @@
 //! Operations as calls carry them.
-use crate::form_ref::FormRef;
+use crate::form_ref::{FormRef, PenRef};
 use bit_map::Mode;
 use draw_port::{Shade, TextMode};
 use tb_geom::{BytesRef, Point, Rect};
@@ -41,6 +41,8 @@ pub enum ShapeRef<'a> {
     Text(TextRef<'a>),
     Bits(BitsRef<'a>),
     FillRgn(BytesRef<'a>, Shade),
+    /// The frame of a region, as the fill of it.
+    FrameRgn(BytesRef<'a>, PenRef, Shade),
     /// A shape that is painted or framed, as the fill of its region.
     Form(FormRef<'a>, Shade),
 }

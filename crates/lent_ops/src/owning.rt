@@ -1,10 +1,14 @@
 //! Operations made of those that calls carry.
 ghost use Rattle.std.specs.Prelude.{◌≡◌, ◌⊎◌, ◌≤◌, ◌≤ℤ◌, pos, nat_abs, true, false, length, IfOk, MatchResult};
 ghost use Rattle.region_bytes.specs.Bytes.{IsRegionBytes};
-ghost use Rattle.lent_ops.specs.OpRefs.{has_bytes, is_shape_in_range, is_line, is_long, IsGood, IsRefused, IsMeant, MeansShape, MeansClip};
+ghost use Rattle.lent_ops.specs.Forms.{is_pen};
+ghost use Rattle.lent_ops.specs.OpRefs.{frame_pixels, has_bytes, is_shape_in_range, is_line, is_long, IsGood, IsRefused, IsMeant, MeansShape, MeansClip};
 
+use crate::form_ref::PenRef;
 use crate::op_ref::{BitsRef, LineRef, OpRef, ShapeRef, TextRef};
 use draw_port::{Bytes, Line, Op, RowsOfBits, Shape, ShortText, TextRun};
+use region_bytes::RegionBytes;
+use region_inset::frame_of_region;
 use scan_region::Region;
 use std::alloc::{AllocError, Global};
 use tb_geom::{BytesRef, Refusal};
@@ -35,6 +39,17 @@ fn to_region(bytes: &BytesRef, alloc: Global) -> Result<Region, AllocError>
     }
 }
 
+/// The region of the frame of a region whose bytes were judged, so that only memory can be refused.
+fn to_frame(bytes: &BytesRef, pen: PenRef, alloc: Global) -> Result<Region, AllocError>
+    requires { is_pen pen ≡ true }
+    ensures { IfOk result (λ region. region ≡ frame_pixels bytes.now pen) }
+{
+    match RegionBytes::read(bytes.as_slice()) {
+        Ok(region) => frame_of_region(alloc, &region, pen.to_pen()),
+        Err(_) => Err(AllocError),
+    }
+}
+
 fn to_clip(clip: &Option<BytesRef>, alloc: Global) -> Result<Option<Region>, AllocError>
     ensures { IfOk result (MeansClip clip.now) }
 {
@@ -61,6 +76,9 @@ impl ShapeRef<'_> {
             ShapeRef::Text(run) => Ok(Shape::Text(run.to_run())),
             ShapeRef::Bits(bits) => Ok(Shape::Bits(bits.to_rows(alloc)?)),
             ShapeRef::FillRgn(bytes, shade) => Ok(Shape::FillRgn(to_region(bytes, alloc)?, *shade)),
+            ShapeRef::FrameRgn(bytes, pen, shade) => {
+                Ok(Shape::FillRgn(to_frame(bytes, *pen, alloc)?, *shade))
+            }
             ShapeRef::Form(form, shade) => Ok(Shape::FillRgn(form.to_region(alloc)?, *shade)),
         }
     }

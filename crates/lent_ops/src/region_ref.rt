@@ -1,9 +1,9 @@
 //! Regions that calls ask for.
-use crate::form_ref::FormRef;
+use crate::form_ref::{FormRef, PenRef};
 use pixel_rows::Combination;
 use tb_geom::BytesRef;
 
-/// How far a region is moved, to the right and down.
+/// How far a region is moved or inset, to the right and down.
 #[derive(Clone, Copy)]
 pub struct Distance {
     pub dh: i32,
@@ -19,6 +19,11 @@ pub enum RegionRef<'a> {
     Rgn(BytesRef<'a>),
     /// That of these bytes, moved.
     Offset(BytesRef<'a>, Distance),
+    /// The inset of that of these bytes: so many columns less on either side, and then so many rows; or more, where a number
+    /// is below 0.
+    Inset(BytesRef<'a>, Distance),
+    /// The frame of that of these bytes.
+    FrameRgn(BytesRef<'a>, PenRef),
     /// What two regions make together, the first one and the second.
     Combined(Combination, BytesRef<'a>, BytesRef<'a>),
 }

@@ -1,5 +1,5 @@
 -- An older version says of a line what a newer one says, or BadSyntax.
-use Rattle.std.proofs.Common.{◌≡◌, ◌⊎◌, inl, inr, ℕ, ℤ, pos, Bool, true, false, if◌then◌else◌, List, [], ◌∷◌, ◌++◌, map, length, Option, Some, None, Result, Ok, Err, bytes_eq, refl, sym, ap, ◌∙◌, subst, arith}
+use Rattle.std.proofs.Common.{◌≡◌, ◌⊎◌, inl, inr, ℕ, ℤ, pos, Bool, true, false, if◌then◌else◌, List, [], ◌∷◌, ◌++◌, length, Option, Some, None, Result, Ok, Err, bytes_eq, refl, sym, ap, ◌∙◌, subst, arith}
 use Rattle.std.specs.Prelude.{int_le, nat_lt, codes, ◌≤ℤ◌}
 use Rattle.std.specs.List.{list_all}
 use Rattle.std.proofs.lemmas.Int.{ints}
@@ -12,12 +12,10 @@ use Rattle.line_words.specs.Shapes.{Shape, name, mapped, reading}
 use Rattle.line_words.specs.Tables.{named}
 use Rattle.line_words.proofs.Mapped.{reading_mapped, mapped_err}
 use Rattle.command_words.specs.declared.operation.Operation.{Operation}
-use Rattle.command_words.specs.declared.operation.Operation.TheVariants as operation_words
 use Rattle.command_words.specs.declared.verb.Verb.{Verb}
 use Rattle.command_words.specs.declared.verb.Verb.TheVariants as words
 use Rattle.command_words.specs.declared.windows.WindowVerb.TheVariants as windows
-use Rattle.command_words.specs.Drawings.{operations, form_operations, operations_of, operation_shape, clipped_shape, clip_shape, drawing_shape}
-use Rattle.command_words.specs.Forms.{drawn_forms}
+use Rattle.command_words.specs.Drawings.{operations, form_operations, frame_operations, later_operations, operations_of, operation_shape, clipped_shape, clip_shape, drawing_shape}
 use Rattle.command_words.specs.Verbs.{verbs, later_verbs, verbs_of}
 use Rattle.command_words.specs.WindowWords.{window_shape}
 use Rattle.command_words.proofs.NamedLemmas.{first_found, named-append}
@@ -59,7 +57,7 @@ OrNone x y = (x ≡ y) ⊎ (x ≡ None)
 -- what a word stands for, behind a table in which it may be
 module _ (word : List ℕ) where
   abbrev forms_where : Bool → Option Operation
-  forms_where third = named word (if third then map (λ form. (form.0, operation_words.Form form.1)) drawn_forms else [])
+  forms_where third = named word (if third then frame_operations ++ form_operations else [])
 
   operation_or_none : (older newer : Bool) → (older ≡ true → newer ≡ true) → (first : Option Operation) → OrNone (first_found first (forms_where older)) (first_found first (forms_where newer))
   operation_or_none true true than first = inl refl
@@ -100,8 +98,8 @@ module _ (older newer : ℤ) (than : older ≤ℤ newer) where
   operation_older : (word : List ℕ) → OrNone (named word (operations_of older)) (named word (operations_of newer))
   unfolding operations_of
   operation_older word =
-      subst (λ x. OrNone x (named word (operations_of newer))) (sym (named-append word operations (form_operations older)))
-      (subst (λ y. OrNone (first_found (named word operations) (named word (form_operations older))) y) (sym (named-append word operations (form_operations newer)))
+      subst (λ x. OrNone x (named word (operations_of newer))) (sym (named-append word operations (later_operations older)))
+      (subst (λ y. OrNone (first_found (named word operations) (named word (later_operations older))) y) (sym (named-append word operations (later_operations newer)))
       (operation_or_none word (int_le (pos 3) older) (int_le (pos 3) newer) (later_has (pos 3)) (named word operations)))
 
   verb_older : (word : List ℕ) → OrNone (named word (verbs_of older)) (named word (verbs_of newer))

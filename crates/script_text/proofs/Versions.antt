@@ -1,5 +1,5 @@
 -- What a line says is of the version of its script.
-use Rattle.std.proofs.Common.{◌≡◌, ℕ, ℤ, pos, Bool, true, false, if◌then◌else◌, List, [], ◌∷◌, ◌++◌, map, length, Option, Some, None, Ok, Err, bytes_eq, refl, subst}
+use Rattle.std.proofs.Common.{◌≡◌, ℕ, ℤ, pos, Bool, true, false, if◌then◌else◌, List, [], ◌∷◌, ◌++◌, length, Option, Some, None, Ok, Err, bytes_eq, refl, subst}
 use Rattle.std.specs.Prelude.{int_le, nat_lt, codes}
 use Rattle.std.specs.List.{list_all}
 use Rattle.std.proofs.lemmas.Bool.{and_parts}
@@ -21,10 +21,10 @@ use Rattle.command_words.specs.declared.verb.Verb.TheVariants as words
 use Rattle.command_words.specs.declared.windows.WindowVerb.{WindowVerb}
 use Rattle.command_words.specs.declared.windows.WindowVerb.TheVariants as windows
 use Rattle.command_words.specs.ControlWords.{control_shape}
-use Rattle.command_words.specs.Drawings.{shade_shape, shaded_rect_shape, line_shape, run_shape, bits_shape, region_shape, operations, operations_of, operation_shape, clipped_shape, clip_shape, drawing_shape}
+use Rattle.command_words.specs.Drawings.{form_operations, frame_operations, shade_shape, shaded_rect_shape, line_shape, run_shape, bits_shape, region_shape, operations, operations_of, operation_shape, clipped_shape, clip_shape, drawing_shape}
 use Rattle.command_words.specs.EventWords.{event_shape}
 use Rattle.command_words.specs.Asked.{asked_shape}
-use Rattle.command_words.specs.Forms.{drawn_forms, form_shape, pen}
+use Rattle.command_words.specs.Forms.{form_shape, pen}
 use Rattle.command_words.specs.FrameWords.{frame_shape}
 use Rattle.command_words.specs.ListWords.{list_shape}
 use Rattle.command_words.specs.MenuWords.{menu_shape}
@@ -54,9 +54,10 @@ named_all {A} p word (entry ∷ entries) all x h =
 -- whether the word is one that every version has, or there are forms
 abbrev has_word : Bool → Operation → Bool
 has_word third (operation_words.Form word) = third
+has_word third operation_words.FrameRgn = third
 has_word third _ = true
 
-words_had : (third : Bool) → list_all (λ entry. has_word third entry.1) (operations ++ (if third then map (λ form. (form.0, operation_words.Form form.1)) drawn_forms else [])) ≡ true
+words_had : (third : Bool) → list_all (λ entry. has_word third entry.1) (operations ++ (if third then frame_operations ++ form_operations else [])) ≡ true
 words_had true = refl
 words_had false = refl
 
@@ -91,6 +92,8 @@ module _ (version : ℤ) where
   shaded_says had forms.FrameRect = λ l t r b w h. all_said-mapped _ _ shade_shape (all_said-any _ (λ s. had) shade_shape)
   shaded_says had forms.FrameRound = λ l t r b w h pw ph. all_said-mapped _ _ shade_shape (all_said-any _ (λ s. had) shade_shape)
   shaded_says had forms.FrameOval = λ l t r b w h. all_said-mapped _ _ shade_shape (all_said-any _ (λ s. had) shade_shape)
+  shaded_says had forms.Arc = λ l t r b start angle. all_said-mapped _ _ shade_shape (all_said-any _ (λ s. had) shade_shape)
+  shaded_says had forms.FrameArc = λ l t r b start angle w h. all_said-mapped _ _ shade_shape (all_said-any _ (λ s. had) shade_shape)
   shaded_says had forms.Line = λ fh fv th tv w h. all_said-mapped _ _ shade_shape (all_said-any _ (λ s. had) shade_shape)
   shaded_says had forms.Polygon = λ bytes. points_say (mapped (λ shade. shapes.Form (Polygon bytes) shade) shade_shape) (are_points bytes)
       (all_said-mapped _ _ shade_shape (all_said-any _ (λ s. had) shade_shape))
@@ -109,6 +112,7 @@ module _ (version : ℤ) where
   operation_says (Some operation_words.Text) had = all_said-mapped _ _ run_shape (all_said-any _ (λ p. refl) run_shape)
   operation_says (Some operation_words.Bits) had = all_said-mapped _ _ bits_shape (all_said-any _ (λ p. refl) bits_shape)
   operation_says (Some operation_words.Rgn) had = all_said-mapped _ _ region_shape (all_said-any _ (λ p. refl) region_shape)
+  operation_says (Some operation_words.FrameRgn) had = λ bytes w h. all_said-mapped _ _ shade_shape (all_said-any _ (λ s. had operation_words.FrameRgn refl) shade_shape)
   operation_says (Some (operation_words.Form word)) had = shaded_says (had (operation_words.Form word) refl) word
 
   clipped_says : (window : ℕ) (clip : Option (List ℕ)) (word : List ℕ) → AllSaid (λ d. has_operation version d.operation.shape ≡ true) (clipped_shape version window clip word)

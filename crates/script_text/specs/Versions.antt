@@ -1,18 +1,19 @@
 -- Which commands a version has.
 use Rattle.std.specs.Prelude.{ℤ, pos, int_le, Bool, true}
 use Rattle.lent_ops.specs.declared.op_ref.ShapeRef.{ShapeRef}
-use Rattle.lent_ops.specs.declared.op_ref.ShapeRef.TheVariants.{Form}
+use Rattle.lent_ops.specs.declared.op_ref.ShapeRef.TheVariants.{Form, FrameRgn}
 use Rattle.desk_call.specs.declared.call.Call.TheVariants.{Window}
 use Rattle.desk_call.specs.declared.window.WindowCall.TheVariants.{NewFloating, Draw, Region}
 use Rattle.script_text.specs.declared.command.Command.{Command}
 use Rattle.script_text.specs.declared.command.Command.TheVariants.{Call}
 
--- whether it has the operation: forms are of version 3
+-- whether it has the operation: forms, and frames of regions, are of version 3
 abbrev pub has_operation : ℤ → ShapeRef → Bool
 has_operation version (Form form shade) = int_le (pos 3) version
+has_operation version (FrameRgn bytes pen shade) = int_le (pos 3) version
 has_operation version _ = true
 
--- whether it has the command: floating windows are of version 2, and the regions of forms of version 3
+-- whether it has the command: floating windows are of version 2, and regions that are asked for of version 3
 abbrev pub has_command : ℤ → Command → Bool
 has_command version (Call (Window (NewFloating w))) = int_le (pos 2) version
 has_command version (Call (Window (Draw drawing))) = has_operation version drawing.operation.shape

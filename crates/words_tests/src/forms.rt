@@ -27,7 +27,7 @@ fn asked<'a>(
 /// No corner, and no pen.
 const NONE: [i32; 2] = [0, 0];
 
-/// A letter for a form, the sides of its rectangle, those of its corner and those of its pen.
+/// A letter for a form, the sides of its rectangle, those of its corner or its degrees, and the sides of its pen.
 fn numbers(form: &FormRef) -> (u8, Rect, [i32; 2], [i32; 2]) {
     let of_corner = |corner: &CornerRef| [corner.width, corner.height];
     let of_pen = |pen: &PenRef| [pen.width, pen.height];
@@ -38,6 +38,10 @@ fn numbers(form: &FormRef) -> (u8, Rect, [i32; 2], [i32; 2]) {
         FormRef::FrameRect(rect, pen) => (b'R', *rect, NONE, of_pen(pen)),
         FormRef::FrameRound(rect, corner, pen) => (b'C', *rect, of_corner(corner), of_pen(pen)),
         FormRef::FrameOval(rect, pen) => (b'O', *rect, NONE, of_pen(pen)),
+        FormRef::Arc(rect, angles) => (b'a', *rect, [angles.start, angles.angle], NONE),
+        FormRef::FrameArc(rect, angles, pen) => {
+            (b'A', *rect, [angles.start, angles.angle], of_pen(pen))
+        }
         FormRef::Line(from, to, pen) => {
             let ends = Rect {
                 left: from.h,

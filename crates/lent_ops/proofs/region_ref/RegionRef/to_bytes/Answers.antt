@@ -2,7 +2,7 @@ use Rattle.std.proofs.Common.{SFits, w32, subst, ◌∙◌, rules}
 use Rattle.std.proofs.lemmas.Int.{to_z-of_z}
 use Rattle.std.proofs.lemmas.Result.{MatchResult-weaker}
 use Rattle.lent_ops.specs.Asked.{IsGoodRegion}
-use Rattle.lent_ops.specs.declared.region_ref.RegionRef.TheVariants.{Form, Rgn, Offset, Combined}
+use Rattle.lent_ops.specs.declared.region_ref.RegionRef.TheVariants.{Form, Rgn, Offset, Inset, FrameRgn, Combined}
 use Rattle.lent_ops.proofs.AskLemmas.{are_told, told_of, untold_of, want_of_memory}
 use Rattle.lent_ops.proofs.region_ref.RegionRef.to_bytes.Goals as goal
 
@@ -12,6 +12,13 @@ moved_bytes-requires-clause-stays c =
     let down : SFits w32 c.in-Offset.distance.dv = search rules in
     let good = subst IsGoodRegion c.in-Offset.is c.in_ok-judge.ensures in
     rw (c.read.ensures, to_z-of_z w32 c.in-Offset.distance.dh across, to_z-of_z w32 c.in-Offset.distance.dv down) good.near.1
+
+pub inset_bytes-requires-clause-stays : goal.inset_bytes-requires-clause-stays
+inset_bytes-requires-clause-stays c =
+    let across : SFits w32 c.in-Inset.distance.dh = search rules in
+    let down : SFits w32 c.in-Inset.distance.dv = search rules in
+    let good = subst IsGoodRegion c.in-Inset.is c.in_ok-judge.ensures in
+    rw (c.read.ensures, to_z-of_z w32 c.in-Inset.distance.dh across, to_z-of_z w32 c.in-Inset.distance.dv down) good.near.1
 
 pub read-requires-in-Combined : goal.read-requires-in-Combined
 read-requires-in-Combined c = (subst IsGoodRegion c.in-Combined.is c.in_ok-judge.ensures).regions.0
@@ -51,3 +58,21 @@ returns-in-Combined c =
     MatchResult-weaker c.combined_bytes.result told
     (λ bytes so. told_of c.args.self.now (Combined c.in-Combined.how c.in-Combined.first c.in-Combined.second) bytes.items is c.in_ok-judge.ensures so)
     (λ e why. untold_of c.args.self.now (Combined c.in-Combined.how c.in-Combined.first c.in-Combined.second) e is c.in_ok-judge.ensures why)
+
+pub returns-in-Inset : goal.returns-in-Inset
+returns-in-Inset c =
+    let across : SFits w32 c.in-Inset.distance.dh = search rules in
+    let down : SFits w32 c.in-Inset.distance.dv = search rules in
+    let is = c.in-Inset.is in
+    let told = rw (c.read.ensures, to_z-of_z w32 c.in-Inset.distance.dh across, to_z-of_z w32 c.in-Inset.distance.dv down) at c.inset_bytes.ensures in
+    MatchResult-weaker c.inset_bytes.result told
+    (λ bytes so. told_of c.args.self.now (Inset c.in-Inset.bytes c.in-Inset.distance) bytes.items is c.in_ok-judge.ensures so)
+    (λ e why. untold_of c.args.self.now (Inset c.in-Inset.bytes c.in-Inset.distance) e is c.in_ok-judge.ensures why)
+
+pub returns-in-FrameRgn : goal.returns-in-FrameRgn
+returns-in-FrameRgn c =
+    let is = c.in-FrameRgn.is in
+    let told = rw (c.read-in-FrameRgn.ensures, c.to_pen.ensures) at c.frame_region_bytes.ensures in
+    MatchResult-weaker c.frame_region_bytes.result told
+    (λ bytes so. told_of c.args.self.now (FrameRgn c.in-FrameRgn.bytes c.in-FrameRgn.pen) bytes.items is c.in_ok-judge.ensures so)
+    (λ e why. untold_of c.args.self.now (FrameRgn c.in-FrameRgn.bytes c.in-FrameRgn.pen) e is c.in_ok-judge.ensures why)
