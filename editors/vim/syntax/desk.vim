@@ -7,9 +7,9 @@ syntax match deskComment "^#.*$" contains=@Spell
 syntax region deskText start=+"+ end=+"+ oneline
 syntax match deskNumber "\( \)\@<=-\?\d\{1,9}\ze\( \|$\)"
 syntax match deskCommand "^\(version\|desk\|image\|find\|window\|float\|close\|show\|hide\|showhide\|select\|front\|behind\|move\|size\|zoom\|title\|hilite\|goaway\|gastep\|gaend\|drag\|dragstep\|dragend\|grow\|growstep\|growend\|info\|frontwin\|draw\|clear\|scroll\|region\|inval\|invalrgn\|valid\|validrgn\|begin\|drawp\|drawl\|drawc\|end\|update\|updatergn\|visrgn\|control\|cdispose\|cshow\|chide\|cmove\|csize\|cvalue\|cmin\|cmax\|chilite\|ctitle\|cget\|findc\|ctest\|ctrack\|ctstep\|ctend\|list\|ldispose\|laddrow\|laddcol\|ldelrow\|ldelcol\|lset\|ladd\|lclear\|lget\|lsetsel\|lgetsel\|lclick\|lscroll\|ldraw\|lnext\|lsearch\|menu\|mappend\|mitem\|minsert\|mdelete\|mdispose\|menable\|mdisable\|mcheck\|mdown\|mmove\|mup\|mkey\|mhilite\|post\|next\|avail\|flush\|setmask\)\ze\( \|$\)"
-syntax match deskOperation "\(^draw \S\+ \)\@<=\(erase\|invert\|fill\|frame\|hline\|vline\|text\|bits\|rgn\|round\|oval\|frect\|fround\|foval\|line\|poly\|fpoly\|clip\)\ze\( \|$\)"
-syntax match deskOperation "\(^draw \S\+ clip \S\+ \)\@<=\(erase\|invert\|fill\|frame\|hline\|vline\|text\|bits\|rgn\|round\|oval\|frect\|fround\|foval\|line\|poly\|fpoly\)\ze\( \|$\)"
-syntax match deskOperation "\(^region \)\@<=\(rect\|round\|oval\|frect\|fround\|foval\|line\|poly\|fpoly\|rgn\|offset\|union\|sect\|diff\|xor\)\ze\( \|$\)"
+syntax match deskOperation "\(^draw \S\+ \)\@<=\(erase\|invert\|fill\|frame\|hline\|vline\|text\|bits\|rgn\|round\|oval\|frect\|fround\|foval\|arc\|farc\|line\|poly\|fpoly\|frgn\|clip\)\ze\( \|$\)"
+syntax match deskOperation "\(^draw \S\+ clip \S\+ \)\@<=\(erase\|invert\|fill\|frame\|hline\|vline\|text\|bits\|rgn\|round\|oval\|frect\|fround\|foval\|arc\|farc\|line\|poly\|fpoly\|frgn\)\ze\( \|$\)"
+syntax match deskOperation "\(^region \)\@<=\(rect\|round\|oval\|frect\|fround\|foval\|arc\|farc\|line\|poly\|fpoly\|rgn\|offset\|inset\|frgn\|union\|sect\|diff\|xor\)\ze\( \|$\)"
 syntax match deskKind "\(^window \)\@<=\(document\|nogrow\|zoom\|dialog\|plain\|shadow\|notched\)\ze\( \|$\)"
 syntax match deskKind "\(^float \)\@<=\(document\|nogrow\|zoom\|dialog\|plain\|shadow\|notched\)\ze\( \|$\)"
 syntax match deskKind "\(^control \S\+ \)\@<=\(button\|check\|radio\|scroll\)\ze\( \|$\)"

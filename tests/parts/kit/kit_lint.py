@@ -204,8 +204,9 @@ def every_line_that_rows_have_answered_has_its_form(_):
     """Those of tests/rows, which were written by hand. A line that is not BadSyntax or TooLong has its form by the manual."""
     its, seen = forms(), set()
     counts = len(its.commands), {command: len(forms) for command, forms in its.inner.items()}
-    same("how many commands and inner forms there are", counts, (98, {"draw": 17, "region": 15}))
-    later = {"float": 2, "region": 3, **{f"draw {it}": 3 for it in ("round", "oval", "frect", "fround", "foval", "line", "poly", "fpoly")}}
+    same("how many commands and inner forms there are", counts, (98, {"draw": 20, "region": 19}))
+    drawn = ("round", "oval", "frect", "fround", "foval", "arc", "farc", "line", "poly", "fpoly", "frgn")
+    later = {"float": 2, "region": 3, **{f"draw {it}": 3 for it in drawn}}
     same("those of later versions", its.versions, later)
     for folder in folders_in(os.path.join(TOP, "tests", "rows")):
         for row in rows_of(folder):

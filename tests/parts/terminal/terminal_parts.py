@@ -11,7 +11,7 @@ from place import TOP, same
 
 # A manual of two commands and a refusal.
 # What region has after the ovals and their frames.
-MADE = ("line ", "poly ", "fpoly ", "rgn ", "offset ", "union ", "sect ", "diff ", "xor ")
+MADE = ("arc ", "farc ", "line ", "poly ", "fpoly ", "rgn ", "offset ", "inset ", "frgn ", "union ", "sect ", "diff ", "xor ")
 SMALL = """# Small
 
 Words before.
@@ -221,7 +221,7 @@ def words_are_completed(_):
         ("list 1 ", "", ["text "]),
         ("post ", "", []),
         ("draw ", "", []),
-        ("draw 1 ", "f", ["fill ", "frame ", "frect ", "fround ", "foval ", "fpoly "]),
+        ("draw 1 ", "f", ["fill ", "frame ", "frect ", "fround ", "foval ", "farc ", "fpoly ", "frgn "]),
         ("draw 1 ", "c", ["clip "]),
         ("draw 1 clip ", "", []),
         ("draw 1 clip 000A ", "r", ["rgn ", "round "]),
