@@ -53,6 +53,16 @@ fn opening<'a>(kind: &'static [u8], place: Point, height: i32) -> Call<'a> {
     }))
 }
 
+/// The call that asks which window is in front at a point of the screen.
+fn finding<'a>(point: Point) -> Call<'a> {
+    Call::Window(WindowCall::Find(point))
+}
+
+/// The call that selects a window.
+fn selecting<'a>(window: u64) -> Call<'a> {
+    Call::Window(WindowCall::Select(window))
+}
+
 /// Window 1 gets a picture, from column 2 and row 1 of its content on, which is drawn; window 2 comes over its right half, and
 /// window 1 in front of that again. A kind that the stock does not know and a third window are refused.
 pub fn calls(picture: &Picture) -> [Call<'_>; 10] {
@@ -71,9 +81,9 @@ pub fn calls(picture: &Picture) -> [Call<'_>; 10] {
         opening(b"none", first, 6),
         opening(b"plain", second, 4),
         opening(b"plain", first, 6),
-        Call::Window(WindowCall::Find(in_both)),
-        Call::Window(WindowCall::Select(1)),
-        Call::Window(WindowCall::Find(in_both)),
+        finding(in_both),
+        selecting(1),
+        finding(in_both),
         Call::Window(WindowCall::Front),
     ]
 }
