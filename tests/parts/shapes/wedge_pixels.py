@@ -2,6 +2,7 @@
 docs/SHAPES.md defines them: a slow model, to be set beside a program.
 """
 
+import functools
 import math
 from typing import NamedTuple
 
@@ -9,6 +10,7 @@ from typing import NamedTuple
 SIDE = 65536
 
 
+@functools.cache
 def direction(degree):
     """Where the direction of a whole degree ends, across and down from the middle. Tangents are those of the language."""
     turns, rest = divmod(degree % 360, 90)
