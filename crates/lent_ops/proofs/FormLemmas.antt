@@ -20,7 +20,7 @@ use Rattle.shape_strips.specs.Rounds.{no_corner, oval_corner, round_holds}
 use Rattle.shape_strips.proofs.PenLemmas.{line_none, line_outside, sides_of_line}
 use Rattle.shape_strips.proofs.RangeLemmas.{coordinate_from, in_range_from, sides_in}
 use Rattle.shape_strips.proofs.RoundLemmas.{outside_rect}
-use Rattle.shape_arcs.specs.Arcs.{wedge_holds}
+use Rattle.shape_arcs.specs.Wedges.{wedge_holds}
 use Rattle.pixel_rows.specs.Told.{IsMeasured, AreRegionBytes, IsNotTold}
 use Rattle.shape_region.proofs.RunLemmas.{no_frame}
 use Rattle.lent_ops.specs.declared.form_ref.FormRef.{FormRef}

@@ -11,7 +11,7 @@ use Rattle.shape_strips.specs.Rounds.{no_corner, oval_corner, oval_holds, round_
 use Rattle.shape_strips.specs.Frames.{frame_holds}
 use Rattle.shape_strips.specs.Lines.{line_holds, pen_fits}
 use Rattle.shape_region.specs.Polygons.{are_in_plane, frame_polygon_holds, polygon_holds}
-use Rattle.shape_arcs.specs.Arcs.{arc_holds, frame_arc_holds}
+use Rattle.shape_arcs.specs.Wedges.{arc_holds, frame_arc_holds}
 use Rattle.lent_ops.specs.declared.form_ref.AnglesRef.{AnglesRef}
 use Rattle.lent_ops.specs.declared.form_ref.CornerRef.{CornerRef}
 use Rattle.lent_ops.specs.declared.form_ref.PenRef.{PenRef}

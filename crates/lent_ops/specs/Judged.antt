@@ -4,7 +4,7 @@ use Rattle.shape_strips.specs.Rounds.{round_holds}
 use Rattle.shape_strips.specs.Frames.{frame_holds}
 use Rattle.shape_strips.specs.Lines.{line_holds}
 use Rattle.shape_region.specs.Polygons.{frame_polygon_holds, polygon_holds}
-use Rattle.shape_arcs.specs.Arcs.{arc_holds, frame_arc_holds}
+use Rattle.shape_arcs.specs.Wedges.{arc_holds, frame_arc_holds}
 use Rattle.lent_ops.specs.declared.forms.Judged.{Judged}
 use Rattle.lent_ops.specs.declared.forms.Judged.TheVariants.{Painted, Framed, Drawn, Filled, Outlined, Wedge, FramedWedge}
 use Rattle.lent_ops.specs.Points.{points_of}

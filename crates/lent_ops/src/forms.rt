@@ -8,7 +8,7 @@ ghost use Rattle.shape_strips.specs.Rounds.{round_holds};
 ghost use Rattle.shape_strips.specs.Frames.{frame_holds};
 ghost use Rattle.shape_strips.specs.Lines.{line_holds, pen_fits};
 ghost use Rattle.shape_region.specs.Polygons.{are_in_plane, frame_polygon_holds, polygon_holds};
-ghost use Rattle.shape_arcs.specs.Arcs.{arc_holds, frame_arc_holds};
+ghost use Rattle.shape_arcs.specs.Wedges.{arc_holds, frame_arc_holds};
 ghost use Rattle.pixel_rows.specs.Told.{AreRegionBytes, IsNotTold};
 ghost use Rattle.lent_ops.specs.Forms.{are_angles, corner_of, form_holds, has_points, is_corner, is_form_in_range, is_form_long, is_line_in_range, is_pen, pen_of};
 ghost use Rattle.lent_ops.specs.Points.{are_many, points_of};
@@ -17,6 +17,8 @@ ghost use Rattle.lent_ops.specs.Judged.{judged_holds};
 use crate::form_ref::{AnglesRef, CornerRef, FormRef, PenRef};
 use crate::points::{are_many, are_near, are_points, fits_at_all};
 use crate::polygons::{FramedPolygon, Polygon};
+use pixel_rows::pixel_bytes;
+use region_inset::pixel_region;
 use scan_region::Region;
 use shape_arcs::{Arc, FrameArc};
 use shape_region::{Frame, Solid, form_bytes, form_region};
@@ -106,8 +108,8 @@ impl<'a> FormRef<'a> {
             Judged::Drawn(line) => form_region(alloc, &Solid { strip: &line }),
             Judged::Filled(polygon) => polygon.region(alloc),
             Judged::Outlined(frame) => frame.region(alloc),
-            Judged::Wedge(arc) => arc.region(alloc),
-            Judged::FramedWedge(frame) => frame.region(alloc),
+            Judged::Wedge(arc) => form_region(alloc, &arc),
+            Judged::FramedWedge(frame) => pixel_region(alloc, &frame),
         }
     }
 
@@ -125,8 +127,8 @@ impl<'a> FormRef<'a> {
             Judged::Drawn(line) => form_bytes(alloc, &Solid { strip: &line }),
             Judged::Filled(polygon) => polygon.told(alloc),
             Judged::Outlined(frame) => frame.told(alloc),
-            Judged::Wedge(arc) => arc.told(alloc),
-            Judged::FramedWedge(frame) => frame.told(alloc),
+            Judged::Wedge(arc) => form_bytes(alloc, &arc),
+            Judged::FramedWedge(frame) => pixel_bytes(alloc, &frame),
         }
     }
 
@@ -225,7 +227,7 @@ fn wedge<'a>(rect: Rect, angles: AnglesRef) -> Judged<'a>
     requires angles { are_angles angles ≡ true }
     ensures { (p : Point) → judged_holds result p ≡ arc_holds rect angles.start angles.angle p }
 {
-    let AnglesRef { start, angle } = angles;
+    let (start, angle) = angles.degrees();
     Judged::Wedge(Arc { rect, start, angle })
 }
 
@@ -236,7 +238,7 @@ fn framed_wedge<'a>(rect: Rect, angles: AnglesRef, pen: PenRef) -> Judged<'a>
     requires pen { is_pen pen ≡ true }
     ensures { (p : Point) → judged_holds result p ≡ frame_arc_holds rect angles.start angles.angle (pen_of pen) p }
 {
-    let AnglesRef { start, angle } = angles;
+    let (start, angle) = angles.degrees();
     let pen = pen.to_pen();
     Judged::FramedWedge(FrameArc { rect, start, angle, pen })
 }
@@ -248,6 +250,14 @@ impl AnglesRef {
     {
         (FIRST_DEGREE <= self.start && self.start <= LAST_DEGREE)
             && (FIRST_DEGREE <= self.angle && self.angle <= LAST_DEGREE)
+    }
+
+    /// The two numbers.
+    fn degrees(&self) -> (i16, i16)
+        requires { are_angles self.now ≡ true }
+        ensures { result ≡ (self.now.start, self.now.angle) }
+    {
+        (self.start as i16, self.angle as i16)
     }
 }
 

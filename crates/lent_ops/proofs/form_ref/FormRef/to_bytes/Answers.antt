@@ -4,7 +4,7 @@ use Rattle.shape_strips.specs.Rounds.{round_holds}
 use Rattle.shape_strips.specs.Frames.{frame_holds}
 use Rattle.shape_strips.specs.Lines.{line_holds}
 use Rattle.shape_region.specs.Polygons.{frame_polygon_holds, polygon_holds}
-use Rattle.shape_arcs.specs.Arcs.{arc_holds, frame_arc_holds}
+use Rattle.shape_arcs.specs.Wedges.{arc_holds, frame_arc_holds}
 use Rattle.lent_ops.specs.Forms.{form_holds}
 use Rattle.lent_ops.specs.Points.{points_of}
 use Rattle.lent_ops.proofs.FormLemmas.{told_as, not_told_as}
@@ -48,13 +48,13 @@ returns-in-Outlined c =
 pub returns-in-Wedge : goal.returns-in-Wedge
 returns-in-Wedge c =
     let s : PixelSet = arc_holds c.in-Wedge.arc.rect c.in-Wedge.arc.start c.in-Wedge.arc.angle in
-    MatchResult-weaker c.told-in-Wedge.result c.told-in-Wedge.ensures
+    MatchResult-weaker c.form_bytes-in-Wedge.result c.form_bytes-in-Wedge.ensures
     (λ bytes told. told_as s (form_holds c.args.self.now) c.in-Wedge.ensures bytes.items told)
     (λ e why. not_told_as s (form_holds c.args.self.now) c.in-Wedge.ensures e why)
 
 pub returns-in-FramedWedge : goal.returns-in-FramedWedge
 returns-in-FramedWedge c =
     let s : PixelSet = frame_arc_holds c.in-FramedWedge.frame.rect c.in-FramedWedge.frame.start c.in-FramedWedge.frame.angle c.in-FramedWedge.frame.pen in
-    MatchResult-weaker c.told-in-FramedWedge.result c.told-in-FramedWedge.ensures
+    MatchResult-weaker c.pixel_bytes.result c.pixel_bytes.ensures
     (λ bytes told. told_as s (form_holds c.args.self.now) c.in-FramedWedge.ensures bytes.items told)
     (λ e why. not_told_as s (form_holds c.args.self.now) c.in-FramedWedge.ensures e why)
