@@ -5,6 +5,7 @@ use bit_blit::{fill, shift};
 use bit_map::{BitMap, Mode, Pattern};
 use draw_port::{Bytes, Canvas, Cut, Op, RowsOfBits, Shade, Shape};
 use scan_region::Region;
+use shape_region::oval_region;
 use std::alloc::Global;
 use strike_font::Font;
 use tb_geom::{Point, Rect, Refusal};
@@ -152,6 +153,16 @@ pub fn draw_image(alloc: Global, rounds: u32) -> Result<u32, Refusal> {
             mode: Mode::Xor,
             rows: Bytes::new(alloc, &[0xB2; 2000])?,
         }),
+    };
+    paint(alloc, op, rounds)
+}
+
+/// Fills the region of an oval of 200 by 120 with gray.
+pub fn fill_oval(alloc: Global, rounds: u32) -> Result<u32, Refusal> {
+    let region = oval_region(alloc, rect!(40, 30, 240, 150))?;
+    let op = Op {
+        clip: None,
+        shape: Shape::FillRgn(region, TURNED),
     };
     paint(alloc, op, rounds)
 }

@@ -4,7 +4,7 @@
 //! each WHAT has a checksum, of what came of a drawing last. The program prints no time: it is to be timed from outside, by two
 //! numbers of rounds, whose difference leaves out what both runs do once.
 //!
-//! `random` makes the regions, and `sums` the checksums. `pairs` has what is done with pairs of regions. `regions` and
+//! `random` makes the regions, and `sums` the checksums. `pairs` has what is done with pairs of regions. `regions`, `shapes` and
 //! `drawings` have what is done by the word `drawings`.
 #![tactic(auto)]
 
@@ -12,10 +12,12 @@ mod drawings;
 mod pairs;
 mod random;
 mod regions;
+mod shapes;
 mod sums;
 
 use anyhow::{Context, Result, bail};
 use pairs::{Pair, What};
+use shapes::Made;
 use std::alloc::Global;
 use std::env;
 
@@ -28,7 +30,7 @@ const OF_REGIONS: &str =
 
 /// What is done by the word `drawings`.
 const OF_DRAWINGS: &str =
-    "WHAT is union, write, read, shift, text, fill, cut, frame, image or clipped";
+    "WHAT is union, write, read, oval, ring, line, polygon, shift, text, fill, cut, frame, image, clipped or disk";
 
 /// What the words that follow are done with.
 #[derive(Drop)]
@@ -56,6 +58,10 @@ fn drawn(alloc: Global, what: &str, rounds: u32) -> Result<u32> {
         "union" => regions::unite(alloc, rounds)?,
         "write" => regions::write(alloc, rounds)?,
         "read" => regions::read(alloc, rounds)?,
+        "oval" => shapes::make(alloc, Made::Oval, rounds)?,
+        "ring" => shapes::make(alloc, Made::Ring, rounds)?,
+        "line" => shapes::make(alloc, Made::Line, rounds)?,
+        "polygon" => shapes::make(alloc, Made::Polygon, rounds)?,
         "shift" => drawings::shift_all(alloc, rounds)?,
         "text" => drawings::draw_text(alloc, rounds)?,
         "fill" => drawings::fill_all(alloc, rounds)?,
@@ -63,6 +69,7 @@ fn drawn(alloc: Global, what: &str, rounds: u32) -> Result<u32> {
         "frame" => drawings::draw_frame(alloc, rounds)?,
         "image" => drawings::draw_image(alloc, rounds)?,
         "clipped" => drawings::fill_clipped(alloc, rounds)?,
+        "disk" => drawings::fill_oval(alloc, rounds)?,
         _ => bail!(OF_DRAWINGS),
     })
 }
