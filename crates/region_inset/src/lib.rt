@@ -1,0 +1,6 @@
+//! Scratch.
+#![tactic(auto)]
+
+mod inset_row;
+mod narrowed;
+mod near;
