@@ -389,6 +389,28 @@ window_around h d r word is i =
       order = omega (arith, ints);
     }
 
+-- a side that is widened, on either side
+pub record HasEnds (z w : ℤ) : Type 0 where
+  pub less_fits : SFits w32 (z -ℤ w)
+  pub more_fits : SFits w32 (z +ℤ w)
+
+widening_high : (d : ℤ) → IsDistance d → widening d ≤ℤ pos 65535
+widening_high (pos n) i = omega (arith, ints)
+widening_high (negsuc n) i =
+    let low = i.0 in
+    omega (arith, ints)
+
+pub ends_of : (z d w : ℤ) → IsCoordinate z → w ≡ widening d → IsDistance d → HasEnds z w
+ends_of z d w in_range is i =
+    let low = widening_low d in
+    let high = widening_high d i in
+    let first = in_range.0 in
+    let last = in_range.1 in
+    record {
+      less_fits = reached_fits (z -ℤ w) (omega (arith, ints), omega (arith, ints));
+      more_fits = reached_fits (z +ℤ w) (omega (arith, ints), omega (arith, ints));
+    }
+
 -- a coordinate has 16 bits
 pub coordinate_word : (z : ℤ) → IsCoordinate z → IsWord z
 coordinate_word z i =
