@@ -189,8 +189,10 @@ row_of_all s r v row b is h = elim (cases_Bool (between r.left h r.right)) [
 -- ---- frames
 
 -- a row of the frame is like that above where those of the set and of the inset are
-pub frame_steady : (s : PixelSet) (pen : Pen) (v : ℤ) → IsSteady s v → IsSteady (inset s (pos pen.width) (pos pen.height)) v → IsSteady (region_frame s pen) v
-frame_steady s pen v outer inner h = λ i. has_size pen && (outer h i && not (inner h i))
+pub frame_steady : (s : PixelSet) (pen : Pen) (dh dv v : ℤ) → dh ≡ pos pen.width → dv ≡ pos pen.height → IsSteady s v → IsSteady (inset s dh dv) v → IsSteady (region_frame s pen) v
+frame_steady s pen dh dv v across down outer inner h =
+    let inside : IsSteady (inset s (pos pen.width) (pos pen.height)) v = subst (λ d. IsSteady (inset s (pos pen.width) d) v) down (subst (λ d. IsSteady (inset s d dv) v) across inner) in
+    λ i. has_size pen && (outer h i && not (inside h i))
 
 -- a frame lies within the bounds of the set
 pub frame_around : (s : PixelSet) (r : Rect) (pen : Pen) → AreBounds s r → AreBounds (region_frame s pen) r
@@ -200,15 +202,17 @@ frame_around s r pen b = record {
 }
 
 -- a row of it is a row of the set less that of the inset
-module _ (s : PixelSet) (r : Rect) (pen : Pen) (v : ℤ) (row inside : Columns) (b : AreBounds s r) (size : has_size pen ≡ true) (outer : (h : ℤ) → has_column row h ≡ s (record { h = h; v = v }))
-    (inner : (h : ℤ) → has_column inside h ≡ (between r.left h r.right && inset s (pos pen.width) (pos pen.height) (record { h = h; v = v }))) where
+module _ (s : PixelSet) (r : Rect) (pen : Pen) (dh dv v : ℤ) (across : dh ≡ pos pen.width) (down : dv ≡ pos pen.height) (row inside : Columns) (b : AreBounds s r) (size : has_size pen ≡ true)
+    (outer : (h : ℤ) → has_column row h ≡ s (record { h = h; v = v })) (inner : (h : ℤ) → has_column inside h ≡ (between r.left h r.right && inset s dh dv (record { h = h; v = v }))) where
   pub frame_beside : (h : ℤ) → between r.left h r.right ≡ false → (has_column row h && not (has_column inside h)) ≡ false
   frame_beside h e = ap (λ t. t && not (has_column inside h)) (outer h ∙ beside_bounds s r v h b e)
 
+  within : (h : ℤ) → between r.left h r.right ≡ true → has_column inside h ≡ inset s (pos pen.width) (pos pen.height) (record { h = h; v = v })
+  within h e = inner h ∙ ap (λ t. t && inset s dh dv (record { h = h; v = v })) e ∙ (λ i. inset s (across i) (down i) (record { h = h; v = v }))
+
   pub frame_row : (h : ℤ) → (has_column row h && not (has_column inside h)) ≡ region_frame s pen (record { h = h; v = v })
   frame_row h = elim (cases_Bool (between r.left h r.right)) [
-    | inl e ↦ (λ i. outer h i && not ((inner h ∙ ap (λ t. t && inset s (pos pen.width) (pos pen.height) (record { h = h; v = v })) e) i))
-        ∙ sym (ap (λ t. t && (s (record { h = h; v = v }) && not (inset s (pos pen.width) (pos pen.height) (record { h = h; v = v })))) size)
+    | inl e ↦ (λ i. outer h i && not (within h e i)) ∙ sym (ap (λ t. t && (s (record { h = h; v = v }) && not (inset s (pos pen.width) (pos pen.height) (record { h = h; v = v })))) size)
     | inr e ↦ frame_beside h e ∙ sym (beside_bounds (region_frame s pen) r v h (frame_around s r pen b) e)
   ]
 

@@ -34,12 +34,22 @@ impl PixelRows for FrameRegion<'_, '_> {
         let (across, down) = (i32::from(self.pen.width), i32::from(self.pen.height));
         let bounds = region_bounds(self.region);
         let inside = inset_row(self.region, across, down, v, bounds);
-        meant_columns(Combination::Diff, &region_row(self.region, v), &inside, bounds)
+        meant_columns(
+            Combination::Diff,
+            &region_row(self.region, v),
+            &inside,
+            bounds,
+        )
     }
 
     fn turns(&self, v: i32) -> bool {
         turns_at(self.region, v)
-            || inset_turns(self.region, i32::from(self.pen.width), i32::from(self.pen.height), v)
+            || inset_turns(
+                self.region,
+                i32::from(self.pen.width),
+                i32::from(self.pen.height),
+                v,
+            )
     }
 }
 

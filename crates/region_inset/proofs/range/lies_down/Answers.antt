@@ -51,3 +51,15 @@ returns c =
           let met = bottom.0 t in
           not_level (inset (holds c.args.region.now) c.args.dh c.args.dv) (record { h = met.0; v = pos 16383 }) lies refl met.1),
     )
+
+pub meets_row-requires-clause-columns : goal.meets_row-requires-clause-columns
+meets_row-requires-clause-columns c =
+    let fits_dh = c.ranges.dh in
+    let fits_dv = c.ranges.dv in
+    simp to_z-of_z c.requires.columns
+
+pub meets_row-requires-2-clause-columns : goal.meets_row-requires-2-clause-columns
+meets_row-requires-2-clause-columns c =
+    let fits_dh = c.ranges.dh in
+    let fits_dv = c.ranges.dv in
+    simp to_z-of_z c.requires.columns

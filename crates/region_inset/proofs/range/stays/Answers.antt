@@ -12,8 +12,8 @@ overflow_sub-first c =
     let is = simp to_z-of_z at c.widening-widening.ensures in
     simp to_z-of_z (ends_of c.args.first c.args.d c.widening-widening.result c.requires.first is c.requires.distance).less_fits
 
-pub overflow_add-last : goal.overflow_add-last
-overflow_add-last c =
+pub overflow_add-result : goal.overflow_add-result
+overflow_add-result c =
     let fits_last = c.ranges.last in
     let fits_d = c.ranges.d in
     let fits_w : SFits w32 c.widening-widening.result = search rules in
