@@ -1,0 +1,9 @@
+//! Scratch.
+#![tactic(auto)]
+
+mod frame_region;
+mod inset;
+mod inset_row;
+mod narrowed;
+mod near;
+mod range;
