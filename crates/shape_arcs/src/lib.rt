@@ -1,0 +1,8 @@
+//! Arcs.
+#![tactic(auto)]
+
+mod directions;
+
+mod sight;
+
+
