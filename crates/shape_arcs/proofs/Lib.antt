@@ -1,1 +1,2 @@
 pub mod DirectionLemmas
+pub mod SightLemmas

@@ -1,9 +1,10 @@
 //! Where pixels are seen from the middle of a rectangle.
 ghost use Rattle.std.specs.Prelude.{◌≡◌, true, ◌*ℤ◌, ◌-ℤ◌};
 ghost use Rattle.tb_geom.specs.Rects.{in_plane, is_in_range};
-ghost use Rattle.region_bytes.specs.Edges.{IsCoordinate};
+ghost use Rattle.region_rows.specs.Edges.{IsCoordinate};
+ghost use Rattle.shape_strips.specs.Places.{IsWithin};
 ghost use Rattle.shape_arcs.specs.Rays.{cross, dot, is_from, past_middle, seen};
-ghost use Rattle.shape_arcs.specs.Sights.{IsNear, IsWithin};
+ghost use Rattle.shape_arcs.specs.Sights.{IsNear};
 
 use tb_geom::{Point, Rect};
 
