@@ -1,13 +1,13 @@
 -- Directions by degrees.
-use Rattle.std.proofs.Common.{◌≡◌, ℕ, zero, suc, ◌+◌, ◌-◌, ◌≤◌, ◌<◌, Bool, true, false, cond, List, [], ◌∷◌, get_or, length, ℤ, pos, negsuc, neg_ℤ, ◌-ℤ◌, ◌≤ℤ◌, refl, sym, ap, ◌∙◌, inl, inr, arith, add-one, to_z, SFits, w32}
+use Rattle.std.proofs.Common.{◌≡◌, ℕ, zero, suc, ◌+◌, ◌-◌, ◌/◌, ◌%◌, ◌≤◌, ◌<◌, Bool, true, false, cond, List, [], ◌∷◌, get_or, length, ℤ, pos, negsuc, neg_ℤ, ◌-ℤ◌, ◌≤ℤ◌, refl, sym, ap, ◌∙◌, inl, inr, arith, add-one, to_z, SFits, w32}
 use Rattle.std.specs.Prelude.{nat_le, slice_index}
 use Rattle.std.specs.List.{list_all}
 use Rattle.std.proofs.lemmas.Bool.{cases_Bool, le-leb, lt-leb}
 use Rattle.std.proofs.lemmas.List.Folds.{list_all_at}
 use Rattle.std.proofs.lemmas.Int.{ints, to_z_pos}
 use Rattle.tb_geom.specs.declared.point.Point.{Point}
-use Rattle.shape_arcs.specs.Directions.{tangents, tangent, first_quarter, quarter_turn, quarters, direction}
-use Rattle.shape_arcs.specs.Sights.{IsNear}
+use Rattle.shape_arcs.specs.Directions.{tangents, tangent, first_quarter, quarter_turn, quarters, direction, on_circle}
+use Rattle.shape_arcs.specs.Sights.{IsNear, PointsSomewhere}
 
 at_most : (xs : List ℕ) (d : ℕ) → list_all (λ x. nat_le x 65536) xs ≡ true → d < length xs → get_or xs d 0 ≤ 65536
 at_most xs d e l = elim (cases_Bool (nat_le (get_or xs d 0) 65536)) [
@@ -56,3 +56,35 @@ one_quarter n p q e = rw add-one (ap quarter_turn e)
 pub no_quarter : (p : Point) → p ≡ quarters 0 p
 unfolding quarters
 no_quarter p = refl
+
+-- ---- each direction points somewhere
+
+first_somewhere : (d : ℕ) → PointsSomewhere (first_quarter d)
+unfolding first_quarter
+first_somewhere d = by_test (nat_le d 45)
+  where
+    down : negsuc 65535 ≡ pos 0 → ⊥
+    down e = absurd (cc)
+
+    right : pos 65536 ≡ pos 0 → ⊥
+    right e = omega (arith, ints)
+
+    by_test : (b : Bool) → PointsSomewhere (cond b (record { h = pos (tangent d); v = negsuc 65535 }) (record { h = pos 65536; v = neg_ℤ (pos (tangent (90 - d))) }))
+    by_test true = inr down
+    by_test false = inl right
+
+turned_somewhere : (p : Point) → PointsSomewhere p → PointsSomewhere (quarter_turn p)
+turned_somewhere p (inl n) = inr n
+turned_somewhere p (inr n) = inl (λ e. n (back p.v e))
+  where
+    back : (z : ℤ) → neg_ℤ z ≡ pos 0 → z ≡ pos 0
+    back z e = omega (arith, ints)
+
+quarters_somewhere : (n : ℕ) (p : Point) → PointsSomewhere p → PointsSomewhere (quarters n p)
+unfolding quarters
+quarters_somewhere zero p s = s
+quarters_somewhere (suc n) p s = turned_somewhere (quarters n p) (quarters_somewhere n p s)
+
+pub direction_somewhere : (degree : ℤ) → PointsSomewhere (direction degree)
+unfolding direction
+direction_somewhere degree = quarters_somewhere (on_circle degree / 90) (first_quarter (on_circle degree % 90)) (first_somewhere (on_circle degree % 90))

@@ -1,2 +1,4 @@
+pub mod ProductLemmas
 pub mod DirectionLemmas
 pub mod SightLemmas
+pub mod RayLemmas

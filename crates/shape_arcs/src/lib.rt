@@ -4,5 +4,6 @@
 mod directions;
 
 mod sight;
+mod ray;
 
 
