@@ -2,3 +2,5 @@ pub mod ProductLemmas
 pub mod DirectionLemmas
 pub mod SightLemmas
 pub mod RayLemmas
+pub mod HalfLemmas
+pub mod SectorLemmas

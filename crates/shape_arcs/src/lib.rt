@@ -2,8 +2,9 @@
 #![tactic(auto)]
 
 mod directions;
-
-mod sight;
+mod half;
 mod ray;
+mod sector;
+mod sight;
 
-
+pub use half::RayStrip;
