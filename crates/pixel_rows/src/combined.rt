@@ -9,7 +9,7 @@ ghost use Rattle.pixel_rows.specs.Told.{AreRegionBytes, IsNotTold};
 use crate::columns::Columns;
 use crate::combination::Combination;
 use crate::pixel_rows::{PixelRows, pixel_bytes};
-use crate::region_row::{has_points, region_bounds, region_row};
+use crate::reading::{has_points, region_bounds, region_row};
 use region_bytes::RegionBytes;
 use std::alloc::Global;
 use tb_geom::{Rect, Refusal};
@@ -40,7 +40,7 @@ impl PixelRows for Combined<'_, '_> {
 }
 
 /// The columns that are meant of two rows, all of which lie within the bounds.
-fn meant_columns(how: Combination, first: &Columns, second: &Columns, bounds: Rect) -> Columns
+pub fn meant_columns(how: Combination, first: &Columns, second: &Columns, bounds: Rect) -> Columns
     requires in_range { is_in_range bounds ≡ true }
     requires within { (h : ℤ) → between bounds.left h bounds.right ≡ false
         → means how (has_column first.now h) (has_column second.now h) ≡ false }

@@ -20,11 +20,11 @@ mod combination;
 mod combined;
 mod moved;
 mod pixel_rows;
-mod region_row;
+mod reading;
 
 pub use columns::{Columns, differ};
 pub use combination::Combination;
-pub use combined::combined_bytes;
+pub use combined::{combined_bytes, meant_columns};
 pub use moved::{can_move, moved_bytes};
 pub use pixel_rows::{PixelRows, pixel_bytes};
-pub use region_row::{has_points, region_bounds, region_row};
+pub use reading::{has_points, region_bounds, region_row};

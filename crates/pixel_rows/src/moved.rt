@@ -11,7 +11,7 @@ ghost use Rattle.pixel_rows.specs.Told.{AreRegionBytes, IsNotTold};
 
 use crate::columns::Columns;
 use crate::pixel_rows::{PixelRows, pixel_bytes};
-use crate::region_row::{has_points, region_bounds, region_row};
+use crate::reading::{has_points, region_bounds, region_row};
 use region_bytes::RegionBytes;
 use std::alloc::Global;
 use tb_geom::{Rect, Refusal};

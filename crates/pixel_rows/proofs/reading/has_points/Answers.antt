@@ -2,7 +2,7 @@ use Rattle.std.proofs.Common.{◌≡◌, rules, SFits, w32}
 use Rattle.std.proofs.lemmas.Int.{ints, to_z-of_z}
 use Rattle.tb_geom.specs.Pixels.{holds}
 use Rattle.pixel_rows.proofs.ColumnLemmas.{turns_passed, none_turn}
-use Rattle.pixel_rows.proofs.region_row.has_points.Goals as goal
+use Rattle.pixel_rows.proofs.reading.has_points.Goals as goal
 
 pub loop-p-preserved : goal.loop-p-preserved
 loop-p-preserved c =

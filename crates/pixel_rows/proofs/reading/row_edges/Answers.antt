@@ -2,7 +2,7 @@ use Rattle.std.proofs.Common.{◌≤ℤ◌, ◌<ℤ◌, rules, SFits, w32}
 use Rattle.std.proofs.lemmas.Int.{ints, to_z-of_z}
 use Rattle.tb_geom.specs.Pixels.{holds}
 use Rattle.pixel_rows.proofs.ColumnLemmas.{edges_turned, edges_passed, all_edges}
-use Rattle.pixel_rows.proofs.region_row.row_edges.Goals as goal
+use Rattle.pixel_rows.proofs.reading.row_edges.Goals as goal
 
 pub loop-p-preserved-then-p-v : goal.loop-p-preserved-then-p-v
 loop-p-preserved-then-p-v c =

@@ -1,5 +1,5 @@
 use Rattle.pixel_rows.proofs.BoxLemmas.{rect_bounds, rect_box, rows_bounds}
-use Rattle.pixel_rows.proofs.region_row.region_bounds.Goals as goal
+use Rattle.pixel_rows.proofs.reading.region_bounds.Goals as goal
 
 pub returns-in-Rect-clause-bounds : goal.returns-in-Rect-clause-bounds
 returns-in-Rect-clause-bounds c = rect_bounds c.args.region.now c.in-Rect.rect c.in-Rect.ensures

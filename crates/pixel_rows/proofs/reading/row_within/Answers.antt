@@ -2,7 +2,7 @@ use Rattle.std.proofs.lemmas.Int.{to_z-of_z}
 use Rattle.tb_geom.specs.Pixels.{holds}
 use Rattle.shape_strips.proofs.RangeLemmas.{row_of}
 use Rattle.pixel_rows.proofs.ColumnLemmas.{beside_bounds, column_in}
-use Rattle.pixel_rows.proofs.region_row.row_within.Goals as goal
+use Rattle.pixel_rows.proofs.reading.row_within.Goals as goal
 
 pub returns : goal.returns
 returns c =
