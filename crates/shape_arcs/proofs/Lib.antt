@@ -4,3 +4,4 @@ pub mod SightLemmas
 pub mod RayLemmas
 pub mod HalfLemmas
 pub mod SectorLemmas
+pub mod WedgeLemmas

@@ -1,10 +1,13 @@
 //! Arcs.
 #![tactic(auto)]
 
+mod arc;
 mod directions;
 mod half;
 mod ray;
 mod sector;
 mod sight;
+mod span;
 
+pub use arc::{Arc, arc_bytes, arc_region};
 pub use half::RayStrip;
