@@ -5,3 +5,4 @@ pub mod RayLemmas
 pub mod HalfLemmas
 pub mod SectorLemmas
 pub mod WedgeLemmas
+pub mod FrameLemmas

@@ -3,6 +3,7 @@
 
 mod arc;
 mod directions;
+mod frame;
 mod half;
 mod ray;
 mod sector;
@@ -10,4 +11,5 @@ mod sight;
 mod span;
 
 pub use arc::{Arc, arc_bytes, arc_region};
+pub use frame::{FrameArc, frame_arc_bytes, frame_arc_region};
 pub use half::RayStrip;
