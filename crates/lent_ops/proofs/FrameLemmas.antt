@@ -24,8 +24,8 @@ frame_in_plane : (bytes : List ℕ) (n : PenRef) (p : Point) → (in_plane p && 
 frame_in_plane bytes n p = elim (cases_Bool (in_plane p)) [
   | inl within ↦ λ i. within i && region_frame (holds (pixels_of bytes)) (pen_of n) p
   | inr out ↦
-    let none = and_right (has_size (pen_of n)) _ (and_left (holds (pixels_of bytes) p) _ (said_away bytes p out)) in
-    and_right (in_plane p) (region_frame (holds (pixels_of bytes)) (pen_of n) p) none ∙ sym none
+      let none = and_right (has_size (pen_of n)) _ (and_left (holds (pixels_of bytes) p) _ (said_away bytes p out)) in
+      and_right (in_plane p) (region_frame (holds (pixels_of bytes)) (pen_of n) p) none ∙ sym none
 ]
 
 -- a finite set that has the pixels of the frame is that of its pixels

@@ -34,6 +34,7 @@ const LONGEST_PEN: i32 = 1024;
 
 /// The least degree that an arc may start at or go over, and the greatest.
 const FIRST_DEGREE: i32 = -32768;
+
 const LAST_DEGREE: i32 = 32767;
 
 /// A form whose numbers are judged.
@@ -240,7 +241,12 @@ fn framed_wedge<'a>(rect: Rect, angles: AnglesRef, pen: PenRef) -> Judged<'a>
 {
     let (start, angle) = angles.degrees();
     let pen = pen.to_pen();
-    Judged::FramedWedge(FrameArc { rect, start, angle, pen })
+    Judged::FramedWedge(FrameArc {
+        rect,
+        start,
+        angle,
+        pen,
+    })
 }
 
 impl AnglesRef {
