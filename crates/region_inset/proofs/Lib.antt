@@ -3,3 +3,4 @@ pub mod NearLemmas
 pub mod InsetLemmas
 pub mod RangeLemmas
 pub mod MadeLemmas
+pub mod LawLemmas
