@@ -1,5 +1,5 @@
 -- Insets of sets of pixels, and the frames that they leave.
-use Rattle.std.specs.Prelude.{◌≡◌, Bool, true, false, not, ◌&&◌, ℤ, pos}
+use Rattle.std.specs.Prelude.{◌≡◌, Bool, true, false, not, ◌&&◌, ℕ, ℤ, pos, ◌+ℤ◌, ◌-ℤ◌, ◌≤ℤ◌}
 use Rattle.tb_geom.specs.declared.point.Point.{Point}
 use Rattle.tb_geom.specs.Points.{PixelSet}
 use Rattle.region_rows.specs.Moves.{is_pixel_in_range}
@@ -33,3 +33,10 @@ region_frame s pen p = has_size pen && (s p && not (inset s (pos pen.width) (pos
 abbrev pub joining : Bool → Combination
 joining true = Sect
 joining false = Union
+
+-- two pixels are no further apart than n columns and m rows
+pub record IsNear (n m : ℕ) (p q : Point) : Type 0 where
+  pub left : (p.h -ℤ pos n) ≤ℤ q.h
+  pub right : q.h ≤ℤ (p.h +ℤ pos n)
+  pub top : (p.v -ℤ pos m) ≤ℤ q.v
+  pub bottom : q.v ≤ℤ (p.v +ℤ pos m)

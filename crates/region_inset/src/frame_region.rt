@@ -1,16 +1,19 @@
 //! The frame of a region.
-ghost use Rattle.std.specs.Prelude.{◌≡◌, ℤ, MatchResult};
+ghost use Rattle.std.specs.Prelude.{◌≡◌, ℤ, IfOk, MatchResult};
+ghost use Rattle.tb_geom.specs.declared.point.Point.{Point};
 ghost use Rattle.tb_geom.specs.Pixels.{holds};
 ghost use Rattle.pixel_rows.specs.Told.{AreRegionBytes, IsNotTold};
 ghost use Rattle.region_inset.specs.Insets.{region_frame};
 
 use crate::inset_row::{inset_row, inset_turns, turns_at};
+use crate::making::pixel_region;
 use pixel_rows::{
     Columns, Combination, PixelRows, meant_columns, pixel_bytes, region_bounds, region_row,
 };
 use region_bytes::RegionBytes;
+use scan_region::Region;
 use shape_strips::Pen;
-use std::alloc::Global;
+use std::alloc::{AllocError, Global};
 use tb_geom::{Rect, Refusal};
 
 /// The frame of a region: the region less its inset by the pen. A pen without width or height draws nothing.
@@ -66,4 +69,15 @@ pub fn frame_region_bytes(
         (IsNotTold (region_frame (holds region.now) pen)) }
 {
     pixel_bytes(alloc, &FrameRegion { region, pen })
+}
+
+/// The region of a region's frame, in its coordinate space (*Inside Macintosh* I, "QuickDraw": `FrameRgn`).
+pub fn frame_of_region(
+    alloc: Global,
+    region: &RegionBytes<'_>,
+    pen: Pen,
+) -> Result<Region, AllocError>
+    ensures { IfOk result (λ frame. (p : Point) → holds frame p ≡ region_frame (holds region.now) pen p) }
+{
+    pixel_region(alloc, &FrameRegion { region, pen })
 }
