@@ -13,12 +13,12 @@ moved_bytes-requires-clause-stays c =
     let good = subst IsGoodRegion c.in-Offset.is c.in_ok-judge.ensures in
     rw (c.read.ensures, to_z-of_z w32 c.in-Offset.distance.dh across, to_z-of_z w32 c.in-Offset.distance.dv down) good.near.1
 
-pub inset_bytes-requires-clause-stays : goal.inset_bytes-requires-clause-stays
-inset_bytes-requires-clause-stays c =
+pub inset_bytes-requires-clause-in_range : goal.inset_bytes-requires-clause-in_range
+inset_bytes-requires-clause-in_range c =
     let across : SFits w32 c.in-Inset.distance.dh = search rules in
     let down : SFits w32 c.in-Inset.distance.dv = search rules in
     let good = subst IsGoodRegion c.in-Inset.is c.in_ok-judge.ensures in
-    rw (c.read.ensures, to_z-of_z w32 c.in-Inset.distance.dh across, to_z-of_z w32 c.in-Inset.distance.dv down) good.near.1
+    rw (c.read-in-Inset.ensures, to_z-of_z w32 c.in-Inset.distance.dh across, to_z-of_z w32 c.in-Inset.distance.dv down) good.near.1
 
 pub read-requires-in-Combined : goal.read-requires-in-Combined
 read-requires-in-Combined c = (subst IsGoodRegion c.in-Combined.is c.in_ok-judge.ensures).regions.0
@@ -64,7 +64,7 @@ returns-in-Inset c =
     let across : SFits w32 c.in-Inset.distance.dh = search rules in
     let down : SFits w32 c.in-Inset.distance.dv = search rules in
     let is = c.in-Inset.is in
-    let told = rw (c.read.ensures, to_z-of_z w32 c.in-Inset.distance.dh across, to_z-of_z w32 c.in-Inset.distance.dv down) at c.inset_bytes.ensures in
+    let told = rw (c.read-in-Inset.ensures, to_z-of_z w32 c.in-Inset.distance.dh across, to_z-of_z w32 c.in-Inset.distance.dv down) at c.inset_bytes.ensures in
     MatchResult-weaker c.inset_bytes.result told
     (λ bytes so. told_of c.args.self.now (Inset c.in-Inset.bytes c.in-Inset.distance) bytes.items is c.in_ok-judge.ensures so)
     (λ e why. untold_of c.args.self.now (Inset c.in-Inset.bytes c.in-Inset.distance) e is c.in_ok-judge.ensures why)
