@@ -1,0 +1,3 @@
+-- Lemmas.
+pub mod PlacingLemmas
+pub mod ByteLemmas

@@ -1,0 +1,3 @@
+-- What the contracts speak of: where a text stands, and the record of it.
+pub mod Placings
+pub mod Texts
