@@ -3,9 +3,10 @@ use Rattle.std.specs.Prelude.{◌≡◌, ℕ, ◌+◌, ◌-◌, ◌≤◌, Bool,
 use Rattle.tb_geom.specs.declared.rect.Rect.{Rect}
 use Rattle.text_lines.specs.declared.line.TextLine.{TextLine}
 use Rattle.text_lines.specs.Lines.{text_lines}
+use Rattle.text_record.specs.declared.metrics.Metrics.{Metrics}
 use Rattle.text_record.specs.declared.placing.Justification.{Justification}
 use Rattle.text_record.specs.declared.placing.Placing.{Placing}
-use Rattle.text_record.specs.Placings.{IsPlacing}
+use Rattle.text_record.specs.Placings.{IsPlacing, line_height}
 
 -- a text in lines: the widths of all bytes, how wide its destination is, whether lines wrap, and its bytes
 pub record Lined : Type 0 where
@@ -56,3 +57,25 @@ pub record IsRecord (r : Record) : Type 0 where
   pub ascent_to : r.ascent ≤ 127
   pub height_from : 1 ≤ r.height
   pub height_to : r.height ≤ 381
+
+-- a new record: without text, shown, and not active
+abbrev pub new_record : List ℕ → Metrics → Placing → Justification → Bool → Bool → Record
+new_record widths metrics p justification wrap framed = record {
+  text = record { widths = widths; width = p.width; wrap = wrap; bytes = [] };
+  ascent = metrics.ascent;
+  height = line_height metrics.ascent metrics.descent metrics.leading;
+  left = p.left;
+  top = p.top;
+  view = p.view;
+  justification = justification;
+  start = 0;
+  end = 0;
+  framed = framed;
+  shown = true;
+  active = false;
+  caret = true;
+}
+
+-- where the text stands
+abbrev pub placing_of : Record → Placing
+placing_of r = record { left = r.left; top = r.top; width = r.text.width; view = r.view }

@@ -1,5 +1,5 @@
 //! Where a text stands.
-ghost use Rattle.std.specs.Prelude.{◌≡◌, ◌+ℤ◌};
+ghost use Rattle.std.specs.Prelude.{◌≡◌, ◌+ℤ◌, ◌≤ℤ◌, pos, negsuc};
 ghost use Rattle.tb_geom.specs.Rects.{is_in_range, is_coordinate};
 ghost use Rattle.text_record.specs.Placings.{is_near, is_span, is_sized, is_width, widened, box_of, is_placing};
 
@@ -78,6 +78,22 @@ fn has_box(framed: bool, view: Rect) -> bool
         stays_widened(view)
     } else {
         view.is_in_range()
+    }
+}
+
+/// A rectangle with 3 columns and rows more on each side.
+pub(crate) fn widened(rect: Rect) -> Rect
+    requires left { negsuc 16383 ≤ℤ rect.left }
+    requires top { negsuc 16383 ≤ℤ rect.top }
+    requires right { rect.right ≤ℤ pos 16383 }
+    requires bottom { rect.bottom ≤ℤ pos 16383 }
+    ensures { result ≡ widened rect }
+{
+    Rect {
+        left: rect.left - 3,
+        top: rect.top - 3,
+        right: rect.right + 3,
+        bottom: rect.bottom + 3,
     }
 }
 
