@@ -1,3 +1,6 @@
 -- Lemmas.
 pub mod PlacingLemmas
 pub mod ByteLemmas
+pub mod WidthLemmas
+pub mod PassLemmas
+pub mod PlaceLemmas

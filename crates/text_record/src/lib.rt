@@ -1,8 +1,10 @@
 //! Text records.
 #![tactic(auto)]
 
+mod bytes;
 mod lined;
 mod metrics;
+mod places;
 mod placing;
 mod record;
 

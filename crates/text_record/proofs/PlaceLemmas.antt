@@ -1,0 +1,32 @@
+-- Where lines lie.
+use Rattle.std.proofs.Common.{◌≡◌, ℕ, ◌+◌, ◌-◌, ◌*◌, ◌<◌, ◌≤◌, List, length, ℤ, pos, negsuc, ◌+ℤ◌, ◌-ℤ◌, ◌≤ℤ◌, refl, sym, ap, ◌∙◌, arith, mul-le-mul, le_trans}
+use Rattle.text_lines.specs.declared.line.TextLine.{TextLine}
+use Rattle.text_lines.specs.Lines.{line_at, line_of, LiesOn}
+use Rattle.text_lines.proofs.FollowLemmas.{line_bounds, lines_few, lines_follow, found_lies}
+use Rattle.text_record.specs.Texts.{Lined, lines_of, room_of, Record}
+use Rattle.text_record.specs.declared.placing.Justification.{Justification}
+use Rattle.text_record.specs.Places.{line_top, spare_of, pen_of, indent, line_in, row_of}
+
+pub some_line : (t : Lined) → 1 ≤ length (lines_of t)
+some_line t = (lines_follow t.widths (room_of t.wrap t.width) t.bytes).some
+
+pub few_lines : (t : Lined) → length (lines_of t) ≤ length t.bytes + 1
+few_lines t = lines_few t.widths (room_of t.wrap t.width) t.bytes
+
+pub line_rises : (t : Lined) (j : ℕ) → j < length (lines_of t) → (line_at (lines_of t) j).start ≤ (line_at (lines_of t) j).end
+line_rises t j p = (line_bounds t.widths (room_of t.wrap t.width) t.bytes j p).0
+
+pub line_in_text : (t : Lined) (j : ℕ) → j < length (lines_of t) → (line_at (lines_of t) j).end ≤ length t.bytes
+line_in_text t j p = (line_bounds t.widths (room_of t.wrap t.width) t.bytes j p).1
+
+-- an offset lies on one of the lines
+pub row_lies : (t : Lined) (o : ℕ) → LiesOn (lines_of t) o (line_of (lines_of t) o)
+row_lies t o = found_lies t.widths (room_of t.wrap t.width) t.bytes o
+
+-- all lines are not too high together
+pub rows_small : (j height : ℕ) → j ≤ 32000 → height ≤ 381 → j * height ≤ 12192000
+rows_small j height p q = mul-le-mul p q
+
+pub pen_is : (left by spare : ℤ) (j : Justification) (r : Record) (number : ℕ) → left ≡ r.left → j ≡ r.justification → by ≡ indent j spare → spare ≡ spare_of r.text (line_in r number)
+    → ((left +ℤ pos 1) +ℤ by) ≡ pen_of r (line_in r number)
+pen_is left by spare j r number a b c d = λ i. (a i +ℤ pos 1) +ℤ (c ∙ (λ k. indent (b k) (d k))) i
