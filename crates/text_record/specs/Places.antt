@@ -95,9 +95,9 @@ offset_at r p = offset_on r (line_at_row r p.v) p.h
 abbrev pub is_in_word : ℕ → Bool
 is_in_word c = nat_lt 32 c
 
--- where the word at an offset begins, and where it ends
+-- where the word at an offset begins, and where it ends; an offset behind the text counts as its end
 abbrev pub word_start : List ℕ → ℕ → ℕ
-word_start bytes o = o - suffix_len is_in_word (take o bytes)
+word_start bytes o = min o (length bytes) - suffix_len is_in_word (take o bytes)
 
 abbrev pub word_end : List ℕ → ℕ → ℕ
-word_end bytes o = o + prefix_len is_in_word (drop o bytes)
+word_end bytes o = min o (length bytes) + prefix_len is_in_word (drop o bytes)

@@ -1,10 +1,20 @@
 //! Bytes of lines and of words.
-ghost use Rattle.std.specs.Prelude.{◌≡◌, ◌≤◌, ◌*◌, ◌-ℤ◌, ◌≤ℤ◌, pos, negsuc, length};
+ghost use Rattle.std.specs.Prelude.{◌≡◌, ◌≤◌, ◌*◌, ◌-ℤ◌, ◌≤ℤ◌, pos, negsuc, length, slice_range};
 ghost use Rattle.std.specs.List.{prefix_len, suffix_len};
 ghost use Rattle.text_lines.specs.Widths.{bytes_width};
 ghost use Rattle.text_record.specs.Places.{without_return, inked_bytes, passed_bytes, is_in_word};
 
 use text_lines::{ByteWidths, LAST_BLANK, RETURN, byte_width};
+
+/// The bytes from one offset up to another, as far as there are any.
+pub(crate) fn bytes_between(bytes: &[u8], start: usize, end: usize) -> &[u8]
+    requires order { start ≤ end }
+    requires within { start ≤ length bytes.now }
+    ensures bytes { result.now ≡ slice_range bytes.now start end }
+    ensures within { length result.now ≤ length bytes.now }
+{
+    &bytes[start..end.min(bytes.len())]
+}
 
 /// Bytes without a return at their end.
 pub(crate) fn without_return(bytes: &[u8]) -> &[u8]

@@ -4,7 +4,7 @@ ghost use Rattle.text_lines.specs.Widths.{bytes_width};
 ghost use Rattle.text_record.specs.Texts.{lines_of};
 ghost use Rattle.text_record.specs.Places.{indent, drawn_bytes, inked_width, spare_of, pen_of, line_top, row_of, line_in, column_on, column_of, place_of, line_at_row, last_offset, offset_on, offset_at, word_start, word_end};
 
-use crate::bytes::{inked_width, passed_bytes, without_return, word_ahead, word_behind};
+use crate::bytes::{bytes_between, inked_width, passed_bytes, without_return, word_ahead, word_behind};
 use crate::placing::Justification;
 use crate::record::TextRecord;
 use tb_geom::Point;
@@ -113,5 +113,89 @@ impl TextRecord {
         ensures within { result < length (lines_of self.now.text) }
     {
         line_of(self.lines(), offset)
+    }
+
+    /// The column of an offset: where the byte there begins. Behind the text it is where that ends.
+    pub fn column_of(&self, offset: usize) -> i32
+        ensures value { result ≡ column_of self.now offset }
+        ensures from { negsuc 24937214 ≤ℤ result }
+        ensures to { result ≤ℤ pos 24953598 }
+    {
+        let number = self.row_of(offset);
+        let start = usize::from(self.line(number).start);
+        let before = bytes_between(self.bytes(), start, offset);
+        self.pen(number) + bytes_width(self.text.widths(), before) as i32
+    }
+
+    /// The place of an offset: its column, and the top row of its line (TEGetPoint answers the row below its line).
+    pub fn place_of(&self, offset: usize) -> Point
+        ensures { result ≡ place_of self.now offset }
+    {
+        Point {
+            h: self.column_of(offset),
+            v: self.line_top(self.row_of(offset)),
+        }
+    }
+
+    /// The number of the line at a row: the first above all, and the last below all.
+    pub fn line_at_row(&self, v: i32) -> usize
+        ensures value { result ≡ line_at_row self.now v }
+        ensures within { result < length (lines_of self.now.text) }
+    {
+        let last = self.line_count() - 1;
+        if v < self.top {
+            return 0;
+        }
+        let down = v.abs_diff(self.top) / u32::from(self.height);
+        (down as usize).min(last)
+    }
+
+    /// How far the offset at a point of a line goes at most: before the line's last byte, and in the last line behind it.
+    fn last_offset(&self, number: usize) -> usize
+        requires { number < length (lines_of self.now.text) }
+        ensures value { result ≡ last_offset self.now number }
+        ensures from { (line_in self.now number).start ≤ result }
+        ensures within { result ≤ length self.now.text.bytes }
+    {
+        let count = self.line_count();
+        let end = usize::from(self.line(number).end);
+        if number + 1 < count {
+            end - 1
+        } else {
+            end
+        }
+    }
+
+    /// The offset on a line at a column: that of the first byte of which more than half lies right of it.
+    pub fn offset_on(&self, number: usize, h: i32) -> usize
+        requires { number < length (lines_of self.now.text) }
+        ensures value { result ≡ offset_on self.now number h }
+        ensures within { result ≤ length self.now.text.bytes }
+    {
+        let start = usize::from(self.line(number).start);
+        let ahead = i64::from(h) - i64::from(self.pen(number));
+        let bytes = &self.bytes()[start..self.last_offset(number)];
+        start + passed_bytes(self.text.widths(), ahead, bytes)
+    }
+
+    /// The offset at a point of the window (TEGetOffset).
+    pub fn offset_at(&self, point: Point) -> usize
+        ensures value { result ≡ offset_at self.now point }
+        ensures within { result ≤ length self.now.text.bytes }
+    {
+        self.offset_on(self.line_at_row(point.v), point.h)
+    }
+
+    /// The word at an offset: the offset of its first byte, and the one behind its last byte. The bytes of a word are greater
+    /// than 32; where there is none, both are the offset. An offset behind the text counts as its end.
+    pub fn word_at(&self, offset: usize) -> (usize, usize)
+        ensures start { result.0 ≡ word_start self.now.text.bytes offset }
+        ensures end { result.1 ≡ word_end self.now.text.bytes offset }
+        ensures order { result.0 ≤ result.1 }
+        ensures within { result.1 ≤ length self.now.text.bytes }
+    {
+        let bytes = self.bytes();
+        let at = offset.min(bytes.len());
+        (at - word_behind(&bytes[..at]), at + word_ahead(&bytes[at..]))
     }
 }
