@@ -4,3 +4,4 @@ pub mod ByteLemmas
 pub mod WidthLemmas
 pub mod PassLemmas
 pub mod PlaceLemmas
+pub mod FoundLemmas

@@ -2,3 +2,4 @@
 pub mod Placings
 pub mod Texts
 pub mod Places
+pub mod Changes

@@ -101,3 +101,7 @@ word_start bytes o = min o (length bytes) - suffix_len is_in_word (take o bytes)
 
 abbrev pub word_end : List ℕ → ℕ → ℕ
 word_end bytes o = min o (length bytes) + prefix_len is_in_word (drop o bytes)
+
+-- none of the bytes has the width 0
+abbrev pub have_widths : List ℕ → List ℕ → Bool
+have_widths widths bytes = list_all (λ c. nat_lt 0 (byte_width widths c)) bytes

@@ -79,10 +79,7 @@ pub(crate) fn word_ahead(bytes: &[u8]) -> usize
     ensures value { result ≡ prefix_len is_in_word bytes.now }
     ensures within { result ≤ length bytes.now }
 {
-    bytes
-        .iter()
-        .take_while(|byte| is_in_word(**byte))
-        .count()
+    bytes.iter().take_while(|byte| is_in_word(**byte)).count()
 }
 
 /// How many bytes of a word a text ends with.

@@ -46,11 +46,7 @@ fn put_bytes(bytes: &mut Vec<u8>, start: usize, end: usize, other: &[u8])
 }
 
 /// Takes the room for so many bytes more, and for the lines of the text that has them. The text itself stays.
-fn take_room(
-    bytes: &mut Vec<u8>,
-    lines: &mut Vec<TextLine>,
-    more: usize,
-) -> Result<(), AllocError>
+fn take_room(bytes: &mut Vec<u8>, lines: &mut Vec<TextLine>, more: usize) -> Result<(), AllocError>
     requires short { length bytes.old.items + more ≤ 32000 }
     ensures bytes { bytes.new.items ≡ bytes.old.items }
     ensures lines { lines.new.items ≡ lines.old.items }
@@ -119,7 +115,12 @@ impl LinedText {
         ensures { self.new ≡ record self.old { width = width } }
     {
         self.width = width;
-        break_text(&mut self.lines, &self.widths, room_of(self.wrap, width), &self.bytes);
+        break_text(
+            &mut self.lines,
+            &self.widths,
+            room_of(self.wrap, width),
+            &self.bytes,
+        );
     }
 
     /// The widths of all bytes.

@@ -4,7 +4,9 @@ ghost use Rattle.text_lines.specs.Widths.{bytes_width};
 ghost use Rattle.text_record.specs.Texts.{lines_of};
 ghost use Rattle.text_record.specs.Places.{indent, drawn_bytes, inked_width, spare_of, pen_of, line_top, row_of, line_in, column_on, column_of, place_of, line_at_row, last_offset, offset_on, offset_at, word_start, word_end};
 
-use crate::bytes::{bytes_between, inked_width, passed_bytes, without_return, word_ahead, word_behind};
+use crate::bytes::{
+    bytes_between, inked_width, passed_bytes, without_return, word_ahead, word_behind,
+};
 use crate::placing::Justification;
 use crate::record::TextRecord;
 use tb_geom::Point;
@@ -159,11 +161,7 @@ impl TextRecord {
     {
         let count = self.line_count();
         let end = usize::from(self.line(number).end);
-        if number + 1 < count {
-            end - 1
-        } else {
-            end
-        }
+        if number + 1 < count { end - 1 } else { end }
     }
 
     /// The offset on a line at a column: that of the first byte of which more than half lies right of it.
@@ -196,6 +194,9 @@ impl TextRecord {
     {
         let bytes = self.bytes();
         let at = offset.min(bytes.len());
-        (at - word_behind(&bytes[..at]), at + word_ahead(&bytes[at..]))
+        (
+            at - word_behind(&bytes[..at]),
+            at + word_ahead(&bytes[at..]),
+        )
     }
 }

@@ -106,8 +106,6 @@ impl Placing {
     {
         is_near(self.left)
             && (is_near(self.top)
-                && (is_width(self.width)
-                    && (is_sized(self.view)
-                        && has_box(framed, self.view))))
+                && (is_width(self.width) && (is_sized(self.view) && has_box(framed, self.view))))
     }
 }

@@ -35,15 +35,35 @@ impl Model for TextRecord {
     ghost Value = { Record };
 
     ghost view = { λ r. record {
-        text = r.text; ascent = r.ascent; height = r.height; left = r.left; top = r.top; view = r.view;
-        justification = r.justification; start = r.start; end = r.end;
-        framed = r.framed; shown = r.shown; active = r.active; caret = r.caret
+      text = r.text;
+      ascent = r.ascent;
+      height = r.height;
+      left = r.left;
+      top = r.top;
+      view = r.view;
+      justification = r.justification;
+      start = r.start;
+      end = r.end;
+      framed = r.framed;
+      shown = r.shown;
+      active = r.active;
+      caret = r.caret;
     } };
 
     ghost invariant = { λ r. IsRecord (record {
-        text = r.text; ascent = r.ascent; height = r.height; left = r.left; top = r.top; view = r.view;
-        justification = r.justification; start = r.start; end = r.end;
-        framed = r.framed; shown = r.shown; active = r.active; caret = r.caret
+      text = r.text;
+      ascent = r.ascent;
+      height = r.height;
+      left = r.left;
+      top = r.top;
+      view = r.view;
+      justification = r.justification;
+      start = r.start;
+      end = r.end;
+      framed = r.framed;
+      shown = r.shown;
+      active = r.active;
+      caret = r.caret;
     }) };
 }
 
