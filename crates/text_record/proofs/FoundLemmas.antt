@@ -1,15 +1,13 @@
 -- The offset at the place of an offset is that offset.
 use Rattle.std.specs.Prelude.{slice_range, nat_lt, int_le}
-use Rattle.std.specs.List.{list_all}
-use Rattle.std.proofs.Common.{◌≡◌, ℕ, zero, suc, ◌+◌, ◌-◌, ◌<◌, ◌≤◌, Bool, true, false, cond, ◌&&◌, List, [], ◌∷◌, length, take, drop, ℤ, pos, ◌+ℤ◌, ◌-ℤ◌, ◌≤ℤ◌, refl, sym, ap, ◌∙◌, arith, length-drop, add-one, inl, inr}
+use Rattle.std.proofs.Common.{◌≡◌, ℕ, zero, suc, ◌+◌, ◌-◌, ◌<◌, ◌≤◌, Bool, true, false, cond, List, [], ◌∷◌, length, take, drop, ℤ, pos, ◌+ℤ◌, ◌-ℤ◌, refl, sym, ap, ◌∙◌, arith, length-drop}
 use Rattle.std.proofs.lemmas.Bool.{and_parts, ltb-true, ltb-false}
 use Rattle.std.proofs.lemmas.Bool.Decides.{nat_tests}
 use Rattle.std.proofs.lemmas.Int.{ints}
-use Rattle.text_lines.specs.declared.line.TextLine.{TextLine}
 use Rattle.text_lines.specs.Widths.{byte_width, bytes_width}
-use Rattle.text_lines.specs.Lines.{line_at, line_of, LiesOn}
+use Rattle.text_lines.specs.Lines.{line_at, LiesOn}
 use Rattle.text_lines.proofs.FollowLemmas.{lies_found, lines_follow}
-use Rattle.text_record.specs.Texts.{Record, Lined, lines_of, room_of}
+use Rattle.text_record.specs.Texts.{Record, lines_of, room_of}
 use Rattle.text_record.specs.Places.{have_widths, passed_bytes, line_in, row_of, pen_of, column_of, last_offset, offset_on}
 use Rattle.text_record.proofs.PlaceLemmas.{row_lies}
 

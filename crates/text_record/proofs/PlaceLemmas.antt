@@ -1,13 +1,13 @@
 -- Where lines lie.
 use Rattle.std.specs.Prelude.{slice_range}
-use Rattle.std.proofs.Common.{◌≡◌, ℕ, ◌+◌, ◌-◌, ◌*◌, ◌<◌, ◌≤◌, List, length, ℤ, pos, negsuc, ◌+ℤ◌, ◌-ℤ◌, ◌≤ℤ◌, refl, sym, ap, ◌∙◌, arith, mul-le-mul, le_trans}
+use Rattle.std.proofs.Common.{◌≡◌, ℕ, ◌+◌, ◌*◌, ◌<◌, ◌≤◌, List, length, ℤ, pos, ◌+ℤ◌, ◌-ℤ◌, ap, ◌∙◌, mul-le-mul}
 use Rattle.text_lines.specs.declared.line.TextLine.{TextLine}
 use Rattle.text_lines.specs.Lines.{line_at, line_of, LiesOn}
 use Rattle.text_lines.proofs.FollowLemmas.{line_bounds, lines_few, lines_follow, found_lies}
 use Rattle.text_record.specs.Texts.{Lined, lines_of, room_of, Record}
 use Rattle.text_record.specs.declared.placing.Justification.{Justification}
 use Rattle.text_lines.specs.Widths.{bytes_width}
-use Rattle.text_record.specs.Places.{line_top, spare_of, pen_of, indent, line_in, row_of, column_of, last_offset, offset_on, passed_bytes}
+use Rattle.text_record.specs.Places.{spare_of, pen_of, indent, line_in, row_of, column_of, last_offset, offset_on, passed_bytes}
 
 pub some_line : (t : Lined) → 1 ≤ length (lines_of t)
 some_line t = (lines_follow t.widths (room_of t.wrap t.width) t.bytes).some

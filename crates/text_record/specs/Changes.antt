@@ -1,9 +1,10 @@
 -- What changes make of a record.
-use Rattle.std.specs.Prelude.{ℕ, ◌+◌, ◌-◌, Bool, true, List, length, nat_lt, if◌then◌else◌, ℤ}
+use Rattle.std.specs.Prelude.{ℕ, ◌+◌, ◌-◌, Bool, true, List, length, nat_lt, if◌then◌else◌, ◌&&◌, ℤ, ◌+ℤ◌}
 use Rattle.tb_geom.specs.declared.refusal.Refusal.{Refusal}
 use Rattle.tb_geom.specs.declared.refusal.Refusal.TheVariants.{NoMemory, TooLong}
 use Rattle.text_record.specs.declared.placing.Justification.{Justification}
 use Rattle.text_record.specs.declared.placing.Placing.{Placing}
+use Rattle.text_record.specs.Placings.{is_near}
 use Rattle.text_record.specs.Texts.{put_lined, Record}
 
 -- with other bytes in the place of those from one offset up to another: the selection is the point behind them, and the
@@ -42,3 +43,11 @@ shown_as shown r = record r { shown = shown }
 -- with another destination and view
 abbrev pub placed : Placing → Record → Record
 placed p r = record r { text = record r.text { width = p.width }; left = p.left; top = p.top; view = p.view }
+
+-- whether the destination may move so
+abbrev pub may_scroll : ℤ → ℤ → Record → Bool
+may_scroll dh dv r = is_near (r.left +ℤ dh) && is_near (r.top +ℤ dv)
+
+-- with the destination moved
+abbrev pub scrolled : ℤ → ℤ → Record → Record
+scrolled dh dv r = record r { left = r.left +ℤ dh; top = r.top +ℤ dv }

@@ -1,5 +1,5 @@
 -- Where the lines and the bytes of a text lie.
-use Rattle.std.specs.Prelude.{ℕ, suc, ◌+◌, ◌-◌, ◌*◌, ◌/◌, ◌<◌, min, Bool, not, ◌==◌, if◌then◌else◌, List, [], ◌∷◌, length, take, drop, slice_range, slice_index_or, nat_lt, nat_le, nat_abs, ℤ, pos, ◌+ℤ◌, ◌-ℤ◌, int_le, int_lt}
+use Rattle.std.specs.Prelude.{ℕ, ◌+◌, ◌-◌, ◌*◌, ◌/◌, min, Bool, if◌then◌else◌, List, [], ◌∷◌, length, take, drop, slice_range, slice_index_or, nat_lt, nat_abs, ℤ, pos, ◌+ℤ◌, ◌-ℤ◌, int_le, int_lt}
 use Rattle.std.specs.Int.{int_div_euclid}
 use Rattle.std.specs.List.{list_all, prefix_len, suffix_len}
 use Rattle.tb_geom.specs.declared.point.Point.{Point}

@@ -1,5 +1,5 @@
 -- A text record.
-use Rattle.std.specs.Prelude.{◌≡◌, ℕ, ◌+◌, ◌-◌, ◌≤◌, Bool, true, false, if◌then◌else◌, List, [], ◌++◌, take, drop, length, Option, Some, None, ℤ}
+use Rattle.std.specs.Prelude.{ℕ, ◌-◌, ◌≤◌, Bool, true, false, if◌then◌else◌, List, [], ◌++◌, take, drop, length, Option, Some, None, ℤ}
 use Rattle.tb_geom.specs.declared.rect.Rect.{Rect}
 use Rattle.text_lines.specs.declared.line.TextLine.{TextLine}
 use Rattle.text_lines.specs.Lines.{text_lines}

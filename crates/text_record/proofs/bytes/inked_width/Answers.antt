@@ -1,4 +1,4 @@
-use Rattle.std.proofs.Common.{◌≡◌, ◌∙◌, rules, sym, arith}
+use Rattle.std.proofs.Common.{◌∙◌, sym, arith}
 use Rattle.std.proofs.lemmas.List.{at_drop_all}
 use Rattle.text_record.proofs.WidthLemmas.{inked_walk, walk_is}
 use Rattle.text_record.proofs.bytes.inked_width.Goals as goal

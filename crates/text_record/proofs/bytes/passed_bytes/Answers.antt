@@ -1,4 +1,4 @@
-use Rattle.std.proofs.Common.{◌≡◌, ◌∙◌, rules, sym, arith, SFits, w64, to_z, ◌+ℤ◌, ◌-ℤ◌, ◌≤ℤ◌, ℤ, pos}
+use Rattle.std.proofs.Common.{rules, arith, SFits, w64, to_z, ◌+ℤ◌, ◌-ℤ◌, ◌≤ℤ◌, ℤ, pos}
 use Rattle.std.proofs.lemmas.Int.{ints, to_z-of_z}
 use Rattle.text_record.proofs.PassLemmas.{passes}
 use Rattle.text_record.proofs.bytes.passed_bytes.Goals as goal

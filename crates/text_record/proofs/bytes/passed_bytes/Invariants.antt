@@ -1,4 +1,4 @@
-use Rattle.std.proofs.Common.{◌≡◌, ◌≤◌, ◌+◌, ◌*◌, drop, pos, ◌+ℤ◌, ◌-ℤ◌, ◌≤ℤ◌}
+use Rattle.std.proofs.Common.{◌≡◌, ◌+◌, ◌*◌, drop, pos, ◌-ℤ◌, ◌≤ℤ◌}
 use Rattle.text_record.specs.Places.{passed_bytes}
 use Rattle.text_record.proofs.bytes.passed_bytes.Given as goal
 

@@ -1,4 +1,4 @@
-use Rattle.std.proofs.Common.{ap, ◌∙◌, sym, rules, arith, take, ◌++◌, ◌≡◌, true, cond, ◌-◌}
+use Rattle.std.proofs.Common.{rules, arith, ◌++◌, ◌≡◌}
 use Rattle.text_record.proofs.ByteLemmas.{put_in}
 use Rattle.text_record.proofs.lined.put_bytes.Goals as goal
 

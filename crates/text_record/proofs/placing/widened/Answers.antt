@@ -1,4 +1,4 @@
-use Rattle.std.proofs.Common.{arith, rules, pos, ◌+ℤ◌, ◌-ℤ◌, SFits, w32}
+use Rattle.std.proofs.Common.{arith, rules, SFits, w32}
 use Rattle.std.proofs.lemmas.Int.{ints}
 use Rattle.tb_geom.proofs.RectLemmas.{same_rect}
 use Rattle.text_record.proofs.placing.widened.Goals as goal

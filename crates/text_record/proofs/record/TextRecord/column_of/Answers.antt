@@ -1,4 +1,4 @@
-use Rattle.std.proofs.Common.{◌≡◌, ◌∙◌, ap, arith, rules, SFits, w32, to_z, pos, ◌+ℤ◌, ℤ, ℕ}
+use Rattle.std.proofs.Common.{◌≡◌, ◌∙◌, ap, arith, rules, SFits, w32, to_z, pos, ◌+ℤ◌, ℕ}
 use Rattle.std.proofs.lemmas.Int.{ints, to_z-of_z}
 use Rattle.text_lines.specs.declared.line.TextLine.{TextLine}
 use Rattle.text_record.specs.Texts.{Record, Lined}

@@ -1,7 +1,6 @@
-use Rattle.std.proofs.Common.{ap, arith, ◌<◌, ◌+◌, ◌≡◌, length}
+use Rattle.std.proofs.Common.{ap, arith, ◌<◌, ◌+◌, length}
 use Rattle.text_lines.specs.declared.line.TextLine.{TextLine}
 use Rattle.text_record.specs.Texts.{lines_of}
-use Rattle.text_record.specs.Places.{line_in}
 use Rattle.text_record.proofs.PlaceLemmas.{line_filled}
 use Rattle.text_record.proofs.record.TextRecord.last_offset.Goals as goal
 

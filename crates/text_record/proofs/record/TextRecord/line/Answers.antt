@@ -1,6 +1,3 @@
-use Rattle.std.proofs.Common.{subst, sym, List, ◌≤◌, length}
-use Rattle.text_lines.specs.declared.line.TextLine.{TextLine}
-use Rattle.text_lines.specs.Lines.{line_at}
 use Rattle.text_record.proofs.PlaceLemmas.{line_rises, line_in_text}
 use Rattle.text_record.proofs.record.TextRecord.line.Goals as goal
 

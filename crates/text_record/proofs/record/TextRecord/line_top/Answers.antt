@@ -1,6 +1,6 @@
-use Rattle.std.proofs.Common.{◌≡◌, ◌≤◌, ◌*◌, ap, arith, rules, SFits, w32, pos, ◌+ℤ◌, ℤ, length, ℕ, ◌∙◌}
+use Rattle.std.proofs.Common.{◌*◌, ap, arith, rules, SFits, w32, pos, ◌+ℤ◌, length, ◌∙◌}
 use Rattle.std.proofs.lemmas.Int.{ints, to_z-of_z}
-use Rattle.text_record.specs.Texts.{Record, lines_of}
+use Rattle.text_record.specs.Texts.{Record}
 use Rattle.text_record.proofs.PlaceLemmas.{few_lines}
 use Rattle.text_record.proofs.record.TextRecord.line_top.Goals as goal
 

@@ -1,4 +1,4 @@
-use Rattle.std.proofs.Common.{◌≡◌, ◌∙◌, ap, arith, rules, SFits, w32, w64, pos, ◌+ℤ◌, ◌-ℤ◌, ℤ, ℕ}
+use Rattle.std.proofs.Common.{◌∙◌, ap, arith, rules, SFits, w32, w64, ◌-ℤ◌}
 use Rattle.std.proofs.lemmas.Int.{ints, to_z-of_z}
 use Rattle.text_record.specs.Texts.{Record, Lined}
 use Rattle.std.specs.Prelude.{slice_range}

@@ -1,4 +1,4 @@
-use Rattle.std.proofs.Common.{◌≡◌, ap, arith, rules, SFits, w32, pos, ◌+ℤ◌, ℤ}
+use Rattle.std.proofs.Common.{ap, arith, rules, SFits, w32, pos, ◌+ℤ◌}
 use Rattle.std.proofs.lemmas.Int.{ints, to_z-of_z}
 use Rattle.text_record.specs.Texts.{Record}
 use Rattle.text_record.proofs.PlaceLemmas.{pen_is}

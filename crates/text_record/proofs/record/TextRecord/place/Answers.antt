@@ -1,4 +1,4 @@
-use Rattle.std.proofs.Common.{◌≡◌, true, ◌≤◌, ap, sym, arith, rules, length, SFits, w32, subst, ℕ}
+use Rattle.std.proofs.Common.{◌≡◌, true, ap, sym, arith, rules, length, SFits, w32, subst, ℕ}
 use Rattle.std.proofs.lemmas.Int.{to_z-of_z}
 use Rattle.text_record.specs.Placings.{is_placing, IsPlacing}
 use Rattle.text_record.specs.Texts.{Lined}
