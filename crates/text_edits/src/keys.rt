@@ -9,9 +9,13 @@ use text_record::TextRecord;
 
 /// The keys that put no byte.
 const BACKSPACE: u8 = 8;
+
 const LEFT: u8 = 28;
+
 const RIGHT: u8 = 29;
+
 const UP: u8 = 30;
+
 const DOWN: u8 = 31;
 
 /// Takes the selected bytes out, or where the selection is a point the byte before it.
@@ -32,7 +36,11 @@ fn left_of(record: &TextRecord) -> usize
     ensures within { result ≤ length record.now.text.bytes }
 {
     let (start, end) = record.selection();
-    if start == end { start.saturating_sub(1) } else { start }
+    if start == end {
+        start.saturating_sub(1)
+    } else {
+        start
+    }
 }
 
 /// The offset to which the right arrow goes.
@@ -41,7 +49,11 @@ fn right_of(record: &TextRecord) -> usize
     ensures within { result ≤ length record.now.text.bytes }
 {
     let (start, end) = record.selection();
-    if start == end { (end + 1).min(record.bytes().len()) } else { end }
+    if start == end {
+        (end + 1).min(record.bytes().len())
+    } else {
+        end
+    }
 }
 
 /// The offset to which the up arrow goes.
