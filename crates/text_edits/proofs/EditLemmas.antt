@@ -65,5 +65,5 @@ key_taken_back r key e p t =
     let back : (r.start + 1) - 1 ≡ r.start = omega arith in
     let none : (r.start + 1) - 1 + 0 ≡ r.start = omega arith in
     let bytes : put_bytes ((r.start + 1) - 1) (r.start + 1) [] (put_bytes r.start r.end (key ∷ []) r.text.bytes) ≡ r.text.bytes =
-        (λ i. put_bytes (back i) (r.start + 1) [] (put_bytes r.start (sym e i) (key ∷ []) r.text.bytes)) ∙ byte_gone r.text.bytes r.start key (omega arith) in
+    (λ i. put_bytes (back i) (r.start + 1) [] (put_bytes r.start (sym e i) (key ∷ []) r.text.bytes)) ∙ byte_gone r.text.bytes r.start key (omega arith) in
     first ∙ rw same (λ i. record r { text = record r.text { bytes = bytes i }; start = none i; end = none i; caret = true })
