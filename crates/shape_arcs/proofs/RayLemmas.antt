@@ -92,7 +92,7 @@ to_right d x x' y (inr (level, right)) l h = both h
     both (inl m) = inl (as_far (d.h *ℤ y) (d.v *ℤ x) (d.v *ℤ x') (none x) (none x') m)
     both (inr (e, m)) = inr (
       as_level (d.h *ℤ y) (d.v *ℤ x) (d.v *ℤ x') (none x) (none x') e,
-      ahead (d.h *ℤ x) (d.h *ℤ x') (d.v *ℤ y) (d.h *ℤ (x' -ℤ x)) (times_less d.h x' x) (above_above d.h (x' -ℤ x) right (omega (arith, ints))) m
+      ahead (d.h *ℤ x) (d.h *ℤ x') (d.v *ℤ y) (d.h *ℤ (x' -ℤ x)) (times_less d.h x' x) (above_above d.h (x' -ℤ x) right (omega (arith, ints))) m,
     )
 
 abbrev pub straight_up : Point
@@ -163,8 +163,8 @@ sight r p = by_test (stretched r p)
 further_right : (low high k h h' : ℤ) → pos 0 <ℤ k → h <ℤ h' → (past_middle low high h *ℤ k) <ℤ (past_middle low high h' *ℤ k)
 further_right low high k h h' l m =
     moved (past_middle low high h *ℤ k) (past_middle low high h' *ℤ k) (k *ℤ past_middle low high h) (k *ℤ past_middle low high h')
-        (k *ℤ (past_middle low high h' -ℤ past_middle low high h)) (*ℤ_comm _ k) (*ℤ_comm _ k)
-        (times_less k (past_middle low high h') (past_middle low high h)) (above_above k (past_middle low high h' -ℤ past_middle low high h) l (omega (arith, ints)))
+    (k *ℤ (past_middle low high h' -ℤ past_middle low high h)) (*ℤ_comm _ k) (*ℤ_comm _ k)
+    (times_less k (past_middle low high h') (past_middle low high h)) (above_above k (past_middle low high h' -ℤ past_middle low high h) l (omega (arith, ints)))
   where
     moved : (m n a b e : ℤ) → m ≡ a → n ≡ b → e ≡ b -ℤ a → pos 0 <ℤ e → m <ℤ n
     moved m n a b e f g i l = omega (arith, ints)
@@ -209,9 +209,9 @@ stays r d h h' v up some l e =
 -- what lies on one line with a direction lies to one side
 no_dot : (d p : Point) → (d.h ≡ pos 0 → ⊥) ⊎ (d.v ≡ pos 0 → ⊥) → (IsMiddle p → ⊥) → cross d p ≡ pos 0 → dot d p ≡ pos 0 → ⊥
 no_dot d p some there c z = there (
-    squares_none d.h d.v p.h some (ap (λ t. d.h *ℤ t) back ∙ times_neg_right d.h (d.v *ℤ p.v) ∙ ap neg_ℤ (times_swap d.h d.v p.v ∙ ap (λ t. d.v *ℤ t) across)),
-    squares_none d.h d.v p.v some (ap (λ t. d.h *ℤ t) across ∙ times_swap d.h d.v p.h ∙ ap (λ t. d.v *ℤ t) back ∙ times_neg_right d.v (d.v *ℤ p.v))
-  )
+  squares_none d.h d.v p.h some (ap (λ t. d.h *ℤ t) back ∙ times_neg_right d.h (d.v *ℤ p.v) ∙ ap neg_ℤ (times_swap d.h d.v p.v ∙ ap (λ t. d.v *ℤ t) across)),
+  squares_none d.h d.v p.v some (ap (λ t. d.h *ℤ t) across ∙ times_swap d.h d.v p.h ∙ ap (λ t. d.v *ℤ t) back ∙ times_neg_right d.v (d.v *ℤ p.v)),
+)
   where
     same : (m n : ℤ) → m -ℤ n ≡ pos 0 → m ≡ n
     same m n e = omega (arith, ints)
@@ -355,8 +355,8 @@ column_of r v i e top bottom l =
     let bottom_high = s.bottom_high in
     let few : count_to r.left r.right < 32768 = few_columns r.left r.right left_low right_high in
     let below : (r.left +ℤ pos i) <ℤ r.right = by_lt_z r.left r.right
-        (λ less. let is : pos (count_to r.left r.right) ≡ r.right -ℤ r.left = count-is r.left r.right (omega (arith, ints)) in omega (arith, ints))
-        (λ from. let none = count-none r.left r.right from in absurd (omega (arith, none))) in
+    (λ less. let is : pos (count_to r.left r.right) ≡ r.right -ℤ r.left = count-is r.left r.right (omega (arith, ints)) in omega (arith, ints))
+    (λ from. let none = count-none r.left r.right from in absurd (omega (arith, none))) in
     record {
       few = omega arith;
       fits = sum_near r.left i left_low left_high (omega arith);

@@ -37,4 +37,4 @@ returns c =
     let told = simp to_z-of_z at c.first_from-2.ensures in
     let back = subst (λ o. IsTurn c.args.rect o c.args.v c.first_from-2.result true) (sym (is_opposite c.direction-direction.result) ∙ ap opposite value) told in
     simp to_z-of_z (subst (IsTurn c.args.rect (direction c.args.degree) c.args.v c.first_from-2.result) (sym c.if-rises.false)
-        (turn_back c.args.rect (direction c.args.degree) c.args.v c.first_from-2.result (direction_somewhere c.args.degree) back))
+    (turn_back c.args.rect (direction c.args.degree) c.args.v c.first_from-2.result (direction_somewhere c.args.degree) back))

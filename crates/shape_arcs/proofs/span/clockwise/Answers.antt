@@ -15,7 +15,7 @@ returns-then-angle-lt0 c =
     let back : SFits w32 (pos 0 -ℤ c.from-angle.result) = search (arith, ints) in
     let test = rw angle at (simp to_z-of_z at c.if-angle-lt0.true) in
     simp to_z-of_z (goes_back c.args.start c.args.angle (c.from-start.result +ℤ c.from-angle.result) (pos 0 -ℤ c.from-angle.result) test
-        (λ i. start i +ℤ angle i) (minus c.from-angle.result ∙ ap neg_ℤ angle))
+    (λ i. start i +ℤ angle i) (minus c.from-angle.result ∙ ap neg_ℤ angle))
   where
     minus : (z : ℤ) → pos 0 -ℤ z ≡ neg_ℤ z
     minus z = omega (arith, ints)
