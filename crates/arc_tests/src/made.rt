@@ -74,7 +74,8 @@ fn is_framed(alloc: Global, arc: SlowArc, pen: Pen) -> Result<bool, Refusal> {
     Ok(is_region_of(alloc, &region, &frame, sides)? && say(bytes.as_slice(), &frame, sides)?)
 }
 
-/// The wedges that are tried: narrow and broad ones, none and all, back and on, from the sides, the corners and between.
+/// The wedges that are tried: narrow and broad ones, none and all, back and on, from the sides, the corners and
+/// between.
 const WEDGES: [(i16, i16); 14] = [
     (0, 0),
     (0, 90),
