@@ -5,4 +5,3 @@ pub mod Rays
 pub mod Wedges
 pub mod Sights
 pub mod Halves
-pub mod Circles

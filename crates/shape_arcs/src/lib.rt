@@ -30,7 +30,6 @@ mod arc;
 mod directions;
 mod frame;
 mod half;
-pub mod laws;
 mod ray;
 mod sector;
 mod sight;
