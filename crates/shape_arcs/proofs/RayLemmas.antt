@@ -139,7 +139,7 @@ before_up d x (inr (level, right)) l (inr (e, m)) = behind (d.h *ℤ x) (d.v *�
 
 -- ---- pixels of a row
 
-abbrev IsMiddle : Point → Type 0
+abbrev pub IsMiddle : Point → Type 0
 IsMiddle o = (o.h ≡ pos 0) × (o.v ≡ pos 0)
 
 -- where a pixel is seen, by where it lies
@@ -260,7 +260,7 @@ by_signs c z n = elim (sign c) [
       ]
     ]
 
-not_middle : (r : Rect) (p : Point) → IsMiddle (seen r p) → ⊥
+pub not_middle : (r : Rect) (p : Point) → IsMiddle (seen r p) → ⊥
 not_middle r p m = elim (sight r p) [
   | inl s ↦ minus (sym (ap (λ q. q.v) s.1) ∙ m.1)
   | inr s ↦ s.0 (subst IsMiddle s.1 m)

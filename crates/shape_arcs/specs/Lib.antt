@@ -1,5 +1,5 @@
--- What the contracts speak of: directions by degrees, the pixels that are seen from a degree on, wedges and arcs, and what is
--- computed on the way.
+-- What the contracts speak of: directions by degrees, the pixels that are seen from a degree on, wedges and arcs, and
+-- what is computed on the way.
 pub mod Directions
 pub mod Rays
 pub mod Wedges
