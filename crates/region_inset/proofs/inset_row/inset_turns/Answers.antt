@@ -1,5 +1,5 @@
 use Rattle.std.proofs.Common.{rules, SFits, w32}
-use Rattle.std.proofs.lemmas.Int.{ints, to_z-of_z}
+use Rattle.std.proofs.lemmas.Int.{to_z-of_z}
 use Rattle.tb_geom.specs.Pixels.{holds}
 use Rattle.region_inset.proofs.InsetLemmas.{inset_steady}
 use Rattle.region_inset.proofs.NearLemmas.{window_around}

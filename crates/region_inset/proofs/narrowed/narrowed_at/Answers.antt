@@ -1,4 +1,4 @@
-use Rattle.std.proofs.Common.{◌≡◌, ℤ, pos, ◌+ℤ◌, ◌-ℤ◌, ◌≤ℤ◌, rules, arith, SFits, w32}
+use Rattle.std.proofs.Common.{ℤ, ◌-ℤ◌, rules, arith, SFits, w32}
 use Rattle.std.proofs.lemmas.Int.{ints, to_z-of_z}
 use Rattle.pixel_rows.specs.Columns.{has_column}
 use Rattle.region_inset.proofs.NearLemmas.{reach_within, run_narrowed, window_around}

@@ -1,7 +1,6 @@
-use Rattle.std.proofs.Common.{◌≡◌, true, false, ℤ, pos, negsuc, refl, sym, ap, ◌∙◌, rules, SFits, w32}
+use Rattle.std.proofs.Common.{pos, negsuc, refl, sym, ◌∙◌, rules, SFits, w32}
 use Rattle.std.proofs.lemmas.Bool.{false≢true}
-use Rattle.std.proofs.lemmas.Int.{ints, to_z-of_z}
-use Rattle.tb_geom.specs.declared.point.Point.{Point}
+use Rattle.std.proofs.lemmas.Int.{to_z-of_z}
 use Rattle.tb_geom.specs.Pixels.{holds}
 use Rattle.shape_strips.proofs.RangeLemmas.{sides_in}
 use Rattle.region_inset.proofs.RangeLemmas.{across_by_box, across_by_columns, not_so, so_not}
