@@ -1,6 +1,5 @@
 //! Insets and frames pixel by pixel, as the definition says them.
 
-use shape_strips::Pen;
 use tb_geom::Point;
 use test_pixels::pixels::{Pixels, mark};
 
@@ -12,11 +11,11 @@ pub struct SlowInset<P> {
     pub dv: i16,
 }
 
-/// The frame of a set.
+/// The frame of a set, drawn by a pen of so many columns and rows.
 #[derive(Clone, Copy)]
 pub struct SlowFrame<P> {
     pub set: P,
-    pub pen: Pen,
+    pub pen: (u8, u8),
 }
 
 /// What pixels are asked of: whether all of them are in a set, and whether one is.
@@ -75,7 +74,7 @@ impl<P: Pixels> Pixels for SlowInset<P> {
 
 impl<P: Pixels> Pixels for SlowFrame<P> {
     fn byte(&self, point: Point) -> u8 {
-        let (width, height) = (self.pen.width as i16, self.pen.height as i16);
+        let (width, height) = (i16::from(self.pen.0), i16::from(self.pen.1));
         if width == 0 || height == 0 {
             return mark(false);
         }

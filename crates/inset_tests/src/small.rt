@@ -1,4 +1,7 @@
 //! Insets and frames against the slow program.
+ghost use Rattle.tb_geom.specs.Pixels.{holds};
+ghost use Rattle.region_bytes.specs.Bytes.{IsWord};
+ghost use Rattle.region_inset.specs.Insets.{inset, LiesInRange};
 
 use crate::sets::{FIELD, Mixed, SETS, SIDES, Told, set_of};
 use crate::slow::{SlowFrame, SlowInset};
@@ -6,8 +9,9 @@ use region_bytes::RegionBytes;
 use region_inset::{
     FrameRegion, Inset, can_inset, frame_of_region, frame_region_bytes, inset_bytes, pixel_region,
 };
+use scan_region::Region;
 use shape_strips::Pen;
-use std::alloc::Global;
+use std::alloc::{AllocError, Global};
 use std::test::Fail;
 use tb_geom::{Rect, Refusal};
 use test_pixels::pixels::{Pixels, are_alike, is_region_of, region_of};
@@ -34,33 +38,17 @@ const DISTANCES: [(i16, i16); 11] = [
     (1, -3),
 ];
 
-/// Pens with a size, and without.
-const PENS: [Pen; 6] = [
-    Pen {
-        width: 1,
-        height: 1,
-    },
-    Pen {
-        width: 1,
-        height: 2,
-    },
-    Pen {
-        width: 2,
-        height: 1,
-    },
-    Pen {
-        width: 3,
-        height: 3,
-    },
-    Pen {
-        width: 0,
-        height: 1,
-    },
-    Pen {
-        width: 2,
-        height: 0,
-    },
-];
+/// Pens with a size, and without, by their columns and rows.
+const PENS: [(u8, u8); 6] = [(1, 1), (1, 2), (2, 1), (3, 3), (0, 1), (2, 0)];
+
+/// The region of the inset of a region.
+fn inset_of(alloc: Global, region: &RegionBytes<'_>, dh: i32, dv: i32) -> Result<Region, AllocError>
+    requires across { IsWord dh }
+    requires down { IsWord dv }
+    requires in_range { LiesInRange (inset (holds region.now) dh dv) }
+{
+    pixel_region(alloc, &Inset { region, dh, dv })
+}
 
 /// Whether the inset of a region has the pixels that the slow program gives, as bytes and as a region.
 fn is_inset<P: Pixels + Copy>(
@@ -77,7 +65,7 @@ fn is_inset<P: Pixels + Copy>(
     }
     let bytes = inset_bytes(alloc, region, dh, dv)?;
     let told = Told(RegionBytes::read(bytes.as_slice())?);
-    let made = pixel_region(alloc, &Inset { region, dh, dv })?;
+    let made = inset_of(alloc, region, dh, dv)?;
     Ok(are_alike(&told, &slow, sides) && is_region_of(alloc, &made, &slow, sides)?)
 }
 
@@ -119,10 +107,17 @@ fn is_framed<P: Pixels + Copy>(
     alloc: Global,
     region: &RegionBytes<'_>,
     set: &P,
-    pen: Pen,
+    size: (u8, u8),
     sides: Rect,
 ) -> Result<bool, Refusal> {
-    let slow = SlowFrame { set: *set, pen };
+    let slow = SlowFrame {
+        set: *set,
+        pen: size,
+    };
+    let pen = Pen {
+        width: u16::from(size.0),
+        height: u16::from(size.1),
+    };
     let bytes = frame_region_bytes(alloc, region, pen)?;
     let told = Told(RegionBytes::read(bytes.as_slice())?);
     let frame = frame_of_region(alloc, region, pen)?;

@@ -11,8 +11,8 @@ unfoldable pub some_within : ℕ → (ℤ → Bool) → ℤ → Bool
 some_within zero test x = test x
 some_within (suc n) test x = some_within n test x || (test (x -ℤ pos (suc n)) || test (x +ℤ pos (suc n)))
 
--- a test that is narrowed by d: whether it holds at all numbers within d of x. By a negative d it is widened: whether it
--- holds at one number within -d of x
+-- a test that is narrowed by d: whether it holds at all numbers within d of x. By a negative d it is widened: whether
+-- it holds at one number within -d of x
 unfoldable pub narrowed : ℤ → (ℤ → Bool) → ℤ → Bool
 narrowed (pos n) test x = all_within n test x
 narrowed (negsuc n) test x = some_within (suc n) test x

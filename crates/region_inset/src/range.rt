@@ -128,7 +128,8 @@ fn meets_row(region: &RegionBytes<'_>, dh: i32, dv: i32, v: i32) -> bool
 
 /// Whether a row has a column within the bounds.
 fn has_any(columns: &Columns, bounds: Rect) -> bool
-    ensures { IsTrue result ↔ ((h : ℤ) × (between bounds.left h bounds.right ≡ true) × (has_column columns.now h ≡ true)) }
+    ensures { IsTrue result
+        ↔ ((h : ℤ) × (between bounds.left h bounds.right ≡ true) × (has_column columns.now h ≡ true)) }
 {
     for h in bounds.left..bounds.right {
         if columns.has(h) {

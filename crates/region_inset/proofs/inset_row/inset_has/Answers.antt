@@ -6,7 +6,8 @@ use Rattle.pixel_rows.specs.Combined.{means}
 use Rattle.region_inset.specs.Insets.{inset_columns}
 use Rattle.region_inset.specs.Near.{narrowed}
 use Rattle.region_inset.proofs.InsetLemmas.{meant_joined, pixel_joined}
-use Rattle.region_inset.proofs.NearLemmas.{IsJoined, joined_first, joined_more, joined_steady, window_around}
+use Rattle.region_inset.proofs.NearLemmas.{IsJoined, joined_first, joined_more, joined_steady}
+use Rattle.region_inset.proofs.ReachLemmas.{window_around}
 use Rattle.region_inset.proofs.inset_row.inset_has.Goals.{then-turns_at, else-turns_at}
 use Rattle.region_inset.proofs.inset_row.inset_has.Goals as goal
 

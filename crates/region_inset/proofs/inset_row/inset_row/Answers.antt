@@ -5,7 +5,7 @@ use Rattle.tb_geom.proofs.Steps.{fits_next}
 use Rattle.pixel_rows.specs.Columns.{has_column}
 use Rattle.pixel_rows.specs.Combined.{means}
 use Rattle.region_inset.proofs.InsetLemmas.{AreJoined, all_joined, first_joined, joined_beside, one_joined, row_narrowed, steady_joined}
-use Rattle.region_inset.proofs.NearLemmas.{window_around}
+use Rattle.region_inset.proofs.ReachLemmas.{window_around}
 use Rattle.region_inset.proofs.inset_row.inset_row.Goals.{then-turns_at, else-turns_at}
 use Rattle.region_inset.proofs.inset_row.inset_row.Goals as goal
 

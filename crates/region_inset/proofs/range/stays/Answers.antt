@@ -2,7 +2,7 @@ use Rattle.std.proofs.Common.{◌≡◌, ◌&&◌, true, ℤ, pos, negsuc, ◌+�
 use Rattle.std.specs.Prelude.{int_le}
 use Rattle.std.proofs.lemmas.Int.{to_z-of_z}
 use Rattle.region_inset.specs.Near.{widening}
-use Rattle.region_inset.proofs.NearLemmas.{ends_of}
+use Rattle.region_inset.proofs.ReachLemmas.{ends_of}
 use Rattle.region_inset.proofs.range.stays.Goals as goal
 
 pub returns-then-first-widening-ge-FIRST_SIDE : goal.returns-then-first-widening-ge-FIRST_SIDE
