@@ -1,10 +1,10 @@
 -- What two directions have on their side, one between them has.
-use Rattle.std.proofs.Common.{◌≡◌, ◌⊎◌, Bool, true, false, ℤ, pos, neg_ℤ, ◌+ℤ◌, ◌-ℤ◌, ◌*ℤ◌, ◌≤ℤ◌, ◌<ℤ◌, refl, sym, ap, ◌∙◌, inl, inr, arith}
+use Rattle.std.proofs.Common.{◌≡◌, ℤ, pos, ◌+ℤ◌, ◌-ℤ◌, ◌*ℤ◌, ◌≤ℤ◌, ◌<ℤ◌, sym, ap, ◌∙◌, inl, inr, arith}
 use Rattle.std.proofs.lemmas.Int.{ints}
 use Rattle.std.proofs.Math.IntN.{*ℤ_comm}
 use Rattle.tb_geom.specs.declared.point.Point.{Point}
 use Rattle.shape_strips.proofs.Products.{times_less, times_natural}
-use Rattle.shape_arcs.specs.Rays.{cross, dot}
+use Rattle.shape_arcs.specs.Rays.{cross}
 use Rattle.shape_arcs.proofs.ProductLemmas.{above_above, above_below, sign, times_assoc, times_swap}
 use Rattle.shape_arcs.proofs.RayLemmas.{Holds, IsMiddle}
 

@@ -1,5 +1,5 @@
 -- The order of directions around the circle.
-use Rattle.std.proofs.Common.{◌≡◌, ◌⊎◌, ◌&&◌, ℕ, zero, suc, ◌+◌, ◌-◌, ◌*◌, ◌/◌, ◌%◌, ◌≤◌, ◌<◌, Bool, true, false, List, [], ◌∷◌, get_or, length, ℤ, pos, negsuc, neg_ℤ, ◌+ℤ◌, ◌-ℤ◌, ◌*ℤ◌, ◌≤ℤ◌, ◌<ℤ◌, refl, sym, ap, subst, ◌∙◌, inl, inr, arith, unsigned_abs, lit<}
+use Rattle.std.proofs.Common.{◌≡◌, ◌&&◌, ℕ, zero, suc, ◌+◌, ◌-◌, ◌*◌, ◌/◌, ◌%◌, ◌≤◌, ◌<◌, Bool, true, List, [], ◌∷◌, get_or, length, ℤ, pos, negsuc, neg_ℤ, ◌+ℤ◌, ◌-ℤ◌, ◌*ℤ◌, ◌≤ℤ◌, ◌<ℤ◌, refl, sym, ap, subst, ◌∙◌, inl, inr, arith, unsigned_abs, lit<}
 use Rattle.std.specs.Prelude.{nat_lt}
 use Rattle.std.specs.Int.{int_rem_euclid}
 use Rattle.std.proofs.lemmas.Bool.{and_parts, cases_lt}
@@ -8,8 +8,8 @@ use Rattle.std.proofs.lemmas.Nat.{mul-le}
 use Rattle.std.proofs.Math.IntN.{*ℤ_comm, pos-*ℤ-pos}
 use Rattle.tb_geom.specs.declared.point.Point.{Point}
 use Rattle.shape_strips.proofs.Products.{times_natural, times_neg}
-use Rattle.shape_arcs.specs.Directions.{direction, first_quarter, on_circle, quarter_turn, quarters, tangent, tangents}
-use Rattle.shape_arcs.specs.Rays.{cross, dot}
+use Rattle.shape_arcs.specs.Directions.{direction, first_quarter, quarter_turn, quarters, tangent, tangents}
+use Rattle.shape_arcs.specs.Rays.{cross}
 use Rattle.shape_arcs.specs.Sights.{opposite}
 use Rattle.shape_arcs.proofs.DirectionLemmas.{high_direction, low_direction, tangent_near}
 use Rattle.shape_arcs.proofs.ProductLemmas.{below_below, times_neg_right}
