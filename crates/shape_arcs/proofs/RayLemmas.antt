@@ -4,12 +4,12 @@ use Rattle.std.specs.Prelude.{int_le, int_lt, nat_le}
 use Rattle.std.specs.Ordering.{int_eq}
 use Rattle.std.proofs.lemmas.Bool.{and_parts, or_cases, cases_Bool, cases_lt, false_from_ne_true, le-leb, lt-leb}
 use Rattle.std.proofs.lemmas.Int.{ints, by_lt_z}
-use Rattle.std.proofs.Math.IntN.{*ℤ_comm, *ℤ-one, *ℤ-zero, zero-*ℤ, *ℤ-negsuc}
+use Rattle.std.proofs.Math.IntN.{*ℤ_comm, *ℤ-zero, zero-*ℤ, *ℤ-negsuc}
 use Rattle.tb_geom.specs.declared.point.Point.{Point}
 use Rattle.tb_geom.specs.declared.rect.Rect.{Rect}
 use Rattle.region_rows.specs.Counts.{count_to}
 use Rattle.region_rows.proofs.Counts.{count-is, count-none}
-use Rattle.tb_geom.specs.Rects.{in_plane, is_coordinate, is_in_range}
+use Rattle.tb_geom.specs.Rects.{in_plane, is_in_range}
 use Rattle.shape_strips.proofs.RangeLemmas.{coordinate_from, sides_in}
 use Rattle.shape_strips.proofs.Products.{times_less, times_neg}
 use Rattle.shape_arcs.specs.Rays.{cross, dot, is_from, is_origin, past_middle, seen, stretched}

@@ -5,3 +5,4 @@ pub mod Rays
 pub mod Wedges
 pub mod Sights
 pub mod Halves
+pub mod Circles

@@ -30,6 +30,7 @@ mod arc;
 mod directions;
 mod frame;
 mod half;
+pub mod laws;
 mod ray;
 mod sector;
 mod sight;
