@@ -2,6 +2,7 @@
 
 use std::alloc::Global;
 use tb_geom::{Rect, Refusal};
+use text_edits::{key, select, set_text};
 use text_lines::ByteWidths;
 use text_record::{Justification, Metrics, Placing, TextRecord};
 
@@ -55,4 +56,32 @@ pub(crate) fn line_is(record: &TextRecord, number: usize, start: u16, end: u16) 
 /// Whether the bytes are these.
 pub(crate) fn same(bytes: &[u8], these: &[u8]) -> bool {
     bytes == these
+}
+
+/// Whether the text is this.
+pub(crate) fn reads(record: &TextRecord, these: &[u8]) -> bool {
+    record.bytes() == these
+}
+
+/// Whether this is selected.
+pub(crate) fn selects(record: &TextRecord, start: usize, end: usize) -> bool {
+    record.selection() == (start, end)
+}
+
+/// Writes a text in the place of all.
+pub(crate) fn write(record: &mut TextRecord, text: &[u8]) -> Result<(), Refusal> {
+    set_text(record, text)
+}
+
+/// Types keys, one after another.
+pub(crate) fn press(record: &mut TextRecord, codes: &[u8]) -> Result<(), Refusal> {
+    for code in codes {
+        key(record, *code)?;
+    }
+    Ok(())
+}
+
+/// Selects bytes.
+pub(crate) fn mark(record: &mut TextRecord, start: i32, end: i32) -> Result<(), Refusal> {
+    select(record, start, end)
 }

@@ -1,6 +1,6 @@
 //! Selecting with the mouse.
 
-use crate::made::{record, standing};
+use crate::made::{record, standing, write};
 use std::test::Fail;
 use tb_geom::Point;
 use text_edits::{Anchor, ClickMode, click_anchor, extend, extended, is_clicked};
@@ -24,23 +24,44 @@ fn held(
     (99999, 99999)
 }
 
+/// What stays selected after a click at a point.
+fn clicked(record: &TextRecord, h: i32, v: i32, mode: ClickMode) -> Anchor {
+    click_anchor(record, Point { h, v }, mode)
+}
+
+/// Whether a click at a point selects.
+fn hits(record: &TextRecord, h: i32, v: i32) -> bool {
+    is_clicked(record, Point { h, v })
+}
+
 #[test]
 fn a_held_mouse_selects(rt: HostRuntime) -> Result<(), Fail> {
     let mut text = record(rt.alloc(), standing(), Justification::Left, true)?;
-    text.put(0, 0, b"The quick brown fox")?;
-    assert!(rt;
-        !is_clicked(&text, Point { h: 3, v: 8 }) && is_clicked(&text, Point { h: 32, v: 8 })
-    );
-    let point = click_anchor(&text, Point { h: 32, v: 8 }, ClickMode::Points);
+    write(&mut text, b"The quick brown fox")?;
+    let point = clicked(&text, 32, 8, ClickMode::Points);
     assert!(rt; held(&mut text, point, ClickMode::Points, 32, 8) == (5, 5));
     assert!(rt; held(&mut text, point, ClickMode::Points, 60, 8) == (5, 9));
     assert!(rt; held(&mut text, point, ClickMode::Points, 5, 20) == (5, 10));
-    let shift = click_anchor(&text, Point { h: 5, v: 4 }, ClickMode::Extends);
+    let shift = clicked(&text, 5, 4, ClickMode::Extends);
     assert!(rt; held(&mut text, shift, ClickMode::Extends, 5, 4) == (0, 10));
-    let words = click_anchor(&text, Point { h: 40, v: 8 }, ClickMode::Words);
+    Ok(())
+}
+
+#[test]
+fn a_double_click_selects_words(rt: HostRuntime) -> Result<(), Fail> {
+    let mut text = record(rt.alloc(), standing(), Justification::Left, true)?;
+    write(&mut text, b"The quick brown fox")?;
+    let words = clicked(&text, 40, 8, ClickMode::Words);
     assert!(rt; held(&mut text, words, ClickMode::Words, 40, 8) == (4, 9));
     assert!(rt; held(&mut text, words, ClickMode::Words, 5, 20) == (4, 15));
+    Ok(())
+}
+
+#[test]
+fn a_click_in_the_view_of_a_shown_record_selects(rt: HostRuntime) -> Result<(), Fail> {
+    let mut text = record(rt.alloc(), standing(), Justification::Left, true)?;
+    assert!(rt; !hits(&text, 3, 8) && hits(&text, 32, 8));
     text.show(false);
-    assert!(rt; !is_clicked(&text, Point { h: 32, v: 8 }));
+    assert!(rt; !hits(&text, 32, 8));
     Ok(())
 }

@@ -1,6 +1,6 @@
 //! Where lines and offsets lie.
 
-use crate::made::{line_is, record, standing};
+use crate::made::{line_is, record, selects, standing, write};
 use std::test::Fail;
 use tb_geom::{Point, Rect, Refusal};
 use text_record::{Justification, Placing, TextRecord};
@@ -9,6 +9,21 @@ use text_record::{Justification, Placing, TextRecord};
 fn lies_at(record: &TextRecord, offset: usize, h: i32, v: i32) -> bool {
     let place = record.place_of(offset);
     place.h == h && place.v == v
+}
+
+/// Places a text elsewhere.
+fn move_to(record: &mut TextRecord, placing: Placing) -> Result<(), Refusal> {
+    record.place(placing)
+}
+
+/// The offset at a point.
+fn at(record: &TextRecord, h: i32, v: i32) -> usize {
+    record.offset_at(Point { h, v })
+}
+
+/// Whether the word at an offset has the bytes from one offset up to another.
+fn word_is(record: &TextRecord, offset: usize, start: usize, end: usize) -> bool {
+    record.word_at(offset) == (start, end)
 }
 
 #[test]
@@ -38,8 +53,8 @@ fn a_new_record_is_judged(rt: HostRuntime) -> Result<(), Fail> {
 #[test]
 fn words_go_to_the_next_line(rt: HostRuntime) -> Result<(), Fail> {
     let mut text = record(rt.alloc(), standing(), Justification::Left, true)?;
-    text.put(0, 0, b"The quick brown fox")?;
-    assert!(rt; text.selection() == (19, 19) && text.line_count() == 2);
+    write(&mut text, b"The quick brown fox")?;
+    assert!(rt; selects(&text, 19, 19) && text.line_count() == 2);
     assert!(rt; line_is(&text, 0, 0, 10) && line_is(&text, 1, 10, 19));
     assert!(rt; lies_at(&text, 0, 5, 4) && lies_at(&text, 9, 59, 4));
     assert!(rt;
@@ -62,28 +77,28 @@ fn blanks_at_the_end_move_no_line(rt: HostRuntime) -> Result<(), Fail> {
         },
     };
     let mut text = record(rt.alloc(), placing, Justification::Middle, true)?;
-    text.put(0, 0, b"abc  ")?;
+    write(&mut text, b"abc  ")?;
     assert!(rt; lies_at(&text, 0, 42, 0) && lies_at(&text, 5, 72, 0));
     text.justify(Justification::Right);
     assert!(rt; lies_at(&text, 0, 83, 0) && lies_at(&text, 5, 113, 0));
-    assert!(rt; text.offset_at(Point { h: 0, v: 5 }) == 0);
-    assert!(rt; text.offset_at(Point { h: 90, v: 5 }) == 1);
+    assert!(rt; at(&text, 0, 5) == 0);
+    assert!(rt; at(&text, 90, 5) == 1);
     Ok(())
 }
 
 #[test]
 fn points_find_offsets_and_words(rt: HostRuntime) -> Result<(), Fail> {
     let mut text = record(rt.alloc(), standing(), Justification::Left, true)?;
-    text.put(0, 0, b"The quick brown fox")?;
+    write(&mut text, b"The quick brown fox")?;
     assert!(rt;
-        text.offset_at(Point { h: 32, v: 8 }) == 5 && text.offset_at(Point { h: 60, v: 8 }) == 9
+        at(&text, 32, 8) == 5 && at(&text, 60, 8) == 9
     );
     assert!(rt;
-        text.offset_at(Point { h: 5, v: 20 }) == 10 && text.offset_at(Point { h: -99, v: -99 }) == 0
+        at(&text, 5, 20) == 10 && at(&text, -99, -99) == 0
     );
-    assert!(rt; text.offset_at(Point { h: 999, v: 999 }) == 19);
+    assert!(rt; at(&text, 999, 999) == 19);
     assert!(rt;
-        text.word_at(6) == (4, 9) && text.word_at(3) == (0, 3) && text.word_at(99) == (16, 19)
+        word_is(&text, 6, 4, 9) && word_is(&text, 3, 0, 3) && word_is(&text, 99, 16, 19)
     );
     Ok(())
 }
@@ -91,24 +106,28 @@ fn points_find_offsets_and_words(rt: HostRuntime) -> Result<(), Fail> {
 #[test]
 fn another_width_breaks_anew(rt: HostRuntime) -> Result<(), Fail> {
     let mut text = record(rt.alloc(), standing(), Justification::Left, true)?;
-    text.put(0, 0, b"one two")?;
-    text.activate(true);
-    text.show(false);
-    text.blink(false);
-    text.choose(1, 2);
+    write(&mut text, b"one two")?;
     let narrow = Placing {
         width: 25,
         ..standing()
     };
-    text.place(narrow)?;
+    move_to(&mut text, narrow)?;
     assert!(rt; line_is(&text, 0, 0, 4) && line_is(&text, 1, 4, 7) && text.placing() == narrow);
-    assert!(rt;
-        text.is_active() && !text.is_shown() && text.has_caret() && text.selection() == (1, 2)
-    );
     let wide = Placing {
         width: 16384,
         ..standing()
     };
-    assert!(rt; text.place(wide).is_err() && text.placing() == narrow);
+    assert!(rt; move_to(&mut text, wide).is_err() && text.placing() == narrow);
+    Ok(())
+}
+
+#[test]
+fn flags_are_set(rt: HostRuntime) -> Result<(), Fail> {
+    let mut text = record(rt.alloc(), standing(), Justification::Left, true)?;
+    text.show(false);
+    text.blink(false);
+    assert!(rt; !text.is_shown() && !text.has_caret());
+    text.activate(true);
+    assert!(rt; text.is_active() && text.has_caret() && selects(&text, 0, 0));
     Ok(())
 }
