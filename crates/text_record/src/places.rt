@@ -1,5 +1,5 @@
 //! Where lines and bytes lie.
-ghost use Rattle.std.specs.Prelude.{◌≡◌, ◌≤◌, ◌<◌, ◌*◌, ◌≤ℤ◌, pos, negsuc, length};
+ghost use Rattle.std.specs.Prelude.{◌≡◌, ◌≤◌, ◌<◌, ◌*◌, ◌≤ℤ◌, ◌+ℤ◌, pos, negsuc, length};
 ghost use Rattle.text_lines.specs.Widths.{bytes_width};
 ghost use Rattle.text_record.specs.Texts.{lines_of};
 ghost use Rattle.text_record.specs.Places.{indent, drawn_bytes, inked_width, spare_of, pen_of, line_top, row_of, line_in, column_on, column_of, place_of, line_at_row, last_offset, offset_on, offset_at, word_start, word_end};
@@ -97,6 +97,14 @@ impl TextRecord {
     {
         let indent = indent(self.justification, self.spare(number));
         self.left + 1 + indent
+    }
+
+    /// The columns at which lines begin and end at most: 1 right of the left of the destination, and behind its last one.
+    pub fn edges(&self) -> (i32, i32)
+        ensures left { result.0 ≡ self.now.left +ℤ pos 1 }
+        ensures right { result.1 ≡ self.now.left +ℤ pos self.now.text.width }
+    {
+        (self.left + 1, self.left + i32::from(self.text.width()))
     }
 
     /// The top row of a line.
