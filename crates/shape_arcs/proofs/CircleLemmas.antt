@@ -83,21 +83,23 @@ turned_at f half = elim (search_turn f (f 0) 181) [
       let m : ℕ = found.0 in
       let few : found.0 < 181 = found.1 in
       let first = found.2 in
-      let some : 0 < found.0 = positive found.0 first in
-      (found.0, record {
-        some = some;
-        early = omega (arith, few);
-        low = first.before;
-        middle = λ n from to. elim (cases_lt 180 n) [
-          | inl past ↦
+      let some : 0 < found.0 = positive found.0 first in (
+        found.0,
+        record {
+          some = some;
+          early = omega (arith, few);
+          low = first.before;
+          middle = λ n from to. elim (cases_lt 180 n) [
+            | inl past ↦
+                let same : n ≡ (n - 180) + 180 = omega arith in
+                ap f same ∙ half.back (n - 180) ∙ ap not (first.before (n - 180) (omega arith))
+            | inr within ↦ half_on f (f 0) found.0 n half first refl some from within
+          ];
+          high = λ n from to.
               let same : n ≡ (n - 180) + 180 = omega arith in
-              ap f same ∙ half.back (n - 180) ∙ ap not (first.before (n - 180) (omega arith))
-          | inr within ↦ half_on f (f 0) found.0 n half first refl some from within
-        ];
-        high = λ n from to.
-            let same : n ≡ (n - 180) + 180 = omega arith in
-            ap f same ∙ half.back (n - 180) ∙ ap not (half_on f (f 0) found.0 (n - 180) half first refl some (omega arith) (omega arith)) ∙ not_not (f 0);
-      })
+              ap f same ∙ half.back (n - 180) ∙ ap not (half_on f (f 0) found.0 (n - 180) half first refl some (omega arith) (omega arith)) ∙ not_not (f 0);
+        },
+      )
 ]
   where
     positive : (m : ℕ) → IsFirstTurn f (f 0) m → 0 < m
@@ -117,27 +119,27 @@ near_same {y = y} e t s = (λ i. cond (e i) true (cond (t i) (s i && not y) (s i
     none true = refl
     none false = refl
 
-far_same : {e t x y : Bool} → t ≡ false → x ≡ y → wedge_of e t x y ≡ true
+far_same : (e : Bool) {t x y : Bool} → t ≡ false → x ≡ y → wedge_of e t x y ≡ true
 unfolding wedge_of
-far_same {e = e} {y = y} t s = (λ i. cond e true (cond (t i) (s i && not y) (s i || not y))) ∙ all e y
+far_same e {y = y} t s = (λ i. cond e true (cond (t i) (s i && not y) (s i || not y))) ∙ all e y
   where
     all : (e y : Bool) → cond e true (y || not y) ≡ true
     all true y = refl
     all false true = refl
     all false false = refl
 
-on_off : {e t x y : Bool} → x ≡ true → y ≡ false → wedge_of e t x y ≡ true
+on_off : (e t : Bool) {x y : Bool} → x ≡ true → y ≡ false → wedge_of e t x y ≡ true
 unfolding wedge_of
-on_off {e = e} {t = t} p q = (λ i. cond e true (cond t (p i && not (q i)) (p i || not (q i)))) ∙ all e t
+on_off e t p q = (λ i. cond e true (cond t (p i && not (q i)) (p i || not (q i)))) ∙ all e t
   where
     all : (e t : Bool) → cond e true (cond t true true) ≡ true
     all true t = refl
     all false true = refl
     all false false = refl
 
-off_on : {e t x y : Bool} → e ≡ false → x ≡ false → y ≡ true → wedge_of e t x y ≡ false
+off_on : (t : Bool) {e x y : Bool} → e ≡ false → x ≡ false → y ≡ true → wedge_of e t x y ≡ false
 unfolding wedge_of
-off_on {t = t} e p q = (λ i. cond (e i) true (cond t (p i && not (q i)) (p i || not (q i)))) ∙ none t
+off_on t e p q = (λ i. cond (e i) true (cond t (p i && not (q i)) (p i || not (q i)))) ∙ none t
   where
     none : (t : Bool) → cond t false false ≡ false
     none true = refl
@@ -151,10 +153,10 @@ left_from false m n = cond (nat_lt n (m + 180)) 1 0
 sum_up : {w v : Bool} {x y k l : ℕ} → w ≡ v → x ≡ k → y ≡ l → cond v 1 0 + k ≡ l → cond w 1 0 + x ≡ y
 sum_up p q r s = (λ i. cond (p i) 1 0 + q i) ∙ s ∙ sym r
 
-yes : (n m : ℕ) → n < m → cond (nat_lt n m) 1 0 ≡ 1
+yes : (n m : ℕ) → n < m → ◌≡◌ {A = ℕ} (cond (nat_lt n m) 1 0) 1
 yes n m l = ap (λ t. cond t 1 0) (lt-ltb n m l)
 
-no : (n m : ℕ) → m ≤ n → cond (nat_lt n m) 1 0 ≡ 0
+no : (n m : ℕ) → m ≤ n → ◌≡◌ {A = ℕ} (cond (nat_lt n m) 1 0) 0
 no n m l = ap (λ t. cond t 1 0) (le-ltb n m l)
 
 part : (n : ℕ) → n < 360 → int_le (pos 360) (pos n) ≡ false
@@ -176,14 +178,14 @@ one_wedge f true m a c t l most =
       | inl a_low ↦ elim (cases_lt c m) [
         | inl c_low ↦ sum_up (near_same (part (c - a) (omega arith)) (narrow (c - a) (omega arith)) (t.low a a_low ∙ sym (t.low c c_low))) (yes c m c_low) (yes a m a_low) refl
         | inr c_from ↦ elim (cases_lt c (m + 180)) [
-          | inl c_mid ↦ sum_up (on_off (t.low a a_low) (t.middle c c_from c_mid)) (no c m c_from) (yes a m a_low) refl
-          | inr c_high ↦ sum_up (far_same (broad (c - a) (omega arith)) (t.low a a_low ∙ sym (t.high c c_high most))) (no c m c_from) (yes a m a_low) refl
+          | inl c_mid ↦ sum_up (on_off _ _ (t.low a a_low) (t.middle c c_from c_mid)) (no c m c_from) (yes a m a_low) refl
+          | inr c_high ↦ sum_up (far_same _ (broad (c - a) (omega arith)) (t.low a a_low ∙ sym (t.high c c_high most))) (no c m c_from) (yes a m a_low) refl
         ]
       ]
       | inr a_from ↦ elim (cases_lt a (m + 180)) [
         | inl a_mid ↦ elim (cases_lt c (m + 180)) [
           | inl c_mid ↦ sum_up (near_same (part (c - a) (omega arith)) (narrow (c - a) (omega arith)) (t.middle a a_from a_mid ∙ sym (t.middle c (omega arith) c_mid))) (no c m (omega arith)) (no a m a_from) refl
-          | inr c_high ↦ sum_up (off_on (part (c - a) (omega arith)) (t.middle a a_from a_mid) (t.high c c_high most)) (no c m (omega arith)) (no a m a_from) refl
+          | inr c_high ↦ sum_up (off_on _ (part (c - a) (omega arith)) (t.middle a a_from a_mid) (t.high c c_high most)) (no c m (omega arith)) (no a m a_from) refl
         ]
         | inr a_high ↦ sum_up (near_same (part (c - a) (omega arith)) (narrow (c - a) (omega arith)) (t.high a a_high (omega arith) ∙ sym (t.high c (omega arith) most))) (no c m (omega arith)) (no a m a_from) refl
       ]
@@ -195,14 +197,14 @@ one_wedge f false m a c t l most =
       | inl a_low ↦ elim (cases_lt c m) [
         | inl c_low ↦ sum_up (near_same (part (c - a) (omega arith)) (narrow (c - a) (omega arith)) (t.low a a_low ∙ sym (t.low c c_low))) (yes c (m + 180) (omega arith)) (yes a (m + 180) (omega arith)) refl
         | inr c_from ↦ elim (cases_lt c (m + 180)) [
-          | inl c_mid ↦ sum_up (off_on (part (c - a) (omega arith)) (t.low a a_low) (t.middle c c_from c_mid)) (yes c (m + 180) c_mid) (yes a (m + 180) (omega arith)) refl
-          | inr c_high ↦ sum_up (far_same (broad (c - a) (omega arith)) (t.low a a_low ∙ sym (t.high c c_high most))) (no c (m + 180) c_high) (yes a (m + 180) (omega arith)) refl
+          | inl c_mid ↦ sum_up (off_on _ (part (c - a) (omega arith)) (t.low a a_low) (t.middle c c_from c_mid)) (yes c (m + 180) c_mid) (yes a (m + 180) (omega arith)) refl
+          | inr c_high ↦ sum_up (far_same _ (broad (c - a) (omega arith)) (t.low a a_low ∙ sym (t.high c c_high most))) (no c (m + 180) c_high) (yes a (m + 180) (omega arith)) refl
         ]
       ]
       | inr a_from ↦ elim (cases_lt a (m + 180)) [
         | inl a_mid ↦ elim (cases_lt c (m + 180)) [
           | inl c_mid ↦ sum_up (near_same (part (c - a) (omega arith)) (narrow (c - a) (omega arith)) (t.middle a a_from a_mid ∙ sym (t.middle c (omega arith) c_mid))) (yes c (m + 180) c_mid) (yes a (m + 180) a_mid) refl
-          | inr c_high ↦ sum_up (on_off (t.middle a a_from a_mid) (t.high c c_high most)) (no c (m + 180) c_high) (yes a (m + 180) a_mid) refl
+          | inr c_high ↦ sum_up (on_off _ _ (t.middle a a_from a_mid) (t.high c c_high most)) (no c (m + 180) c_high) (yes a (m + 180) a_mid) refl
         ]
         | inr a_high ↦ sum_up (near_same (part (c - a) (omega arith)) (narrow (c - a) (omega arith)) (t.high a a_high (omega arith) ∙ sym (t.high c (omega arith) most))) (no c (m + 180) (omega arith)) (no a (m + 180) a_high) refl
       ]
@@ -235,12 +237,12 @@ seen_half r z p = record {
   between = λ i j k l m o e f.
       ap (λ d. is_from d (seen r p)) (by_compass z j)
       ∙ held (compass (base z + j)) (seen r p) (between_holds (compass (base z + i)) (compass (base z + j)) (compass (base z + k)) (seen r p)
-          (compass_order (base z + i) (base z + j) (omega arith) (omega arith))
-          (compass_order (base z + j) (base z + k) (omega arith) (omega arith))
-          (compass_order (base z + i) (base z + k) (omega arith) (omega arith))
-          (not_middle r p)
-          (holds (compass (base z + i)) (seen r p) (sym (ap (λ d. is_from d (seen r p)) (by_compass z i)) ∙ e))
-          (holds (compass (base z + k)) (seen r p) (sym (ap (λ d. is_from d (seen r p)) (by_compass z k)) ∙ f)));
+      (compass_order (base z + i) (base z + j) (omega arith) (omega arith))
+      (compass_order (base z + j) (base z + k) (omega arith) (omega arith))
+      (compass_order (base z + i) (base z + k) (omega arith) (omega arith))
+      (not_middle r p)
+      (holds (compass (base z + i)) (seen r p) (sym (ap (λ d. is_from d (seen r p)) (by_compass z i)) ∙ e))
+      (holds (compass (base z + k)) (seen r p) (sym (ap (λ d. is_from d (seen r p)) (by_compass z k)) ∙ f)));
 }
 
 -- ---- all wedges

@@ -62,7 +62,7 @@ steep : (t u : ℕ) → t < u → pos 0 <ℤ ((pos 65536 *ℤ neg_ℤ (pos t)) -
 steep t u l = omega (arith, ints)
 
 corner : (t u : ℕ) → t ≤ 65536 → u < 65536 → pos 0 <ℤ ((pos t *ℤ neg_ℤ (pos u)) -ℤ (negsuc 65535 *ℤ pos 65536))
-corner t u l m = past (pos t *ℤ neg_ℤ (pos u)) (t * u) (times_neg_right (pos t) (pos u) ∙ ap neg_ℤ (pos-*ℤ-pos t u)) (mul-le t 65536 u 65535 l (omega arith))
+corner t u l m = past (pos t *ℤ neg_ℤ (pos u)) (t * u) (times_neg_right (pos t) (pos u) ∙ ap neg_ℤ (pos-*ℤ-pos t u)) (mul-le t u 65536 65535 l (omega arith))
   where
     past : (z : ℤ) (n : ℕ) → z ≡ neg_ℤ (pos n) → n ≤ 65536 * 65535 → pos 0 <ℤ (z -ℤ (negsuc 65535 *ℤ pos 65536))
     past z n e l = omega (arith, ints)
@@ -73,7 +73,7 @@ in_order i j l m = elim (cases_lt 45 i) [
       let e = high_direction i high in
       let f = high_direction j (omega arith) in
       subst (λ p. pos 0 <ℤ cross p (first_quarter j)) (sym e) (subst (λ p. pos 0 <ℤ cross (record { h = pos 65536; v = neg_ℤ (pos (tangent (90 - i))) }) p) (sym f)
-          (steep (tangent (90 - j)) (tangent (90 - i)) (tangent_above (90 - j) (90 - i) (omega arith) (omega arith))))
+      (steep (tangent (90 - j)) (tangent (90 - i)) (tangent_above (90 - j) (90 - i) (omega arith) (omega arith))))
   | inr low ↦
       let e = low_direction i i low refl in
       subst (λ p. pos 0 <ℤ cross p (first_quarter j)) (sym e) (elim (cases_lt 45 j) [
@@ -81,7 +81,7 @@ in_order i j l m = elim (cases_lt 45 i) [
             let most = tangent_above (90 - j) 45 (omega arith) (omega arith) in
             let near = tangent_near 45 (omega arith) in
             subst (λ p. pos 0 <ℤ cross (record { h = pos (tangent i); v = negsuc 65535 }) p) (sym (high_direction j high))
-                (corner (tangent i) (tangent (90 - j)) (tangent_near i low) (under (tangent (90 - j)) (tangent 45) most near))
+            (corner (tangent i) (tangent (90 - j)) (tangent_near i low) (under (tangent (90 - j)) (tangent 45) most near))
         | inr both ↦ subst (λ p. pos 0 <ℤ cross (record { h = pos (tangent i); v = negsuc 65535 }) p) (sym (low_direction j j both refl))
             (level (tangent i) (tangent j) (tangent_above i j l both))
       ])
@@ -174,18 +174,18 @@ near_turn i n l some few = elim (cases_lt (i + n) 90) [
       let quarter : (i + n) / 90 ≡ 0 = omega arith in
       let rest : (i + n) % 90 ≡ i + n = omega arith in
       subst (λ k. pos 0 <ℤ cross (first_quarter i) (quarters k (first_quarter ((i + n) % 90)))) (sym quarter)
-          (subst (λ k. pos 0 <ℤ cross (first_quarter i) (first_quarter k)) (sym rest) (in_order i (i + n) (omega arith) same))
+      (subst (λ k. pos 0 <ℤ cross (first_quarter i) (first_quarter k)) (sym rest) (in_order i (i + n) (omega arith) same))
   | inr past ↦ elim (cases_lt (i + n) 180) [
     | inl next ↦
         let quarter : (i + n) / 90 ≡ suc zero = omega arith in
         let less : (i + n) % 90 < 90 = omega arith in
         subst (λ k. pos 0 <ℤ cross (first_quarter i) (quarters k (first_quarter ((i + n) % 90)))) (sym quarter)
-            (across (first_quarter i) (first_quarter ((i + n) % 90)) (is_first i l) (is_first ((i + n) % 90) less))
+        (across (first_quarter i) (first_quarter ((i + n) % 90)) (is_first i l) (is_first ((i + n) % 90) less))
     | inr far ↦
         let quarter : (i + n) / 90 ≡ suc (suc zero) = omega arith in
         let less : (i + n) % 90 < i = omega arith in
         subst (λ k. pos 0 <ℤ cross (first_quarter i) (quarters k (first_quarter ((i + n) % 90)))) (sym quarter)
-            (back (first_quarter i) (first_quarter ((i + n) % 90)) (in_order ((i + n) % 90) i less l))
+        (back (first_quarter i) (first_quarter ((i + n) % 90)) (in_order ((i + n) % 90) i less l))
   ]
 ]
   where
@@ -209,7 +209,7 @@ compass_order m k l few =
     let i : ℕ = m % 90 in
     let n : ℕ = k - m in
     let parts : quarters (k / 90) (first_quarter (k % 90)) ≡ quarters (m / 90) (quarters ((m % 90 + (k - m)) / 90) (first_quarter ((m % 90 + (k - m)) % 90))) =
-        quarters_sum (m / 90) ((m % 90 + (k - m)) / 90) (k / 90) (first_quarter (k % 90)) quarter
-        ∙ ap (λ r. quarters (m / 90) (quarters ((m % 90 + (k - m)) / 90) (first_quarter r))) rest in
+    quarters_sum (m / 90) ((m % 90 + (k - m)) / 90) (k / 90) (first_quarter (k % 90)) quarter
+    ∙ ap (λ r. quarters (m / 90) (quarters ((m % 90 + (k - m)) / 90) (first_quarter r))) rest in
     subst (λ z. pos 0 <ℤ z) (sym (ap (cross (quarters (m / 90) (first_quarter (m % 90)))) parts ∙ cross_quarters (m / 90) (first_quarter (m % 90)) (quarters ((m % 90 + (k - m)) / 90) (first_quarter ((m % 90 + (k - m)) % 90)))))
-        (near_turn (m % 90) (k - m) (omega arith) (omega arith) (omega arith))
+    (near_turn (m % 90) (k - m) (omega arith) (omega arith) (omega arith))
