@@ -228,7 +228,7 @@ def words_are_completed(_):
         ("draw 1 foval 0 0 8 8 1 1 ", "notPatX", ["notPatXor "]),
         ("", "reg", ["region "]),
         ("region ", "", ["rect ", "round ", "oval ", "frect ", "fround ", "foval ", *MADE]),
-        ("region ", "fr", ["frect ", "fround "]),
+        ("region ", "fr", ["frect ", "fround ", "frgn "]),
         ("region ", "p", ["poly "]),
         ("region oval ", "", []),
         ("draw 1 fill 0 0 2 ", "p", []),
