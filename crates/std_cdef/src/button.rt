@@ -11,12 +11,12 @@ ghost use Rattle.std_cdef.specs.Controls.{button_damaged, button_part, button_se
 ghost use Rattle.std_cdef.specs.Told.{fresh_button};
 
 use crate::control::{ControlLook, StdControl};
-use crate::rects::{columns, is_control_size, middle};
+use crate::rects::{is_control_size, middle};
 use crate::titles::same_title;
 use control_values::{ControlPart, Highlight};
 use def_iface::{ControlDef, KeptControl, Size, Stage};
 use draw_port::Canvas;
-use looks::{Step, damage_between, draw_look};
+use looks::{Step, columns, damage_between, draw_look};
 use tb_geom::{Point, Rect};
 
 /// What a simple button looks like (pushButProc).
@@ -49,7 +49,7 @@ fn button_look(size: Size, highlight: Highlight) -> [Step; 4]
     let whole = size.rect();
     [
         Step::black_frame(whole),
-        Step::centred_text(whole, columns(size), middle(size)),
+        Step::centred_text(whole, columns(size.width), middle(size)),
         Step::inverted(whole).when(highlight.shows(ControlPart::Button)),
         Step::grayed(whole).when(highlight.is_inactive()),
     ]
@@ -76,6 +76,17 @@ fn button_damage(old: &KeptControl, new: &KeptControl, same_title: bool) -> Rect
     }
 }
 
+/// The part of a button that a point lies in: all of its rectangle is one.
+pub(crate) fn button_hit(kept: &KeptControl, point: Point) -> Option<ControlPart>
+    ensures { result ≡ button_part kept.now point }
+{
+    if kept.size.rect().contains(point) {
+        Some(ControlPart::Button)
+    } else {
+        None
+    }
+}
+
 impl ControlLook for ButtonLook {
     ghost seen = { λ _. button_seen };
 
@@ -90,11 +101,7 @@ impl ControlLook for ButtonLook {
     }
 
     fn hit(&self, kept: &KeptControl, point: Point) -> Option<ControlPart> {
-        if kept.size.rect().contains(point) {
-            Some(ControlPart::Button)
-        } else {
-            None
-        }
+        button_hit(kept, point)
     }
 
     fn thumb_value(&self, kept: &KeptControl, _from: Point, _to: Point) -> i16 {
