@@ -1,18 +1,17 @@
 -- Insets row by row, where they lie, and what decides whether they lie in range.
-use Rattle.std.proofs.Common.{◌≡◌, Bool, true, false, not, ◌&&◌, ◌||◌, ◌⊎◌, inl, inr, ℕ, zero, suc, ℤ, pos, negsuc, ◌+ℤ◌, ◌-ℤ◌, ◌≤ℤ◌, ◌<ℤ◌, refl, sym, ap, ◌∙◌, subst, arith}
-use Rattle.std.proofs.lemmas.Bool.{and_parts, and_left, and_right, cases_Bool, false≢true, true≢false}
-use Rattle.std.proofs.lemmas.Int.{ints, by_lt_z}
+use Rattle.std.proofs.Common.{◌≡◌, Bool, true, false, ◌&&◌, inl, inr, ℤ, pos, negsuc, ◌+ℤ◌, ◌-ℤ◌, ◌≤ℤ◌, ◌<ℤ◌, refl, sym, ap, ◌∙◌, subst, arith}
+use Rattle.std.proofs.lemmas.Bool.{and_left, and_right, cases_Bool, true≢false}
+use Rattle.std.proofs.lemmas.Int.{ints}
 use Rattle.tb_geom.specs.declared.point.Point.{Point}
 use Rattle.tb_geom.specs.declared.rect.Rect.{Rect}
 use Rattle.tb_geom.specs.Points.{PixelSet}
 use Rattle.tb_geom.specs.Rects.{between, rect_holds}
-use Rattle.tb_geom.proofs.RectLemmas.{between-in}
 use Rattle.pixel_rows.specs.declared.columns.Columns.{Columns}
 use Rattle.pixel_rows.specs.Columns.{has_column, IsSteady}
 use Rattle.pixel_rows.specs.Combined.{means}
 use Rattle.region_inset.specs.Near.{narrowed, narrows, reach, widening}
 use Rattle.region_inset.specs.Insets.{inset, inset_columns, joining}
-use Rattle.region_inset.proofs.NearLemmas.{IsJoined, joined, joined_first, joined_more, joined_steady, not_both, narrowed_from, narrowed_joined, narrowed_steady, narrowed_above, narrowed_below, narrowed_past, narrowed_before}
+use Rattle.region_inset.proofs.NearLemmas.{IsJoined, joined, joined_first, joined_more, joined_steady, narrowed_from, narrowed_joined, narrowed_steady, narrowed_above, narrowed_below, narrowed_past, narrowed_before}
 
 -- ---- tests that are alike, or that hold nowhere
 

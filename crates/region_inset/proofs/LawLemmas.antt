@@ -1,5 +1,5 @@
 -- What insets keep and gain, pixel by pixel.
-use Rattle.std.proofs.Common.{◌≡◌, ◌↔◌, true, ℕ, suc, ℤ, pos, negsuc}
+use Rattle.std.proofs.Common.{◌≡◌, ◌↔◌, true, ℕ, suc, pos, negsuc}
 use Rattle.tb_geom.specs.declared.point.Point.{Point}
 use Rattle.tb_geom.specs.Points.{PixelSet}
 use Rattle.region_inset.specs.Insets.{inset, inset_columns, IsNear}

@@ -1,10 +1,10 @@
 -- How far the columns of the inversion points between two rows are found.
 use Rattle.std.proofs.Common.{◌≡◌, ◌++◌, not, Bool, true, false, List, [], ◌∷◌, ℤ, pos, negsuc, ◌-ℤ◌, ◌+ℤ◌, ◌≤ℤ◌, ◌<ℤ◌, refl, sym, ap, ◌∙◌, subst, arith}
-use Rattle.std.proofs.lemmas.Bool.{false≢true, true≢false}
+use Rattle.std.proofs.lemmas.Bool.{false≢true}
 use Rattle.std.proofs.lemmas.Int.{ints, by_lt_z}
 use Rattle.tb_geom.specs.Rects.{between}
 use Rattle.region_bytes.proofs.Edges.{inside-nil, inside-push_after, inside-push_before, IsRow-nil}
-use Rattle.region_rows.specs.Edges.{differ, inside, IsClimb, IsCoordinate, IsRow}
+use Rattle.region_rows.specs.Edges.{differ, inside, IsCoordinate, IsRow}
 use Rattle.region_rows.specs.Rows.{EdgeRow, IsPushed}
 use Rattle.region_rows.proofs.Climbs.{climb_append, higher, inside_above, lower, row_of}
 use Rattle.shape_strips.proofs.RunLemmas.{between_before, between_past}

@@ -1,5 +1,6 @@
 -- Whether an inset lies in range: the columns and rows beside the range decide.
-use Rattle.std.proofs.Common.{◌≡◌, Bool, true, false, not, ◌&&◌, ◌⊎◌, inl, inr, ℤ, pos, negsuc, ◌+ℤ◌, ◌-ℤ◌, ◌≤ℤ◌, ◌<ℤ◌, refl, sym, ap, ◌∙◌, subst, arith}
+use Rattle.std.proofs.Common.{◌≡◌, Bool, true, false, not, ◌&&◌, inl, inr, ℤ, pos, negsuc, ◌+ℤ◌, ◌-ℤ◌, ◌≤ℤ◌, refl, sym, ap, ◌∙◌, subst, arith}
+use Rattle.std.specs.Prelude.{int_le}
 use Rattle.std.specs.Int.{int_min, int_max}
 use Rattle.std.proofs.lemmas.Bool.{and_parts, and_right, cases_Bool, false≢true}
 use Rattle.std.proofs.lemmas.Int.{ints, by_lt_z, clamps}
@@ -38,6 +39,15 @@ not_beyond s p l out e = false≢true (sym out ∙ l p e)
 -- nor is one of a row out of range
 pub not_level : (s : PixelSet) (p : Point) → LiesInRange s → between (negsuc 16383) p.v (pos 16383) ≡ false → s p ≡ true → ⊥
 not_level s p l out e = false≢true (sym out ∙ (and_parts (between (negsuc 16383) p.h (pos 16383)) (between (negsuc 16383) p.v (pos 16383)) (l p e)).1)
+
+-- two sides that stay in range where a set is widened
+pub ends_in : (first last d : ℤ) → (int_le (negsuc 16383) (first -ℤ widening d) && int_le (last +ℤ widening d) (pos 16383)) ≡ true → (negsuc 16383 ≤ℤ (first -ℤ widening d)) × ((last +ℤ widening d) ≤ℤ pos 16383)
+ends_in first last d e =
+    let both = and_parts (int_le (negsuc 16383) (first -ℤ widening d)) (int_le (last +ℤ widening d) (pos 16383)) e in
+    (from_test (negsuc 16383) (first -ℤ widening d) both.0, from_test (last +ℤ widening d) (pos 16383) both.1)
+  where
+    from_test : (a b : ℤ) → int_le a b ≡ true → a ≤ℤ b
+    from_test a b t = grind (arith, ints)
 
 -- what is asked by its opposite
 pub not_so : (b : Bool) → not b ≡ true → b ≡ false

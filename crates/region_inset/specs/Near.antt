@@ -1,5 +1,5 @@
 -- What is near a number: all numbers within a distance to either side.
-use Rattle.std.specs.Prelude.{◌≡◌, Bool, true, false, not, ◌&&◌, ◌||◌, ℕ, zero, suc, ℤ, pos, negsuc, neg_ℤ, ◌+ℤ◌, ◌-ℤ◌, ◌≤ℤ◌, ◌<ℤ◌}
+use Rattle.std.specs.Prelude.{◌≡◌, Bool, true, false, not, ◌&&◌, ◌||◌, ℕ, zero, suc, ℤ, pos, negsuc, ◌+ℤ◌, ◌-ℤ◌, ◌≤ℤ◌, ◌<ℤ◌}
 
 -- whether a test holds at x, and at each number up to n below and above x
 unfoldable pub all_within : ℕ → (ℤ → Bool) → ℤ → Bool
@@ -11,8 +11,8 @@ unfoldable pub some_within : ℕ → (ℤ → Bool) → ℤ → Bool
 some_within zero test x = test x
 some_within (suc n) test x = some_within n test x || (test (x -ℤ pos (suc n)) || test (x +ℤ pos (suc n)))
 
--- a test that is narrowed by d: whether it holds at all numbers within d of x. By a negative d it is widened: whether it
--- holds at one number within -d of x
+-- a test that is narrowed by d: whether it holds at all numbers within d of x. By a negative d it is widened: whether
+-- it holds at one number within -d of x
 unfoldable pub narrowed : ℤ → (ℤ → Bool) → ℤ → Bool
 narrowed (pos n) test x = all_within n test x
 narrowed (negsuc n) test x = some_within (suc n) test x

@@ -58,8 +58,8 @@ impl PixelRows for FrameRegion<'_, '_> {
 
 /// The bytes of the region of a region's frame (*Inside Macintosh* I, "QuickDraw": `FrameRgn`), written row by row,
 /// without a region. For each row in which some point comes within the pen's height, or goes out, all points of the
-/// region are gone through once for each row within that height. TooLong where the bytes would be more than 32766, also
-/// where memory is refused; else it refuses only for want of memory.
+/// region are gone through once for each row of its box within that height. TooLong where the bytes would be more than
+/// 32766, also where memory is refused; else it refuses only for want of memory.
 pub fn frame_region_bytes(
     alloc: Global,
     region: &RegionBytes<'_>,

@@ -40,11 +40,11 @@ impl PixelRows for Inset<'_, '_> {
 }
 
 /// The bytes of the region of a region's inset (*Inside Macintosh* I, "QuickDraw": `InsetRgn`), written row by row,
-/// without a region: by `dh` columns first, and then what that gives by `dv` rows. A pixel stays where all pixels within
-/// the distance, to the left and right, or above and below, are in the set; by a negative distance, where one is. For
-/// each row in which some point comes within the distance, or goes out, all points of the region are gone through once
-/// for each row within the distance. TooLong where the bytes would be more than 32766, also where memory is refused;
-/// else it refuses only for want of memory.
+/// without a region: by `dh` columns first, and then what that gives by `dv` rows. A pixel stays where all pixels
+/// within the distance, to the left and right, or above and below, are in the set; by a negative distance, where one
+/// is. For each row in which some point comes within the distance, or goes out, all points of the region are gone
+/// through once for each row of its box within the distance. TooLong where the bytes would be more than 32766, also
+/// where memory is refused; else it refuses only for want of memory.
 pub fn inset_bytes(
     alloc: Global,
     region: &RegionBytes<'_>,

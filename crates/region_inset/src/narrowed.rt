@@ -14,7 +14,8 @@ use tb_geom::Rect;
 pub fn narrowed_columns(columns: &Columns, d: i32, bounds: Rect) -> Columns
     requires distance { IsDistance d }
     requires in_range { is_in_range bounds ≡ true }
-    ensures { (h : ℤ) → has_column result h ≡ (between bounds.left h bounds.right && narrowed d (has_column columns.now) h) }
+    ensures { (h : ℤ) → has_column result h
+        ≡ (between bounds.left h bounds.right && narrowed d (has_column columns.now) h) }
 {
     let (reach, all) = (reach(d), narrows(d));
     let mut row = Columns::none();

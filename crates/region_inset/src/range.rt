@@ -1,5 +1,5 @@
 //! Whether the inset of a region lies in range.
-ghost use Rattle.std.specs.Prelude.{◌≡◌, ◌↔◌, true, false, ℤ, pos, negsuc, ◌+ℤ◌, ◌-ℤ◌, ◌≤ℤ◌, IsTrue};
+ghost use Rattle.std.specs.Prelude.{◌&&◌, int_le, ◌≡◌, ◌↔◌, true, false, ℤ, pos, negsuc, ◌+ℤ◌, ◌-ℤ◌, ◌≤ℤ◌, IsTrue};
 ghost use Rattle.tb_geom.specs.declared.point.Point.{Point};
 ghost use Rattle.tb_geom.specs.Pixels.{holds};
 ghost use Rattle.tb_geom.specs.Rects.{between, is_in_range, rect_holds};
@@ -69,13 +69,10 @@ fn stays(first: i32, last: i32, d: i32) -> bool
     requires first { IsCoordinate first }
     requires last { IsCoordinate last }
     requires distance { IsDistance d }
-    ensures { result ≡ true → (negsuc 16383 ≤ℤ (first -ℤ widening d)) × ((last +ℤ widening d) ≤ℤ pos 16383) }
+    ensures { result ≡ (int_le (negsuc 16383) (first -ℤ widening d) && int_le (last +ℤ widening d) (pos 16383)) }
 {
     let widening = widening(d);
-    if first - widening < FIRST_SIDE {
-        return false;
-    }
-    last + widening <= LAST_SIDE
+    FIRST_SIDE <= first - widening && last + widening <= LAST_SIDE
 }
 
 /// Whether an inset has a pixel of the column `h`, in the rows of the range and one on either side.
@@ -131,7 +128,8 @@ fn meets_row(region: &RegionBytes<'_>, dh: i32, dv: i32, v: i32) -> bool
 
 /// Whether a row has a column within the bounds.
 fn has_any(columns: &Columns, bounds: Rect) -> bool
-    ensures { IsTrue result ↔ ((h : ℤ) × (between bounds.left h bounds.right ≡ true) × (has_column columns.now h ≡ true)) }
+    ensures { IsTrue result
+        ↔ ((h : ℤ) × (between bounds.left h bounds.right ≡ true) × (has_column columns.now h ≡ true)) }
 {
     for h in bounds.left..bounds.right {
         if columns.has(h) {

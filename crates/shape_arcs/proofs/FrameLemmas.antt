@@ -1,11 +1,10 @@
 -- Frames of arcs.
-use Rattle.std.proofs.Common.{◌≡◌, ◌&&◌, ◌||◌, not, Bool, true, false, ℤ, ◌≤ℤ◌, refl, sym, ap, ◌∙◌, arith}
+use Rattle.std.proofs.Common.{◌≡◌, ◌&&◌, ◌||◌, not, Bool, true, false, ℤ, refl, arith}
 use Rattle.std.proofs.lemmas.Bool.{and_left}
 use Rattle.std.proofs.lemmas.Int.{ints}
 use Rattle.tb_geom.specs.declared.point.Point.{Point}
 use Rattle.tb_geom.specs.declared.rect.Rect.{Rect}
-use Rattle.tb_geom.specs.Rects.{is_in_range, rect_holds}
-use Rattle.region_rows.specs.Edges.{IsCoordinate}
+use Rattle.tb_geom.specs.Rects.{is_in_range}
 use Rattle.shape_strips.specs.declared.pen.Pen.{Pen}
 use Rattle.shape_strips.specs.Frames.{frame_holds, has_size, inside_holds}
 use Rattle.shape_strips.specs.Rounds.{oval_corner, oval_holds}

@@ -6,3 +6,6 @@ pub mod HalfLemmas
 pub mod SectorLemmas
 pub mod WedgeLemmas
 pub mod FrameLemmas
+pub mod OrderLemmas
+pub mod ConvexLemmas
+pub mod CircleLemmas

@@ -4,12 +4,12 @@ use Rattle.std.specs.Prelude.{int_le, int_lt, nat_le}
 use Rattle.std.specs.Ordering.{int_eq}
 use Rattle.std.proofs.lemmas.Bool.{and_parts, or_cases, cases_Bool, cases_lt, false_from_ne_true, le-leb, lt-leb}
 use Rattle.std.proofs.lemmas.Int.{ints, by_lt_z}
-use Rattle.std.proofs.Math.IntN.{*ℤ_comm, *ℤ-one, *ℤ-zero, zero-*ℤ, *ℤ-negsuc}
+use Rattle.std.proofs.Math.IntN.{*ℤ_comm, *ℤ-zero, zero-*ℤ, *ℤ-negsuc}
 use Rattle.tb_geom.specs.declared.point.Point.{Point}
 use Rattle.tb_geom.specs.declared.rect.Rect.{Rect}
 use Rattle.region_rows.specs.Counts.{count_to}
 use Rattle.region_rows.proofs.Counts.{count-is, count-none}
-use Rattle.tb_geom.specs.Rects.{in_plane, is_coordinate, is_in_range}
+use Rattle.tb_geom.specs.Rects.{in_plane, is_in_range}
 use Rattle.shape_strips.proofs.RangeLemmas.{coordinate_from, sides_in}
 use Rattle.shape_strips.proofs.Products.{times_less, times_neg}
 use Rattle.shape_arcs.specs.Rays.{cross, dot, is_from, is_origin, past_middle, seen, stretched}
@@ -139,7 +139,7 @@ before_up d x (inr (level, right)) l (inr (e, m)) = behind (d.h *ℤ x) (d.v *�
 
 -- ---- pixels of a row
 
-abbrev IsMiddle : Point → Type 0
+abbrev pub IsMiddle : Point → Type 0
 IsMiddle o = (o.h ≡ pos 0) × (o.v ≡ pos 0)
 
 -- where a pixel is seen, by where it lies
@@ -260,7 +260,7 @@ by_signs c z n = elim (sign c) [
       ]
     ]
 
-not_middle : (r : Rect) (p : Point) → IsMiddle (seen r p) → ⊥
+pub not_middle : (r : Rect) (p : Point) → IsMiddle (seen r p) → ⊥
 not_middle r p m = elim (sight r p) [
   | inl s ↦ minus (sym (ap (λ q. q.v) s.1) ∙ m.1)
   | inr s ↦ s.0 (subst IsMiddle s.1 m)

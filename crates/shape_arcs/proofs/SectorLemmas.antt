@@ -1,6 +1,6 @@
 -- Sectors of ovals.
-use Rattle.std.proofs.Common.{◌≡◌, ◌&&◌, not, Bool, true, false, ℤ, refl, sym, ap, ◌∙◌}
-use Rattle.std.proofs.lemmas.Bool.{and_left, cases_Bool}
+use Rattle.std.proofs.Common.{◌≡◌, ◌&&◌, not, Bool, true, false, ℤ, refl, sym, ◌∙◌}
+use Rattle.std.proofs.lemmas.Bool.{and_left}
 use Rattle.tb_geom.specs.declared.point.Point.{Point}
 use Rattle.tb_geom.specs.declared.rect.Rect.{Rect}
 use Rattle.tb_geom.specs.Rects.{rect_holds}

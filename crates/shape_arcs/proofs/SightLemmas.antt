@@ -1,17 +1,17 @@
 -- Where pixels are seen.
-use Rattle.std.proofs.Common.{◌≡◌, ◌⊎◌, ◌&&◌, ◌||◌, Bool, true, false, cond, ℕ, ◌*◌, ◌<◌, ◌≤◌, ℤ, pos, negsuc, neg_ℤ, ◌+ℤ◌, ◌-ℤ◌, ◌*ℤ◌, ◌≤ℤ◌, ◌<ℤ◌, refl, sym, ap, ◌∙◌, inl, inr, arith, unsigned_abs, SFits, w32, w64, lit<}
-use Rattle.std.specs.Prelude.{int_le, int_lt}
+use Rattle.std.proofs.Common.{◌≡◌, ◌⊎◌, ◌&&◌, ◌||◌, Bool, true, false, cond, ℕ, ◌≤◌, ℤ, pos, negsuc, ◌+ℤ◌, ◌-ℤ◌, ◌*ℤ◌, refl, sym, ap, ◌∙◌, inl, inr, arith, unsigned_abs, SFits, w32, w64, lit<}
+use Rattle.std.specs.Prelude.{int_lt}
 use Rattle.std.specs.Ordering.{int_eq}
-use Rattle.std.proofs.lemmas.Bool.{and_parts, and_left, and_right, cases_Bool}
+use Rattle.std.proofs.lemmas.Bool.{and_parts, and_left, and_right}
 use Rattle.std.proofs.lemmas.Int.{ints, fits_signed_mul}
 use Rattle.tb_geom.specs.declared.point.Point.{Point}
 use Rattle.tb_geom.specs.declared.rect.Rect.{Rect}
 use Rattle.tb_geom.specs.Rects.{in_plane, is_coordinate, is_in_range}
 use Rattle.region_rows.specs.Edges.{IsCoordinate}
 use Rattle.shape_strips.specs.Places.{IsWithin}
-use Rattle.shape_strips.proofs.Products.{from_abs, product_within, product_fits}
+use Rattle.shape_strips.proofs.Products.{product_within, product_fits}
 use Rattle.shape_strips.proofs.RangeLemmas.{coordinate_low, coordinate_high, sides_in}
-use Rattle.shape_arcs.specs.Rays.{cross, dot, is_from, is_origin, past_middle, seen, stretched}
+use Rattle.shape_arcs.specs.Rays.{cross, dot, is_from, is_origin, seen, stretched}
 use Rattle.shape_arcs.specs.Sights.{IsNear}
 
 -- ---- numbers

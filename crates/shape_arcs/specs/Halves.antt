@@ -11,7 +11,8 @@ use Rattle.shape_arcs.specs.Rays.{is_seen_from}
 abbrev pub half_holds : Rect → ℤ → Bool → PixelSet
 half_holds r degree from p = rect_holds r p && alike from (is_seen_from r degree p)
 
--- the pixels of the oval of a rectangle that are seen from one degree on and not from another one on, or the other way round
+-- the pixels of the oval of a rectangle that are seen from one degree on and not from another one on, or the other way
+-- round
 abbrev pub sector_holds : Rect → ℤ → ℤ → Bool → PixelSet
 sector_holds r start end narrow p =
     oval_holds r p && (alike narrow (is_seen_from r start p) && alike (not narrow) (is_seen_from r end p))

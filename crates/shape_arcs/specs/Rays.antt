@@ -25,8 +25,8 @@ is_origin p = int_eq p.h (pos 0) && int_eq p.v (pos 0)
 unfoldable pub seen : Rect → Point → Point
 seen r p = cond (is_origin (stretched r p)) (record { h = pos 0; v = negsuc 0 }) (stretched r p)
 
--- above 0 where the second point lies clockwise from the first one, by less than half a turn; 0 where both lie on one line
--- through 0 0
+-- above 0 where the second point lies clockwise from the first one, by less than half a turn; 0 where both lie on one
+-- line through 0 0
 abbrev pub cross : Point → Point → ℤ
 cross d p = (d.h *ℤ p.v) -ℤ (d.v *ℤ p.h)
 

@@ -14,9 +14,9 @@ use shape_strips::{Corner, RoundStrip, Run};
 use std::alloc::Global;
 use tb_geom::{Rect, Refusal};
 
-/// The part of an oval that lies in a wedge: from `start` on, over `angle` degrees clockwise, or back where `angle` is below
-/// 0. A degree is a 360th of a turn from the top, where the rectangle is stretched to a square (*Inside Macintosh* I,
-/// "QuickDraw": `PaintArc`). Where the wedge ends, its pixels do not belong to it.
+/// The part of an oval that lies in a wedge: from `start` on, over `angle` degrees clockwise, or back where `angle` is
+/// below 0. A degree is a 360th of a turn from the top, where the rectangle is stretched to a square (*Inside
+/// Macintosh* I, "QuickDraw": `PaintArc`). Where the wedge ends, its pixels do not belong to it.
 #[derive(Clone, Copy)]
 pub struct Arc {
     pub rect: Rect,
@@ -42,8 +42,8 @@ impl Arc {
         placed_run(&RoundStrip { rect, corner }, rect, v)
     }
 
-    /// The columns of the row `v` of the oval that lie in the wedge, or, where it is broader than half a turn, of those that
-    /// do not.
+    /// The columns of the row `v` of the oval that lie in the wedge, or, where it is broader than half a turn, of those
+    /// that do not.
     fn sector_run(&self, span: Span, v: i32) -> Run
         ensures placed { IsPlaced result }
         ensures pixels { let narrow = int_le span.angle (pos 180) in (h : ℤ) → run_holds result h
@@ -81,8 +81,8 @@ impl Rows for Arc {
     }
 }
 
-/// The region of an arc (*Inside Macintosh* I, "QuickDraw": `PaintArc`). OutOfRange exactly where a side of the rectangle lies
-/// outside -16384..=16383, also of an empty one; else it refuses only for want of memory.
+/// The region of an arc (*Inside Macintosh* I, "QuickDraw": `PaintArc`). OutOfRange exactly where a side of the
+/// rectangle lies outside -16384..=16383, also of an empty one; else it refuses only for want of memory.
 pub fn arc_region(alloc: Global, rect: Rect, start: i16, angle: i16) -> Result<Region, Refusal>
     ensures pixels { IfOk result (λ region. (p : Point) → holds region p ≡ arc_holds rect start angle p) }
     ensures out_of_range { is_in_range rect ≡ false → result ≡ Err Refusal.OutOfRange }
@@ -95,8 +95,8 @@ pub fn arc_region(alloc: Global, rect: Rect, start: i16, angle: i16) -> Result<R
     Ok(form_region(alloc, &arc)?)
 }
 
-/// The bytes of the region of an arc, written row by row, without the region. TooLong where they would be more than 32766,
-/// also where memory is refused; else it refuses only for want of memory.
+/// The bytes of the region of an arc, written row by row, without the region. TooLong where they would be more than
+/// 32766, also where memory is refused; else it refuses only for want of memory.
 pub fn arc_bytes(alloc: Global, rect: Rect, start: i16, angle: i16) -> Result<Vec<u8>, Refusal>
     requires { is_in_range rect ≡ true }
     ensures { MatchResult result (λ bytes. AreRegionBytes (arc_holds rect start angle) bytes.items)

@@ -16,8 +16,8 @@ use shape_strips::{Corner, Pen, Run};
 use std::alloc::{AllocError, Global};
 use tb_geom::{Rect, Refusal};
 
-/// The part of the frame of an oval that lies in a wedge, as that of an `Arc` (*Inside Macintosh* I, "QuickDraw": `FrameArc`).
-/// The frame lies within the rectangle. A pen without width or height draws nothing.
+/// The part of the frame of an oval that lies in a wedge, as that of an `Arc` (*Inside Macintosh* I, "QuickDraw":
+/// `FrameArc`). The frame lies within the rectangle. A pen without width or height draws nothing.
 #[derive(Clone, Copy)]
 pub struct FrameArc {
     pub rect: Rect,
@@ -141,7 +141,8 @@ pub fn frame_arc_region(
     Ok(frame.region(alloc)?)
 }
 
-/// The bytes of the region of the frame of an arc, written row by row, without the region. It refuses as `arc_bytes` does.
+/// The bytes of the region of the frame of an arc, written row by row, without the region. It refuses as `arc_bytes`
+/// does.
 pub fn frame_arc_bytes(
     alloc: Global,
     rect: Rect,

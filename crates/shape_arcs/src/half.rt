@@ -9,8 +9,8 @@ use crate::ray::turn_at;
 use shape_strips::{Run, Strip};
 use tb_geom::Rect;
 
-/// The columns of the row `v` of a rectangle whose pixels are seen from a degree on, or, where `from` is not set, of those
-/// that are not.
+/// The columns of the row `v` of a rectangle whose pixels are seen from a degree on, or, where `from` is not set, of
+/// those that are not.
 pub fn half_run(rect: Rect, degree: i32, v: i32, from: bool) -> Run
     requires { is_in_range rect ≡ true }
     ensures { (h : ℤ) → run_holds result h ≡ half_holds rect degree from (record { h = h; v = v }) }
@@ -31,8 +31,8 @@ pub fn half_run(rect: Rect, degree: i32, v: i32, from: bool) -> Run
     }
 }
 
-/// The pixels of a rectangle that are seen from its middle in the direction of a degree, or clockwise from there by less than
-/// half a turn. The degree may be any.
+/// The pixels of a rectangle that are seen from its middle in the direction of a degree, or clockwise from there by
+/// less than half a turn. The degree may be any.
 #[derive(Clone, Copy)]
 pub struct RayStrip {
     pub rect: Rect,

@@ -10,8 +10,8 @@ use crate::directions::direction;
 use crate::sight::{is_from, seen};
 use tb_geom::{Point, Rect};
 
-/// Where a row turns: from the column on its pixels are from a direction on and those left of it are not, or the other way
-/// round.
+/// Where a row turns: from the column on its pixels are from a direction on and those left of it are not, or the other
+/// way round.
 #[derive(Clone, Copy)]
 pub struct Turn {
     pub column: i32,
@@ -31,8 +31,8 @@ fn from_at(rect: Rect, direction: Point, v: i32, columns: u64) -> bool
     is_from(direction, seen(rect, Point { h, v }))
 }
 
-/// How many columns of the row `v` lie before a direction that points up. What is from it on stays so to the right, so that
-/// the first column that is from it on is found by halving.
+/// How many columns of the row `v` lie before a direction that points up. What is from it on stays so to the right, so
+/// that the first column that is from it on is found by halving.
 fn columns_before(rect: Rect, direction: Point, v: i32, columns: u64) -> u64
     requires in_range { is_in_range rect ≡ true }
     requires near { IsNear direction }

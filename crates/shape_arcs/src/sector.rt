@@ -7,8 +7,8 @@ use crate::half::half_run;
 use shape_strips::{Corner, RoundStrip, Run, Strip};
 use tb_geom::Rect;
 
-/// The pixels of the oval of a rectangle that are seen from the degree `start` on and not from the degree `end` on. Where
-/// `narrow` is not set, those that are not seen from `start` on, and are from `end` on.
+/// The pixels of the oval of a rectangle that are seen from the degree `start` on and not from the degree `end` on.
+/// Where `narrow` is not set, those that are not seen from `start` on, and are from `end` on.
 #[derive(Clone, Copy)]
 pub struct SectorStrip {
     pub rect: Rect,

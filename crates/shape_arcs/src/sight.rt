@@ -31,7 +31,8 @@ fn stretched(low: i32, high: i32, at: i32, first: i32, last: i32) -> i32
     past_middle(low, high, at) * (last - first)
 }
 
-/// Where a pixel is seen from the middle of a rectangle that is stretched to a square; the pixel in the middle, straight up.
+/// Where a pixel is seen from the middle of a rectangle that is stretched to a square; the pixel in the middle,
+/// straight up.
 pub fn seen(rect: Rect, pixel: Point) -> Point
     requires in_range { is_in_range rect ≡ true }
     requires pixel_in { in_plane pixel ≡ true }

@@ -1,14 +1,13 @@
-use Rattle.std.proofs.Common.{◌≡◌, Bool, ℤ, pos, ◌+ℤ◌, ◌-ℤ◌, ◌≤ℤ◌, ◌<ℤ◌, sym, ap, ◌∙◌, subst, rules, arith, SFits, w32, to_z}
+use Rattle.std.proofs.Common.{◌≡◌, Bool, ℤ, pos, ◌+ℤ◌, ◌-ℤ◌, ◌≤ℤ◌, ◌<ℤ◌, sym, ◌∙◌, subst, rules, arith, SFits, w32, to_z}
 use Rattle.std.proofs.lemmas.Int.{ints, to_z-of_z}
-use Rattle.tb_geom.specs.declared.point.Point.{Point}
 use Rattle.tb_geom.specs.Pixels.{holds}
 use Rattle.tb_geom.proofs.Steps.{fits_next}
-use Rattle.pixel_rows.specs.Columns.{has_column}
 use Rattle.pixel_rows.specs.Combined.{means}
-use Rattle.region_inset.specs.Insets.{inset_columns, joining}
+use Rattle.region_inset.specs.Insets.{inset_columns}
 use Rattle.region_inset.specs.Near.{narrowed}
 use Rattle.region_inset.proofs.InsetLemmas.{meant_joined, pixel_joined}
-use Rattle.region_inset.proofs.NearLemmas.{IsJoined, joined, joined_first, joined_more, joined_steady, window_around}
+use Rattle.region_inset.proofs.NearLemmas.{IsJoined, joined_first, joined_more, joined_steady}
+use Rattle.region_inset.proofs.ReachLemmas.{window_around}
 use Rattle.region_inset.proofs.inset_row.inset_has.Goals.{then-turns_at, else-turns_at}
 use Rattle.region_inset.proofs.inset_row.inset_has.Goals as goal
 

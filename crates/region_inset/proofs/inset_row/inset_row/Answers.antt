@@ -1,12 +1,11 @@
-use Rattle.std.proofs.Common.{◌≡◌, ◌&&◌, false, ℤ, pos, ◌+ℤ◌, ◌-ℤ◌, ◌≤ℤ◌, ◌<ℤ◌, sym, ap, ◌∙◌, subst, rules, arith, SFits, w32, to_z}
+use Rattle.std.proofs.Common.{◌≡◌, ℤ, pos, ◌+ℤ◌, ◌-ℤ◌, ◌≤ℤ◌, ◌<ℤ◌, sym, ap, ◌∙◌, subst, rules, arith, SFits, w32, to_z}
 use Rattle.std.proofs.lemmas.Int.{ints, to_z-of_z}
-use Rattle.tb_geom.specs.declared.point.Point.{Point}
 use Rattle.tb_geom.specs.Pixels.{holds}
 use Rattle.tb_geom.proofs.Steps.{fits_next}
 use Rattle.pixel_rows.specs.Columns.{has_column}
 use Rattle.pixel_rows.specs.Combined.{means}
 use Rattle.region_inset.proofs.InsetLemmas.{AreJoined, all_joined, first_joined, joined_beside, one_joined, row_narrowed, steady_joined}
-use Rattle.region_inset.proofs.NearLemmas.{next_fits, reach_within, window_around}
+use Rattle.region_inset.proofs.ReachLemmas.{window_around}
 use Rattle.region_inset.proofs.inset_row.inset_row.Goals.{then-turns_at, else-turns_at}
 use Rattle.region_inset.proofs.inset_row.inset_row.Goals as goal
 

@@ -1,4 +1,4 @@
-use Rattle.std.proofs.Common.{◌≡◌, true, false, ℤ, pos, ◌-ℤ◌, ◌+ℤ◌, ◌≤ℤ◌, ◌<ℤ◌}
+use Rattle.std.proofs.Common.{pos, ◌-ℤ◌, ◌+ℤ◌, ◌≤ℤ◌, ◌<ℤ◌}
 use Rattle.tb_geom.specs.Pixels.{holds}
 use Rattle.region_inset.proofs.InsetLemmas.{AreJoined}
 use Rattle.region_inset.proofs.inset_row.inset_row.Given as goal

@@ -1,8 +1,8 @@
 use Rattle.std.proofs.Common.{rules, SFits, w32}
-use Rattle.std.proofs.lemmas.Int.{ints, to_z-of_z}
+use Rattle.std.proofs.lemmas.Int.{to_z-of_z}
 use Rattle.tb_geom.specs.Pixels.{holds}
 use Rattle.region_inset.proofs.InsetLemmas.{inset_steady}
-use Rattle.region_inset.proofs.NearLemmas.{window_around}
+use Rattle.region_inset.proofs.ReachLemmas.{window_around}
 use Rattle.region_inset.proofs.inset_row.inset_turns.Goals as goal
 
 pub returns-else-turns_at : goal.returns-else-turns_at

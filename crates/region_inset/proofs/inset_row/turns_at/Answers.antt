@@ -1,4 +1,4 @@
-use Rattle.std.proofs.Common.{ℤ, ◌<ℤ◌, rules, SFits, w32}
+use Rattle.std.proofs.Common.{◌<ℤ◌, rules, SFits, w32}
 use Rattle.std.proofs.lemmas.Int.{ints, to_z-of_z}
 use Rattle.tb_geom.specs.Pixels.{holds}
 use Rattle.region_inset.proofs.InsetLemmas.{steady_above, steady_below}

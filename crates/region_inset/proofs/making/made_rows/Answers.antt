@@ -1,4 +1,4 @@
-use Rattle.std.proofs.Common.{[], ℤ, pos, ◌+ℤ◌, ◌≤ℤ◌, ◌<ℤ◌, ap, ◌∙◌, sym, subst, rules, arith, SFits, w32, to_z}
+use Rattle.std.proofs.Common.{ℤ, pos, ◌+ℤ◌, ◌≤ℤ◌, ◌<ℤ◌, ap, ◌∙◌, sym, subst, rules, arith, SFits, w32, to_z}
 use Rattle.std.proofs.lemmas.Int.{ints, to_z-of_z}
 use Rattle.tb_geom.proofs.Steps.{fits_next}
 use Rattle.shape_strips.proofs.RangeLemmas.{sides_in, sum_fits}

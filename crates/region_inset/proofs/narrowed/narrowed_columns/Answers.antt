@@ -1,15 +1,15 @@
-use Rattle.std.proofs.Common.{◌≡◌, ◌&&◌, Bool, true, ℤ, pos, negsuc, ◌+ℤ◌, ◌-ℤ◌, ◌≤ℤ◌, ◌<ℤ◌, sym, ap, ◌∙◌, subst, rules, arith, SFits, w32, to_z}
+use Rattle.std.proofs.Common.{◌≡◌, ◌&&◌, Bool, true, ℤ, pos, ◌+ℤ◌, ◌-ℤ◌, ◌≤ℤ◌, ◌<ℤ◌, sym, ap, ◌∙◌, subst, rules, arith, SFits, w32, to_z}
 use Rattle.std.proofs.lemmas.Bool.{and_left}
 use Rattle.std.proofs.lemmas.Int.{ints, to_z-of_z}
 use Rattle.tb_geom.proofs.RectLemmas.{between-in}
 use Rattle.tb_geom.proofs.Steps.{fits_next}
 use Rattle.tb_geom.specs.Rects.{between}
-use Rattle.region_bytes.specs.Bytes.{IsWord}
 use Rattle.shape_strips.proofs.RangeLemmas.{sides_in}
 use Rattle.pixel_rows.specs.Columns.{has_column}
 use Rattle.pixel_rows.proofs.ColumnLemmas.{AreKept, none_kept, one_kept, one_passed, all_kept, column_in}
 use Rattle.region_inset.specs.Near.{narrowed, IsRun}
-use Rattle.region_inset.proofs.NearLemmas.{coordinate_word, reach_within, run_narrowed, window_around}
+use Rattle.region_inset.proofs.NearLemmas.{run_narrowed}
+use Rattle.region_inset.proofs.ReachLemmas.{coordinate_word, reach_within, window_around}
 use Rattle.region_inset.proofs.narrowed.narrowed_columns.Goals.{then-decides, else-decides}
 use Rattle.region_inset.proofs.narrowed.narrowed_columns.Goals as goal
 

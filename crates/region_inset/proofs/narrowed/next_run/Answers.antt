@@ -1,7 +1,8 @@
-use Rattle.std.proofs.Common.{◌≡◌, Bool, true, false, not, pos, ◌+ℤ◌, ◌≤ℤ◌, sym, ◌∙◌, arith, SFits, w32}
-use Rattle.std.proofs.lemmas.Int.{ints, to_z-of_z}
+use Rattle.std.proofs.Common.{pos, ◌+ℤ◌, sym, ◌∙◌, SFits, w32}
+use Rattle.std.proofs.lemmas.Int.{to_z-of_z}
 use Rattle.pixel_rows.specs.Columns.{has_column}
-use Rattle.region_inset.proofs.NearLemmas.{next_fits, other_answers, run_more, run_over, same_answers}
+use Rattle.region_inset.proofs.NearLemmas.{run_more, run_over}
+use Rattle.region_inset.proofs.ReachLemmas.{next_fits, other_answers, same_answers}
 use Rattle.region_inset.proofs.narrowed.next_run.Goals as goal
 
 pub returns-then-has-all : goal.returns-then-has-all

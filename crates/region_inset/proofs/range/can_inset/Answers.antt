@@ -1,9 +1,9 @@
-use Rattle.std.proofs.Common.{◌≡◌, true, false, sym, ◌∙◌, rules}
+use Rattle.std.proofs.Common.{sym, ◌∙◌, rules}
 use Rattle.std.proofs.lemmas.Bool.{false≢true}
-use Rattle.std.proofs.lemmas.Int.{ints, to_z-of_z}
+use Rattle.std.proofs.lemmas.Int.{to_z-of_z}
 use Rattle.tb_geom.specs.Pixels.{holds}
 use Rattle.region_inset.specs.Insets.{inset}
-use Rattle.region_inset.proofs.NearLemmas.{word_distance}
+use Rattle.region_inset.proofs.ReachLemmas.{word_distance}
 use Rattle.region_inset.proofs.RangeLemmas.{across_of}
 use Rattle.region_inset.proofs.range.can_inset.Goals as goal
 

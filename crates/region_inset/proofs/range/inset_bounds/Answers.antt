@@ -1,10 +1,9 @@
-use Rattle.std.proofs.Common.{◌≡◌, true, false, ℤ, pos, negsuc, ◌+ℤ◌, ◌-ℤ◌, ap, ◌∙◌, rules, SFits, w32}
-use Rattle.std.specs.Int.{int_min, int_max}
-use Rattle.std.proofs.lemmas.Int.{ints, to_z-of_z}
+use Rattle.std.proofs.Common.{rules, SFits, w32}
+use Rattle.std.proofs.lemmas.Int.{to_z-of_z}
 use Rattle.tb_geom.specs.declared.rect.Rect.{Rect}
 use Rattle.tb_geom.specs.Pixels.{holds}
 use Rattle.shape_strips.proofs.RangeLemmas.{sides_in}
-use Rattle.region_inset.proofs.NearLemmas.{ends_of}
+use Rattle.region_inset.proofs.ReachLemmas.{ends_of}
 use Rattle.region_inset.proofs.RangeLemmas.{widened_around, widened_in_range, widened_is}
 use Rattle.region_inset.proofs.range.inset_bounds.Goals as goal
 

@@ -1,10 +1,9 @@
-use Rattle.std.proofs.Common.{◌≡◌, true, false, ℤ, pos, negsuc, refl, sym, ap, ◌∙◌, rules, SFits, w32}
+use Rattle.std.proofs.Common.{pos, negsuc, refl, sym, ◌∙◌, rules, SFits, w32}
 use Rattle.std.proofs.lemmas.Bool.{false≢true}
-use Rattle.std.proofs.lemmas.Int.{ints, to_z-of_z}
-use Rattle.tb_geom.specs.declared.point.Point.{Point}
+use Rattle.std.proofs.lemmas.Int.{to_z-of_z}
 use Rattle.tb_geom.specs.Pixels.{holds}
 use Rattle.shape_strips.proofs.RangeLemmas.{sides_in}
-use Rattle.region_inset.proofs.RangeLemmas.{across_by_box, across_by_columns, not_so, so_not}
+use Rattle.region_inset.proofs.RangeLemmas.{ends_in, across_by_box, across_by_columns, not_so, so_not}
 use Rattle.region_inset.proofs.range.lies_across.Goals as goal
 
 pub stays-requires-clause-first : goal.stays-requires-clause-first
@@ -26,7 +25,8 @@ returns-then-stays c =
     let fits_left : SFits w32 c.region_bounds-bounds.result.left = search rules in
     let fits_right : SFits w32 c.region_bounds-bounds.result.right = search rules in
     let b = c.region_bounds-bounds.ensures.bounds in
-    let ends = simp to_z-of_z at (c.stays.ensures c.if-stays.true) in
+    let stays = simp to_z-of_z at c.stays.ensures in
+    let ends = ends_in c.region_bounds-bounds.result.left c.region_bounds-bounds.result.right c.args.dh (sym stays ∙ c.if-stays.true) in
     (λ _. across_by_box (holds c.args.region.now) c.region_bounds-bounds.result b.in_range b.around c.args.dh c.args.dv ends.0 ends.1, λ _. refl)
 
 pub returns-then-meets_column : goal.returns-then-meets_column

@@ -1,11 +1,10 @@
-use Rattle.std.proofs.Common.{◌≡◌, true, false, ℤ, pos, negsuc, refl, sym, ap, ◌∙◌, rules, SFits, w32}
+use Rattle.std.proofs.Common.{pos, negsuc, refl, sym, ◌∙◌, rules, SFits, w32}
 use Rattle.std.proofs.lemmas.Bool.{false≢true}
-use Rattle.std.proofs.lemmas.Int.{ints, to_z-of_z}
-use Rattle.tb_geom.specs.declared.point.Point.{Point}
+use Rattle.std.proofs.lemmas.Int.{to_z-of_z}
 use Rattle.tb_geom.specs.Pixels.{holds}
 use Rattle.shape_strips.proofs.RangeLemmas.{sides_in}
 use Rattle.region_inset.specs.Insets.{inset}
-use Rattle.region_inset.proofs.RangeLemmas.{down_by_box, down_by_rows, not_level, not_so, so_not}
+use Rattle.region_inset.proofs.RangeLemmas.{ends_in, down_by_box, down_by_rows, not_level, not_so, so_not}
 use Rattle.region_inset.proofs.range.lies_down.Goals as goal
 
 pub stays-requires-clause-first : goal.stays-requires-clause-first
@@ -27,7 +26,8 @@ returns-then-stays c =
     let fits_top : SFits w32 c.region_bounds-bounds.result.top = search rules in
     let fits_bottom : SFits w32 c.region_bounds-bounds.result.bottom = search rules in
     let b = c.region_bounds-bounds.ensures.bounds in
-    let ends = simp to_z-of_z at (c.stays.ensures c.if-stays.true) in
+    let stays = simp to_z-of_z at c.stays.ensures in
+    let ends = ends_in c.region_bounds-bounds.result.top c.region_bounds-bounds.result.bottom c.args.dv (sym stays ∙ c.if-stays.true) in
     (λ _. down_by_box (holds c.args.region.now) c.region_bounds-bounds.result b.in_range b.around c.args.dh c.args.dv c.requires.columns ends.0 ends.1, λ _. refl)
 
 pub returns-then-meets_row : goal.returns-then-meets_row

@@ -1,10 +1,9 @@
-use Rattle.std.proofs.Common.{◌≡◌, true, false, ℤ, pos, negsuc, ◌+ℤ◌, ◌-ℤ◌, ◌≤ℤ◌, ◌<ℤ◌, refl, sym, ap, ◌∙◌, rules, arith, SFits, w32, to_z}
+use Rattle.std.proofs.Common.{◌≡◌, ℤ, pos, negsuc, ◌+ℤ◌, ◌-ℤ◌, ◌≤ℤ◌, ◌<ℤ◌, refl, sym, ap, ◌∙◌, rules, arith, SFits, w32, to_z}
 use Rattle.std.proofs.lemmas.Bool.{false≢true}
 use Rattle.std.proofs.lemmas.Int.{ints, by_lt_z, to_z-of_z}
-use Rattle.tb_geom.specs.declared.point.Point.{Point}
 use Rattle.tb_geom.specs.Pixels.{holds}
 use Rattle.region_inset.specs.Insets.{inset}
-use Rattle.region_inset.proofs.NearLemmas.{next_fits}
+use Rattle.region_inset.proofs.ReachLemmas.{next_fits}
 use Rattle.region_inset.proofs.range.meets_column.Goals as goal
 
 pub returns-then-inset_has : goal.returns-then-inset_has

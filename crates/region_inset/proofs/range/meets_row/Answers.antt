@@ -1,7 +1,6 @@
-use Rattle.std.proofs.Common.{◌≡◌, ◌&&◌, true, ℤ, pos, negsuc, sym, ap, ◌∙◌}
+use Rattle.std.proofs.Common.{◌&&◌, ℤ, pos, negsuc, sym, ◌∙◌}
 use Rattle.std.proofs.lemmas.Bool.{and_parts}
-use Rattle.std.proofs.lemmas.Int.{ints, to_z-of_z}
-use Rattle.tb_geom.specs.declared.point.Point.{Point}
+use Rattle.std.proofs.lemmas.Int.{to_z-of_z}
 use Rattle.tb_geom.specs.Pixels.{holds}
 use Rattle.tb_geom.specs.Rects.{between}
 use Rattle.region_inset.specs.Insets.{inset}

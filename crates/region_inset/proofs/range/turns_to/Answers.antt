@@ -1,5 +1,5 @@
 use Rattle.std.proofs.Common.{sym, ◌∙◌}
-use Rattle.std.proofs.lemmas.Int.{ints, to_z-of_z}
+use Rattle.std.proofs.lemmas.Int.{to_z-of_z}
 use Rattle.region_inset.proofs.range.turns_to.Goals as goal
 
 pub returns-then-not-inset_turns : goal.returns-then-not-inset_turns

@@ -1,4 +1,4 @@
-use Rattle.std.proofs.Common.{◌≡◌, ◌/◌, ◌%◌, ap, ◌∙◌, rules, SFits, w32, unsigned_abs}
+use Rattle.std.proofs.Common.{◌/◌, ◌%◌, ap, ◌∙◌, rules, SFits, w32, unsigned_abs}
 use Rattle.std.proofs.lemmas.Int.{to_z-of_z}
 use Rattle.shape_arcs.specs.Directions.{direction, first_quarter, quarters}
 use Rattle.shape_arcs.proofs.directions.direction.Goals as goal

@@ -1,6 +1,6 @@
-use Rattle.std.proofs.Common.{ℕ, ◌≤◌, arith, get_or}
+use Rattle.std.proofs.Common.{◌≤◌, arith}
 use Rattle.std.proofs.lemmas.Int.{ints}
-use Rattle.shape_arcs.specs.Directions.{tangents, tangent}
+use Rattle.shape_arcs.specs.Directions.{tangent}
 use Rattle.shape_arcs.proofs.DirectionLemmas.{tangent_near, cast_small, small_fits}
 use Rattle.shape_arcs.proofs.directions.tangent.Goals as goal
 

@@ -1,5 +1,5 @@
-use Rattle.std.proofs.Common.{◌≡◌, ℤ, pos, neg_ℤ, ◌-ℤ◌, sym, ap, ◌∙◌, subst, arith, rules, SFits, w32}
-use Rattle.std.proofs.lemmas.Int.{ints, to_z-of_z}
+use Rattle.std.proofs.Common.{ℤ, pos, ◌-ℤ◌, sym, ap, ◌∙◌, subst, rules, SFits, w32}
+use Rattle.std.proofs.lemmas.Int.{to_z-of_z}
 use Rattle.tb_geom.specs.declared.point.Point.{Point}
 use Rattle.shape_arcs.specs.Sights.{IsNear}
 use Rattle.shape_arcs.proofs.DirectionLemmas.{minus_is_neg, neg_fits, no_quarter, near_turned, one_quarter}

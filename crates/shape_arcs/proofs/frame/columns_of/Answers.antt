@@ -1,4 +1,4 @@
-use Rattle.std.proofs.Common.{◌≡◌, ◌||◌, ap, ◌∙◌, rules, SFits, w32}
+use Rattle.std.proofs.Common.{◌||◌, ap, ◌∙◌, rules, SFits, w32}
 use Rattle.std.proofs.lemmas.Int.{to_z-of_z}
 use Rattle.tb_geom.specs.Rects.{between}
 use Rattle.shape_arcs.proofs.FrameLemmas.{first_placed, second_placed, both_runs}

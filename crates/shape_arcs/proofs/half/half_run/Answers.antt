@@ -1,4 +1,4 @@
-use Rattle.std.proofs.Common.{◌≡◌, ◌≤ℤ◌, ◌<ℤ◌, inl, inr, sym, ◌∙◌, arith, rules, SFits, w32}
+use Rattle.std.proofs.Common.{◌≤ℤ◌, ◌<ℤ◌, inl, inr, sym, ◌∙◌, arith, rules, SFits, w32}
 use Rattle.std.proofs.lemmas.Int.{ints, to_z-of_z}
 use Rattle.shape_arcs.specs.Directions.{direction}
 use Rattle.shape_arcs.specs.Rays.{is_seen_from}

@@ -1,4 +1,4 @@
-use Rattle.std.proofs.Common.{◌≡◌, ◌<◌, pos, ◌+ℤ◌, arith, rules, SFits, w32}
+use Rattle.std.proofs.Common.{◌<◌, pos, ◌+ℤ◌, arith, rules, SFits, w32}
 use Rattle.std.proofs.lemmas.Int.{ints, to_z-of_z, to_z_pos}
 use Rattle.shape_strips.proofs.RangeLemmas.{coordinate_from, sides_in, sum_fits}
 use Rattle.shape_arcs.proofs.RayLemmas.{turn_from}

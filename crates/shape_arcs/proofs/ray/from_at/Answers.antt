@@ -1,4 +1,4 @@
-use Rattle.std.proofs.Common.{◌≡◌, ap, ◌∙◌, rules, SFits, w32}
+use Rattle.std.proofs.Common.{ap, ◌∙◌, rules, SFits, w32}
 use Rattle.std.proofs.lemmas.Int.{to_z-of_z, to_z_pos}
 use Rattle.shape_arcs.specs.Rays.{is_from}
 use Rattle.shape_arcs.specs.Sights.{from_at}

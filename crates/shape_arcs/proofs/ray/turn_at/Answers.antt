@@ -1,4 +1,4 @@
-use Rattle.std.proofs.Common.{◌≡◌, true, false, pos, ◌-ℤ◌, sym, ap, ◌∙◌, subst, rules, SFits, w32}
+use Rattle.std.proofs.Common.{true, false, pos, ◌-ℤ◌, sym, ap, ◌∙◌, subst, rules, SFits, w32}
 use Rattle.std.proofs.lemmas.Int.{to_z-of_z}
 use Rattle.tb_geom.specs.declared.point.Point.{Point}
 use Rattle.shape_arcs.specs.Directions.{direction}

@@ -1,4 +1,4 @@
-use Rattle.std.proofs.Common.{◌≡◌, ◌*ℤ◌, ◌+ℤ◌, ap, rules, SFits, w32, w64}
+use Rattle.std.proofs.Common.{◌+ℤ◌, rules, SFits, w32, w64}
 use Rattle.std.proofs.lemmas.Int.{to_z-of_z}
 use Rattle.shape_arcs.proofs.SightLemmas.{near_h, near_v, sum_of_wide}
 use Rattle.shape_arcs.proofs.sight.dot.Goals as goal

@@ -1,4 +1,4 @@
-use Rattle.std.proofs.Common.{◌≡◌, pos, sym, ap, ◌∙◌, rules, SFits, w32, w64, of_z}
+use Rattle.std.proofs.Common.{◌≡◌, pos, ap, ◌∙◌, rules, SFits, w64, of_z}
 use Rattle.std.specs.Prelude.{int_lt}
 use Rattle.std.proofs.lemmas.Int.{ints, to_z-of_z}
 use Rattle.shape_arcs.proofs.SightLemmas.{is_from_ray, is_from_side}

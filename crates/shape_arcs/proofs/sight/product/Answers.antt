@@ -1,4 +1,4 @@
-use Rattle.std.proofs.Common.{◌≡◌, ◌*ℤ◌, subst, sym, rules, SFits, w32, w64}
+use Rattle.std.proofs.Common.{◌≡◌, ◌*ℤ◌, rules, SFits, w64}
 use Rattle.std.proofs.lemmas.Int.{to_z-of_z}
 use Rattle.shape_arcs.proofs.SightLemmas.{wide_fits, wide_within}
 use Rattle.shape_arcs.proofs.sight.product.Goals as goal

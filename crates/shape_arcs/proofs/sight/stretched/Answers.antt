@@ -1,4 +1,4 @@
-use Rattle.std.proofs.Common.{◌≡◌, ◌*ℤ◌, ◌-ℤ◌, ap, rules, SFits, w32}
+use Rattle.std.proofs.Common.{◌*ℤ◌, ◌-ℤ◌, ap, rules, SFits, w32}
 use Rattle.std.proofs.lemmas.Int.{to_z-of_z}
 use Rattle.shape_arcs.proofs.SightLemmas.{across_within, column_fits, narrow_fits}
 use Rattle.shape_arcs.proofs.sight.stretched.Goals as goal

@@ -1,4 +1,4 @@
-use Rattle.std.proofs.Common.{◌≡◌, ℤ, pos, neg_ℤ, ◌+ℤ◌, ◌-ℤ◌, sym, ap, ◌∙◌, arith, rules, SFits, w32}
+use Rattle.std.proofs.Common.{◌≡◌, ℤ, pos, neg_ℤ, ◌+ℤ◌, ◌-ℤ◌, ap, ◌∙◌, arith, rules, SFits, w32}
 use Rattle.std.proofs.lemmas.Int.{ints, to_z-of_z}
 use Rattle.shape_arcs.proofs.WedgeLemmas.{goes_back, goes_on}
 use Rattle.shape_arcs.proofs.span.clockwise.Goals as goal

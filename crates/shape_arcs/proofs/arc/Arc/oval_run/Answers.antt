@@ -1,4 +1,4 @@
-use Rattle.std.proofs.Common.{◌≡◌, ap, ◌∙◌, rules, SFits, w32}
+use Rattle.std.proofs.Common.{ap, ◌∙◌}
 use Rattle.std.proofs.lemmas.Int.{to_z-of_z}
 use Rattle.shape_strips.specs.Rounds.{round_holds}
 use Rattle.shape_strips.proofs.RoundLemmas.{outside_rect}

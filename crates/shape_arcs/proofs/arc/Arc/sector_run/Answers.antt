@@ -1,4 +1,4 @@
-use Rattle.std.proofs.Common.{◌≡◌, pos, ◌+ℤ◌, arith, rules, SFits, w32}
+use Rattle.std.proofs.Common.{pos, ◌+ℤ◌, arith, rules, SFits, w32}
 use Rattle.std.specs.Prelude.{int_le}
 use Rattle.std.proofs.lemmas.Int.{ints, to_z-of_z}
 use Rattle.shape_arcs.proofs.SectorLemmas.{no_sector}

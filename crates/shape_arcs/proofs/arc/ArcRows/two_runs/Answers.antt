@@ -1,4 +1,4 @@
-use Rattle.std.proofs.Common.{◌≡◌, ◌&&◌, not, true, false, pos, ◌+ℤ◌, sym, ap, ◌∙◌, rules, SFits, w16, w32}
+use Rattle.std.proofs.Common.{◌&&◌, not, true, false, pos, ◌+ℤ◌, sym, ap, ◌∙◌, rules, SFits, w16, w32}
 use Rattle.std.specs.Prelude.{int_le}
 use Rattle.std.proofs.lemmas.Int.{to_z-of_z}
 use Rattle.shape_strips.specs.Rounds.{oval_holds}

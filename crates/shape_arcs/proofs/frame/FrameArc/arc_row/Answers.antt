@@ -1,4 +1,4 @@
-use Rattle.std.proofs.Common.{◌≡◌, ◌∙◌, rules, SFits, w16, w32}
+use Rattle.std.proofs.Common.{◌∙◌}
 use Rattle.std.proofs.lemmas.Int.{to_z-of_z}
 use Rattle.shape_arcs.specs.Wedges.{arc_holds}
 use Rattle.shape_arcs.proofs.frame.FrameArc.arc_row.Goals as goal

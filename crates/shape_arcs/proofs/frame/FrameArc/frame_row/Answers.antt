@@ -1,4 +1,4 @@
-use Rattle.std.proofs.Common.{◌≡◌, ◌∙◌, rules, SFits, w32}
+use Rattle.std.proofs.Common.{◌∙◌}
 use Rattle.std.proofs.lemmas.Int.{to_z-of_z}
 use Rattle.shape_strips.specs.Frames.{frame_holds}
 use Rattle.shape_arcs.proofs.frame.FrameArc.frame_row.Goals as goal

@@ -1,4 +1,4 @@
-use Rattle.std.proofs.Common.{◌≡◌, ◌&&◌, ◌∙◌}
+use Rattle.std.proofs.Common.{◌&&◌, ◌∙◌}
 use Rattle.std.proofs.lemmas.Result.{IfOk-weaker}
 use Rattle.shape_strips.specs.Frames.{frame_holds}
 use Rattle.shape_arcs.specs.Wedges.{arc_holds}

@@ -1,4 +1,4 @@
-use Rattle.std.proofs.Common.{◌≡◌, ◌&&◌, ◌∙◌}
+use Rattle.std.proofs.Common.{◌&&◌, ◌∙◌}
 use Rattle.std.proofs.lemmas.Int.{to_z-of_z}
 use Rattle.pixel_rows.proofs.ColumnLemmas.{beside_bounds}
 use Rattle.shape_arcs.specs.Wedges.{frame_arc_holds}
