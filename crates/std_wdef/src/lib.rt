@@ -13,15 +13,20 @@
 #![tactic(auto)]
 
 mod areas;
+mod cut_inside;
 mod hits;
 mod kind;
 mod lines;
 mod notched_window;
 mod rects;
+mod round_look;
+mod round_window;
+mod rounded;
 mod shown;
 mod std_window;
 mod tables;
 
 pub use kind::Variation;
 pub use notched_window::NotchedWindow;
+pub use round_window::RoundWindow;
 pub use std_window::StdWindow;
