@@ -28,8 +28,12 @@ pub(crate) fn round_look(shown: Shown) -> [Step; 6]
         Step::white_inside(around, CORNER).cut_to(bar),
         Step::black_text(bar, columns(size.width), -6).when(shown.titled),
         Step::black_frame(go_away_box()).when(closes).cut_to(bar),
-        Step::black_fill(sides(9, -15, 18, -6)).when(tracks).cut_to(bar),
-        Step::inverted_inside(around, CORNER).when(flags.highlighted).cut_to(bar),
+        Step::black_fill(sides(9, -15, 18, -6))
+            .when(tracks)
+            .cut_to(bar),
+        Step::inverted_inside(around, CORNER)
+            .when(flags.highlighted)
+            .cut_to(bar),
     ]
 }
 
