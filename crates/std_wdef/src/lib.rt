@@ -10,7 +10,9 @@
 //! tables of its size, its title and what else it was told (`def_iface::Flags`). Each table stands twice, in
 //! `specs/` and in the code, and the check finds the two equal; the loops over them are those of
 //! `looks`. The pixels of a rounded window are those of round shapes (`shape_strips`), row by row: its structure is one,
-//! and its content what a frame of one pixel leaves of that, cut to the content rectangle. All rectangles are in the window's own coordinates, where its content begins at 0 0.
+//! and its content what a frame of one pixel leaves of that, cut to the content rectangle.
+//!
+//! All rectangles are in the window's own coordinates, where its content begins at 0 0.
 #![tactic(auto)]
 
 mod areas;
