@@ -1,7 +1,8 @@
 -- Drawing on the pixels of a strip, row by row.
 use Rattle.std.proofs.Common.{◌≡◌, ℤ, pos, ◌+ℤ◌, ◌≤ℤ◌, Bool, true, false, ◌&&◌, ◌||◌, cond, refl, sym, ap, ◌∙◌, arith}
 use Rattle.std.specs.Ordering.{int_eq}
-use Rattle.std.proofs.lemmas.Int.{ints}
+use Rattle.std.specs.Int.{int_max}
+use Rattle.std.proofs.lemmas.Int.{ints, clamps}
 use Rattle.std.proofs.lemmas.Bool.Decides.{Decides-int_eq}
 use Rattle.tb_geom.specs.declared.point.Point.{Point}
 use Rattle.tb_geom.specs.declared.rect.Rect.{Rect}
@@ -46,6 +47,10 @@ in_row s v q = by_row (int_eq v q.v) refl
     by_row : (e : Bool) → int_eq v q.v ≡ e → (s (record { h = q.h; v = v }) && int_eq v q.v) ≡ (s q && int_eq v q.v)
     by_row true is = ap (λ x. s (record { h = q.h; v = x }) && int_eq v q.v) ((Decides-int_eq v q.v).0 is)
     by_row false is = ap (λ e. s (record { h = q.h; v = v }) && e) is ∙ none (s (record { h = q.h; v = v })) (s q) ∙ ap (λ e. s q && e) (sym is)
+
+-- once the rows are through, all of them were
+pub rows_through : (top bottom v x : ℤ) → top ≤ℤ v → bottom ≤ℤ v → v ≤ℤ int_max top bottom → between top x v ≡ between top x bottom
+rows_through top bottom v x low past within = grind (arith, ints, clamps)
 
 -- one row more
 pub one_row : (c d : Canvas) (value : Point → Bool → Bool) (s : PixelSet) (top v : ℤ) (r : Rect) (a b e : Bits) → SameFrame c d → top ≤ℤ v
@@ -92,15 +97,13 @@ one_row c d value s top v r a b e frame low row first second =
         ∙ ap (λ t. (canvas_holds c p && t) || (canvas_holds c p && in_rows s top v q)) (sym (its q))
 
 -- all rows that a canvas can have of the set
-pub all_rows : (c : Canvas) (value : Point → Bool → Bool) (s : PixelSet) (reach bounds rows : Rect) (v : ℤ) (a b : Bits)
+pub all_rows : (c : Canvas) (value : Point → Bool → Bool) (s : PixelSet) (reach bounds rows : Rect) (a b : Bits)
     → ((p : Point) → on_map a p ≡ true → canvas_holds c p ≡ true → rect_holds reach (canvas_point c p) ≡ true)
     → ((q : Point) → rect_holds bounds q ≡ false → s q ≡ false)
     → ((q : Point) → rect_holds rows q ≡ (rect_holds reach q && rect_holds bounds q))
-    → rows.bottom ≤ℤ v
-    → Draws (λ p. canvas_holds c p && in_rows s rows.top v (canvas_point c p)) value a b
+    → Draws (λ p. canvas_holds c p && in_rows s rows.top rows.bottom (canvas_point c p)) value a b
     → Draws (λ p. canvas_holds c p && s (canvas_point c p)) value a b
-all_rows c value s reach bounds rows v a b around bounded both past drawn =
-    Draws-where _ _ value a b (λ p on. one p on (canvas_holds c p) (s (canvas_point c p)) refl refl) drawn
+all_rows c value s reach bounds rows a b around bounded both drawn = Draws-where _ _ value a b one drawn
   where
     table : (k t n : Bool) → (k ≡ true → t ≡ true → n ≡ true) → (k && (t && n)) ≡ (k && t)
     table true true n f = f refl refl
@@ -111,14 +114,13 @@ all_rows c value s reach bounds rows v a b around bounded both past drawn =
     held true y f is = refl
     held false y f is = absurd (cc (f refl))
 
-    one : (p : Point) → on_map a p ≡ true → (k t : Bool) → canvas_holds c p ≡ k → s (canvas_point c p) ≡ t
-        → (canvas_holds c p && in_rows s rows.top v (canvas_point c p)) ≡ (canvas_holds c p && s (canvas_point c p))
-    one p on k t is_held has =
+    one : (p : Point) → on_map a p ≡ true → (canvas_holds c p && in_rows s rows.top rows.bottom (canvas_point c p)) ≡ (canvas_holds c p && s (canvas_point c p))
+    one p on =
         let q = canvas_point c p in
-        table (canvas_holds c p) (s q) (between rows.top q.v v) (λ k_true t_true.
-            let in_reach = around p on k_true in
-            let in_bounds = held (rect_holds bounds q) (s q) (bounded q) t_true in
-            let inside = sides_of rows q (both q ∙ (λ i. in_reach i && in_bounds i)) in
-            let top = inside.top in
-            let bottom = inside.bottom in
-            grind (arith, ints))
+        table (canvas_holds c p) (s q) (between rows.top q.v rows.bottom) (λ k_true t_true.
+        let in_reach = around p on k_true in
+        let in_bounds = held (rect_holds bounds q) (s q) (bounded q) t_true in
+        let inside = sides_of rows q (both q ∙ (λ i. in_reach i && in_bounds i)) in
+        let top = inside.top in
+        let bottom = inside.bottom in
+        grind (arith, ints))
