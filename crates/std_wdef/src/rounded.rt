@@ -2,7 +2,7 @@
 ghost use Rattle.std.specs.Prelude.{◌≡◌, ◌&&◌, true};
 ghost use Rattle.tb_geom.specs.Rects.{is_in_range, rect_holds};
 ghost use Rattle.def_iface.specs.Sizes.{is_size};
-ghost use Rattle.std_wdef.specs.Looks.{document_box};
+ghost use Rattle.std_wdef.specs.Looks.{document_box, title_bar};
 ghost use Rattle.std_wdef.specs.Rounded.{window_corner, frame_pen, inside_within, round_closes, go_away_box, round_hit};
 
 use crate::cut_inside::{CutInside, has};
