@@ -1,5 +1,5 @@
 -- Structure, content and box of the rounded window.
-use Rattle.std.proofs.Common.{◌≡◌, true, pos, ◌+ℤ◌, ◌-ℤ◌, arith}
+use Rattle.std.proofs.Common.{◌≡◌, true, arith}
 use Rattle.std.proofs.lemmas.Int.{ints}
 use Rattle.std.proofs.lemmas.Bool.{and_parts}
 use Rattle.tb_geom.specs.Rects.{IsBoxOf, rect_holds}

@@ -7,9 +7,9 @@ ghost use Rattle.looks.specs.Letters.{Lettering};
 ghost use Rattle.looks.specs.Marks.{look_bit};
 ghost use Rattle.std_wdef.specs.Rounded.{round_damage, round_look};
 
-use crate::kind::Shown;
+use crate::kind::{Shown, Variation};
 use crate::rects::{document_box, title_bar};
-use crate::rounded::{CORNER, closes, go_away_box};
+use crate::rounded::{CORNER, GO_AWAY};
 use looks::{Step, columns, damage_between, sides};
 use tb_geom::{Point, Rect};
 
@@ -21,13 +21,13 @@ pub(crate) fn round_look(shown: Shown) -> [Step; 6]
     let (flags, size) = (shown.flags, shown.size);
     let around = document_box(size);
     let bar = title_bar(size);
-    let closes = closes(flags);
-    let tracks = closes && flags.tracked;
+    let closes = Variation::NoGrow.closes(flags);
+    let tracks = Variation::NoGrow.tracks(flags);
     [
         Step::black_fill(around),
         Step::white_inside(around, CORNER).cut_to(bar),
         Step::black_text(bar, columns(size.width), -6).when(shown.titled),
-        Step::black_frame(go_away_box()).when(closes).cut_to(bar),
+        Step::black_frame(GO_AWAY).when(closes).cut_to(bar),
         Step::black_fill(sides(9, -15, 18, -6))
             .when(tracks)
             .cut_to(bar),

@@ -8,11 +8,12 @@ ghost use Rattle.std_wdef.specs.Rounded.{fresh_round, round_at, round_meaning, t
 use crate::kind::{Shown, is_titled};
 use crate::rects::document_box;
 use crate::round_look::{round_damage, round_look};
-use crate::rounded::{inside_within, round_hit, structure_of};
+use crate::rounded::{CORNER, inside_within, round_hit};
 use def_iface::{Flags, Hit, Size, Stage, WindowChange, WindowDef, WindowRegions, frame_lines};
 use draw_port::{Canvas, ShortText};
 use looks::draw_look;
 use shape_region::strip_region;
+use shape_strips::RoundStrip;
 use std::alloc::{AllocError, Global};
 use tb_geom::{Point, Rect};
 
@@ -92,7 +93,11 @@ impl WindowDef for RoundWindow {
     }
 
     fn regions_for(&self, alloc: Global, size: Size) -> Result<WindowRegions, AllocError> {
-        let structure = strip_region(alloc, &structure_of(size))?;
+        let shape = RoundStrip {
+            rect: document_box(size),
+            corner: CORNER,
+        };
+        let structure = strip_region(alloc, &shape)?;
         let content = strip_region(alloc, &inside_within(size.rect(), size))?;
         Ok(WindowRegions { structure, content })
     }

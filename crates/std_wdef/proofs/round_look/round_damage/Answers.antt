@@ -1,4 +1,4 @@
-use Rattle.std.proofs.Common.{ap, sym, ◌∙◌, refl}
+use Rattle.std.proofs.Common.{ap, sym, ◌∙◌}
 use Rattle.looks.specs.Marks.{look_bit}
 use Rattle.std_wdef.proofs.round_look.round_damage.Goals as goal
 

@@ -1,4 +1,3 @@
-use Rattle.std.proofs.Common.{◌∙◌}
 use Rattle.std.proofs.lemmas.Bool.{and_right}
 use Rattle.tb_geom.specs.Rects.{rect_holds}
 use Rattle.std_wdef.proofs.cut_inside.CutInsideStrip.bounds.Goals as goal

@@ -17,10 +17,10 @@ returns-clause-content c = λ p.
 pub returns-clause-within : goal.returns-clause-within
 returns-clause-within c = λ p e.
     c.in_ok-structure.ensures p
-    ∙ (λ i. round_holds (c.structure_of.ensures.rect i) (c.structure_of.ensures.corner i) p)
+    ∙ (λ i. round_holds (c.document_box.ensures i) window_corner p)
     ∙ content_within c.args.size p (sym (returns-clause-content c p) ∙ e)
 
 pub returns-clause-boxed : goal.returns-clause-boxed
 returns-clause-boxed c = λ p e.
     round_within (document_box c.args.size) window_corner p
-    (sym (λ i. round_holds (c.structure_of.ensures.rect i) (c.structure_of.ensures.corner i) p) ∙ sym (c.in_ok-structure.ensures p) ∙ e)
+    (sym (λ i. round_holds (c.document_box.ensures i) window_corner p) ∙ sym (c.in_ok-structure.ensures p) ∙ e)
