@@ -1,0 +1,4 @@
+-- Lemmas.
+pub mod OverLemmas
+pub mod PartLemmas
+pub mod PaintLemmas
