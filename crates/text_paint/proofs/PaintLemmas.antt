@@ -1,10 +1,8 @@
 -- What is drawn of a text record, one piece after another.
-use Rattle.std.specs.Prelude.{nat_lt}
-use Rattle.std.proofs.Common.{◌≡◌, ℕ, zero, suc, ◌+◌, ◌<◌, ◌≤◌, Bool, true, false, not, cond, ◌&&◌, ◌||◌, List, refl, sym, ap, subst, ◌∙◌, add-one, arith}
+use Rattle.std.proofs.Common.{◌≡◌, ℕ, suc, ◌+◌, ◌<◌, ◌≤◌, Bool, true, false, not, cond, ◌&&◌, ◌||◌, List, refl, sym, ap, subst, ◌∙◌, add-one, arith}
 use Rattle.std.proofs.lemmas.Bool.{lt-ltb, le-ltb}
 use Rattle.tb_geom.specs.declared.point.Point.{Point}
 use Rattle.tb_geom.specs.declared.rect.Rect.{Rect}
-use Rattle.tb_geom.specs.Points.{PixelSet}
 use Rattle.tb_geom.specs.Rects.{rect_holds}
 use Rattle.bit_map.specs.Bits.{Bits}
 use Rattle.bit_map.specs.declared.mode.Mode.TheVariants.{Copy, Or}
@@ -19,7 +17,7 @@ use Rattle.draw_port.specs.declared.canvas.Canvas.{Canvas}
 use Rattle.text_record.specs.Texts.{Record}
 use Rattle.text_record.specs.Placings.{box_of}
 use Rattle.text_record.specs.Places.{drawn_bytes, line_in}
-use Rattle.text_paint.specs.Shown.{line_count, some_line, line_pen, line_holds, with_lines, part_holds, caret_rect, is_inverted, with_selection, inset, frame_holds, text_shown}
+use Rattle.text_paint.specs.Shown.{line_count, some_line, line_pen, line_holds, with_lines, part_holds, caret_rect, with_selection, inset, frame_holds, text_shown}
 use Rattle.text_paint.proofs.OverLemmas.{drawn_not, part_over, all_over}
 use Rattle.text_paint.proofs.PartLemmas.{none_before, inside_frame}
 
@@ -141,7 +139,7 @@ no_frame : (r : Record) (p : Point) (x : Bool) → r.framed ≡ false → mode_b
 no_frame r p x e = white_everywhere p ∙ by_flag r.framed (rect_holds (box_of r.framed r.view) p && not (rect_holds (inset (box_of r.framed r.view)) p)) e
   where
     by_flag : (framed t : Bool) → framed ≡ false → false ≡ (framed && t)
-    by_flag true t e = sym e
+    by_flag true t e = absurd (cc e)
     by_flag false t e = refl
 
 -- without a frame all is white

@@ -1,4 +1,4 @@
-use Rattle.std.proofs.Common.{arith, rules, SFits, w32}
+use Rattle.std.proofs.Common.{arith, SFits, w32}
 use Rattle.std.proofs.lemmas.Int.{ints}
 use Rattle.tb_geom.proofs.RectLemmas.{same_rect}
 use Rattle.text_paint.proofs.frame.inset.Goals as goal

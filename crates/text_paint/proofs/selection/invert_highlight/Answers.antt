@@ -17,5 +17,5 @@ loop-number-preserved c = record {
 
 pub returns-clause-drawn : goal.returns-clause-drawn
 returns-clause-drawn c =
-    let all : c.loop-number.number ≡ line_count c.args.text.now = omega (arith, c.line_count.ensures.value) in
+    let all : c.loop-number.number ≡ line_count c.args.text.now = omega (arith, c.line_count-number-end.ensures.value) in
     parts_ended c.args.canvas.now c.args.text.now c.loop-number.number _ _ all c.loop-number.invariant.drawn
