@@ -2,3 +2,4 @@
 pub mod OverLemmas
 pub mod PartLemmas
 pub mod PaintLemmas
+pub mod LawLemmas

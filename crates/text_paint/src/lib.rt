@@ -5,13 +5,14 @@
 //! than all hands over a canvas whose clip or cut is less.
 //!
 //! All lines are drawn, each as a text of its own: a glyph may be higher than a line, so that no number says which lines a
-//! pixel may be of. A canvas looks at no glyph that lies outside it.
+//! pixel may be of.
 //!
 //! The highlight of a selection is inverted line by line. The parts on two lines share no row, so that what is inverted is the
-//! pixels of all parts, each once. Where the selection is a point, the caret is inverted: the column before the point.
+//! pixels of all parts, each once (`laws`). Where the selection is a point, the caret is inverted: the column before the point.
 #![tactic(auto)]
 
 mod frame;
+pub mod laws;
 mod lines;
 mod parts;
 mod selection;
