@@ -86,10 +86,10 @@ one_region cut r e q = ap (λ k. cut_holds k q) e ∙ and_true (holds r.now q)
 
 -- ---- blocks of spans
 
-row-here : (v x : ℤ) → between v x (v +ℤ pos 1) ≡ int_eq v x
+pub row-here : (v x : ℤ) → between v x (v +ℤ pos 1) ≡ int_eq v x
 row-here v x = grind (arith, ints)
 
-row-more : (top v x : ℤ) → top ≤ℤ v → between top x (v +ℤ pos 1) ≡ (between top x v || int_eq v x)
+pub row-more : (top v x : ℤ) → top ≤ℤ v → between top x (v +ℤ pos 1) ≡ (between top x v || int_eq v x)
 row-more top v x l = grind (arith, ints)
 
 -- the rectangle of one row that a span is

@@ -7,3 +7,4 @@ pub mod OverLemmas
 pub mod SeenLemmas
 pub mod TextLemmas
 pub mod ClippedLemmas
+pub mod StripLemmas

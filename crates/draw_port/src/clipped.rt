@@ -115,7 +115,7 @@ fn grown(block: Rect) -> Rect
 }
 
 /// The span as a rectangle of one row.
-fn row_of(span: Span) -> Rect
+pub(crate) fn row_of(span: Span) -> Rect
     requires { (span.v +ℤ pos 1) ≤ℤ pos 2147483647 }
     ensures { result ≡ record { left = span.left; top = span.v; right = span.right; bottom = span.v +ℤ pos 1 } }
 {

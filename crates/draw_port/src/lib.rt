@@ -16,7 +16,8 @@
 //! coordinates, by words of 64 pixels. An operation's shape is drawn by the rule of its shade or of its bits:
 //! a line as a rectangle, a frame side by side, a text by tiles of 512 columns and 16 rows, each of them made
 //! by one pass over its characters. Of what a clip or a region bounds, its
-//! spans are drawn, those that are equal in rows that follow each other as one rectangle.
+//! spans are drawn, those that are equal in rows that follow each other as one rectangle. A strip, such as a
+//! rectangle with rounded corners, is drawn run by run.
 #![tactic(auto)]
 
 mod bounds;
@@ -31,6 +32,7 @@ mod picture;
 mod placed;
 mod rules;
 mod shapes;
+mod strips;
 mod texts;
 mod values;
 

@@ -3,12 +3,19 @@ use Rattle.std.proofs.Common.{◌≡◌, ℕ, zero, suc, ◌+◌, ◌<◌, Bool,
 use Rattle.std.proofs.lemmas.List.Sums.{fold_more}
 use Rattle.tb_geom.specs.declared.point.Point.{Point}
 use Rattle.tb_geom.specs.declared.rect.Rect.{Rect}
-use Rattle.tb_geom.specs.Rects.{rect_holds, IsBoxOf, is_empty_rect, empty_rect, shared_rect, rect_around}
+use Rattle.std.proofs.lemmas.Bool.{and_parts}
+use Rattle.tb_geom.specs.Rects.{is_in_range, rect_holds, IsBoxOf, is_empty_rect, empty_rect, shared_rect, rect_around}
 use Rattle.tb_geom.proofs.RectLemmas.{holds_none, holds-around, holds-shared}
 use Rattle.draw_port.specs.Ops.{frame_holds, is_end}
+use Rattle.shape_strips.specs.declared.corner.Corner.{Corner}
+use Rattle.shape_strips.specs.Ovals.{in_oval}
+use Rattle.shape_strips.specs.Rounds.{round_holds, fitted, across, down}
+use Rattle.shape_strips.specs.Frames.{inside_holds, inset_rect, inset_corner, surrounds}
+use Rattle.looks.specs.declared.rounded.Rounded.{Rounded}
+use Rattle.looks.specs.Rounded.{rounded_holds, one_pixel}
 use Rattle.looks.specs.declared.step.Step.{Step}
 use Rattle.looks.specs.declared.step.Mark.{Mark}
-use Rattle.looks.specs.declared.step.Mark.TheVariants.{Fill, Frame, Behind, Text, Cross}
+use Rattle.looks.specs.declared.step.Mark.TheVariants.{Fill, Frame, Behind, Text, Cross, Round}
 use Rattle.looks.specs.Same.{shows_text}
 use Rattle.looks.specs.Damages.{IsWithin, joined, draws_alike, look_damage, mark_reach, step_reach}
 use Rattle.looks.specs.Marks.{look_bit, step_value, step_holds, mark_holds, mark_value, cross_holds, on_diagonals}
@@ -70,6 +77,21 @@ cross_in r p e = first (rect_holds r p) (on_diagonals r p) e
     first true b e = refl
     first false b e = absurd (cc)
 
+-- nor does a rectangle with rounded corners reach past it
+pub rounded_in : (r : Rounded) (p : Point) → rounded_holds r p ≡ true → rect_holds r.rect p ≡ true
+unfolding rounded_holds round_holds
+rounded_in r p e = by_part r.inside (and_parts (is_in_range r.rect) (if r.inside then inside_holds r.rect r.corner one_pixel p else round_holds r.rect r.corner p) e).1
+  where
+    oval : Corner
+    oval = fitted r.rect r.corner
+
+    whole : round_holds r.rect r.corner p ≡ true → rect_holds r.rect p ≡ true
+    whole f = (and_parts (rect_holds r.rect p) (in_oval oval.width oval.height (across r.rect oval p.h) (down r.rect oval p.v)) f).0
+
+    by_part : (t : Bool) → (if t then inside_holds r.rect r.corner one_pixel p else round_holds r.rect r.corner p) ≡ true → rect_holds r.rect p ≡ true
+    by_part true f = whole (and_parts (round_holds r.rect r.corner p) _ (and_parts (round_holds (inset_rect r.rect one_pixel) (inset_corner r.corner one_pixel) p) (surrounds (round_holds r.rect r.corner) p) f).1).0
+    by_part false f = whole f
+
 -- one step more of each look
 pub same-more : (u t : Lettering) (p : Point) (old new : List Step) (k : ℕ) (a b : Step) → k < length old → k < length new
     → look_bit t (take k new) p ≡ look_bit u (take k old) p
@@ -91,6 +113,7 @@ alike old new false u t p d e k is = ap (λ s. step_value t p d s) (sym e) ∙ a
     by_mark (Fill r s) k = refl
     by_mark (Frame r s) k = refl
     by_mark (Cross r) k = refl
+    by_mark (Round r s) k = refl
     by_mark (Behind plate) k = absurd (cc)
     by_mark (Text place) k = absurd (cc)
 

@@ -6,6 +6,8 @@ use Rattle.std.proofs.lemmas.Slice.Eq.{bytes_eq-Decides}
 use Rattle.std.specs.Prelude.{nat_eq}
 use Rattle.std.specs.Ordering.{int_eq}
 use Rattle.std.specs.Str.{bytes_eq}
+use Rattle.std.specs.Bool.{beq}
+use Rattle.std.specs.Cmp.{booleans_Decides}
 use Rattle.tb_geom.specs.declared.rect.Rect.{Rect}
 use Rattle.tb_geom.proofs.RectLemmas.{same_rect}
 use Rattle.bit_map.specs.declared.mode.Mode.{Mode}
@@ -17,10 +19,12 @@ use Rattle.looks.specs.declared.pen.Baseline.{Baseline}
 use Rattle.looks.specs.declared.pen.Baseline.TheVariants.{At as AtRow, Middle as MiddleRow}
 use Rattle.looks.specs.declared.pen.Plate.{Plate}
 use Rattle.draw_port.specs.declared.shapes.Shade.{Shade}
+use Rattle.shape_strips.specs.declared.corner.Corner.{Corner}
+use Rattle.looks.specs.declared.rounded.Rounded.{Rounded}
 use Rattle.looks.specs.declared.step.Mark.{Mark}
-use Rattle.looks.specs.declared.step.Mark.TheVariants.{Fill, Frame, Behind, Text, Cross}
+use Rattle.looks.specs.declared.step.Mark.TheVariants.{Fill, Frame, Behind, Text, Cross, Round}
 use Rattle.looks.specs.declared.step.Step.{Step}
-use Rattle.looks.specs.Same.{same_rects, same_shades, same_marks, same_plates, same_pens, same_baselines}
+use Rattle.looks.specs.Same.{same_rects, same_shades, same_marks, same_plates, same_pens, same_baselines, same_corners, same_rounded}
 
 pub rects_same : (a b : Rect) → same_rects a b ≡ true → a ≡ b
 rects_same a b e =
@@ -78,12 +82,24 @@ baselines_same (MiddleRow h) (MiddleRow k) e = ap MiddleRow (eqb-true h k e)
 baselines_same (AtRow x) (MiddleRow k) e = absurd (cc)
 baselines_same (MiddleRow h) (AtRow y) e = absurd (cc)
 
+pub corners_same : (a b : Corner) → same_corners a b ≡ true → a ≡ b
+corners_same a b e =
+    let both = and_parts (nat_eq a.width b.width) (nat_eq a.height b.height) e in
+    λ i. record { width = eqb-true a.width b.width both.0 i; height = eqb-true a.height b.height both.1 i }
+
+pub rounded_same : (a b : Rounded) → same_rounded a b ≡ true → a ≡ b
+rounded_same a b e =
+    let r = and_parts (same_rects a.rect b.rect) (same_corners a.corner b.corner && beq a.inside b.inside) e in
+    let c = and_parts (same_corners a.corner b.corner) (beq a.inside b.inside) r.1 in
+    λ i. record { rect = rects_same a.rect b.rect r.0 i; corner = corners_same a.corner b.corner c.0 i; inside = (booleans_Decides a.inside b.inside).0 c.1 i }
+
 pub marks_same : (a b : Mark) → same_marks a b ≡ true → a ≡ b
 marks_same (Fill r s) (Fill q t) e = let both = and_parts (same_rects r q) (same_shades s t) e in λ i. Fill (rects_same r q both.0 i) (shades_same s t both.1 i)
 marks_same (Frame r s) (Frame q t) e = let both = and_parts (same_rects r q) (same_shades s t) e in λ i. Frame (rects_same r q both.0 i) (shades_same s t both.1 i)
 marks_same (Behind a) (Behind b) e = ap Behind (plates_same a b e)
 marks_same (Text a) (Text b) e = let both = and_parts (same_pens a.pen b.pen) (same_baselines a.baseline b.baseline) e in λ i. Text (record { pen = pens_same a.pen b.pen both.0 i; baseline = baselines_same a.baseline b.baseline both.1 i })
 marks_same (Cross r) (Cross q) e = ap Cross (rects_same r q e)
+marks_same (Round r s) (Round q t) e = let both = and_parts (same_rounded r q) (same_shades s t) e in λ i. Round (rounded_same r q both.0 i) (shades_same s t both.1 i)
 marks_same (Fill r s) (Frame q t) e = absurd (cc)
 marks_same (Fill r s) (Behind q) e = absurd (cc)
 marks_same (Fill r s) (Text q) e = absurd (cc)
@@ -104,6 +120,16 @@ marks_same (Cross r) (Fill q t) e = absurd (cc)
 marks_same (Cross r) (Frame q t) e = absurd (cc)
 marks_same (Cross r) (Behind q) e = absurd (cc)
 marks_same (Cross r) (Text q) e = absurd (cc)
+marks_same (Fill r s) (Round q t) e = absurd (cc)
+marks_same (Frame r s) (Round q t) e = absurd (cc)
+marks_same (Behind a) (Round q t) e = absurd (cc)
+marks_same (Text a) (Round q t) e = absurd (cc)
+marks_same (Cross r) (Round q t) e = absurd (cc)
+marks_same (Round r s) (Fill q t) e = absurd (cc)
+marks_same (Round r s) (Frame q t) e = absurd (cc)
+marks_same (Round r s) (Behind q) e = absurd (cc)
+marks_same (Round r s) (Text q) e = absurd (cc)
+marks_same (Round r s) (Cross q) e = absurd (cc)
 
 pub steps_same : (a b : Step) → a.on ≡ b.on → same_rects a.cut b.cut ≡ true → same_marks a.mark b.mark ≡ true → a ≡ b
 steps_same a b on cut mark = λ i. record { on = on i; cut = rects_same a.cut b.cut cut i; mark = marks_same a.mark b.mark mark i }

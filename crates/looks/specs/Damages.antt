@@ -5,7 +5,7 @@ use Rattle.tb_geom.specs.declared.point.Point.{Point}
 use Rattle.tb_geom.specs.declared.rect.Rect.{Rect}
 use Rattle.tb_geom.specs.Rects.{rect_holds, is_empty_rect, empty_rect, shared_rect, rect_around}
 use Rattle.looks.specs.declared.step.Mark.{Mark}
-use Rattle.looks.specs.declared.step.Mark.TheVariants.{Fill, Frame, Behind, Text, Cross}
+use Rattle.looks.specs.declared.step.Mark.TheVariants.{Fill, Frame, Behind, Text, Cross, Round}
 use Rattle.looks.specs.declared.step.Step.{Step}
 use Rattle.looks.specs.Same.{same_rects, same_marks, shows_text}
 
@@ -22,6 +22,7 @@ abbrev pub mark_reach : Rect → Mark → Rect
 mark_reach cut (Fill r shade) = shared_rect cut r
 mark_reach cut (Frame r shade) = shared_rect cut r
 mark_reach cut (Cross r) = shared_rect cut r
+mark_reach cut (Round r shade) = shared_rect cut r.rect
 mark_reach cut (Behind plate) = cut
 mark_reach cut (Text place) = cut
 

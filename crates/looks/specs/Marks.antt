@@ -15,8 +15,10 @@ use Rattle.looks.specs.declared.pen.Baseline.{Baseline}
 use Rattle.looks.specs.declared.pen.Baseline.TheVariants.{At as AtRow}
 use Rattle.looks.specs.declared.pen.Place.{Place}
 use Rattle.looks.specs.declared.pen.Plate.{Plate}
+use Rattle.shape_strips.specs.declared.corner.Corner.{Corner}
+use Rattle.looks.specs.Rounded.{rounded, rounded_inside, rounded_holds}
 use Rattle.looks.specs.declared.step.Mark.{Mark}
-use Rattle.looks.specs.declared.step.Mark.TheVariants.{Fill, Frame, Behind, Text, Cross}
+use Rattle.looks.specs.declared.step.Mark.TheVariants.{Fill, Frame, Behind, Text, Cross, Round}
 use Rattle.looks.specs.declared.step.Step.{Step}
 
 -- the shades that looks use
@@ -53,6 +55,7 @@ mark_holds t (Frame r shade) p = frame_holds r p
 mark_holds t (Behind plate) p = rect_holds (plate_rect t.width plate) p
 mark_holds t (Text place) p = t.pixel (pen_point t place) p
 mark_holds t (Cross r) p = cross_holds r p
+mark_holds t (Round r shade) p = rounded_holds r p
 
 -- what the mark makes of the bit d at one of its pixels
 abbrev pub mark_value : Mark → Point → Bool → Bool
@@ -61,6 +64,7 @@ mark_value (Frame r shade) p d = shade_value shade p d
 mark_value (Behind plate) p d = false
 mark_value (Text place) p d = true
 mark_value (Cross r) p d = shade_value all_black p d
+mark_value (Round r shade) p d = shade_value shade p d
 
 -- the pixels that a step draws: none where it is off
 unfoldable pub step_holds : Lettering → Step → PixelSet
@@ -119,6 +123,18 @@ light_gray_fill r = record { on = true; cut = r; mark = Fill r light_gray }
 -- both diagonals of a square in black
 abbrev pub black_cross : Rect → Step
 black_cross r = record { on = true; cut = r; mark = Cross r }
+
+-- black on a rectangle with rounded corners
+abbrev pub black_round : Rect → Corner → Step
+black_round r c = record { on = true; cut = r; mark = Round (rounded r c) all_black }
+
+-- white on what a frame of one pixel leaves of it
+abbrev pub white_inside : Rect → Corner → Step
+white_inside r c = record { on = true; cut = r; mark = Round (rounded_inside r c) all_white }
+
+-- each pixel of that turned
+abbrev pub inverted_inside : Rect → Corner → Step
+inverted_inside r c = record { on = true; cut = r; mark = Round (rounded_inside r c) turned }
 
 -- the step, where the test holds
 abbrev pub when : Bool → Step → Step

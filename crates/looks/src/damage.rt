@@ -66,6 +66,7 @@ fn reach_of(step: Step) -> Rect
             Mark::Fill(rect, _) => step.cut.sect(rect),
             Mark::Frame(rect, _) => step.cut.sect(rect),
             Mark::Cross(rect) => step.cut.sect(rect),
+            Mark::Round(rounded, _) => step.cut.sect(rounded.rect),
             Mark::Behind(_) | Mark::Text(_) => step.cut,
         }
     } else {

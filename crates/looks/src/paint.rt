@@ -8,6 +8,7 @@ ghost use Rattle.looks.specs.Marks.{step_value, mark_holds, mark_value};
 
 use crate::cross::cross;
 use crate::pen::{pen_point, plate_rect};
+use crate::rounded::round;
 use crate::step::{Mark, Step};
 use bit_map::{Mode, Pattern};
 use draw_port::{Canvas, Op, Shade, Shape, placed_within};
@@ -57,6 +58,7 @@ fn mark(canvas: &mut Canvas<'_>, mark: Mark, text: &[u8])
             canvas.text(text, pen, Mode::Or);
         }
         Mark::Cross(rect) => cross(canvas, rect),
+        Mark::Round(rounded, shade) => round(canvas, rounded, shade),
     }
 }
 

@@ -2,10 +2,13 @@
 ghost use Rattle.std.specs.Prelude.{◌≡◌, true, ◌||◌, ◌&&◌, not};
 ghost use Rattle.looks.specs.Damages.{same_steps};
 ghost use Rattle.looks.specs.Same.{same_rects, same_shades, same_marks, same_plates, same_pens, same_baselines, shows_text};
+ghost use Rattle.looks.specs.Same.{same_corners, same_rounded};
 
 use crate::pen::{Baseline, Pen, Place, Plate};
+use crate::rounded::Rounded;
 use crate::step::{Mark, Step};
 use draw_port::Shade;
+use shape_strips::Corner;
 use tb_geom::Rect;
 
 /// Whether the two are the same step. Where it says so, they are.
@@ -40,7 +43,23 @@ fn same_marks(a: Mark, b: Mark) -> bool
             Mark::Cross(q) => same_rects(r, q),
             _ => false,
         },
+        Mark::Round(r, s) => match b {
+            Mark::Round(q, t) => same_rounded(r, q) && same_shades(s, t),
+            _ => false,
+        },
     }
+}
+
+fn same_rounded(a: Rounded, b: Rounded) -> bool
+    ensures { result ≡ same_rounded a b }
+{
+    same_rects(a.rect, b.rect) && (same_corners(a.corner, b.corner) && a.inside == b.inside)
+}
+
+fn same_corners(a: Corner, b: Corner) -> bool
+    ensures { result ≡ same_corners a b }
+{
+    a.width == b.width && a.height == b.height
 }
 
 fn same_plates(a: Plate, b: Plate) -> bool
@@ -90,7 +109,7 @@ pub(crate) fn keeps_text(mark: Mark, same_text: bool) -> bool
     ensures { result ≡ (same_text || not (shows_text mark)) }
 {
     match mark {
-        Mark::Fill(_, _) | Mark::Frame(_, _) | Mark::Cross(_) => true,
+        Mark::Fill(_, _) | Mark::Frame(_, _) | Mark::Cross(_) | Mark::Round(_, _) => true,
         Mark::Behind(_) | Mark::Text(_) => same_text,
     }
 }

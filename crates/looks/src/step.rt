@@ -2,11 +2,14 @@
 ghost use Rattle.std.specs.Prelude.{◌≡◌, false};
 ghost use Rattle.looks.specs.Marks.{black_fill, white_fill, black_frame, white_plate, black_text, when, cut_to};
 ghost use Rattle.looks.specs.Marks.{placed_text, text_at, centred_text, grayed, inverted, light_gray_fill, black_cross};
+ghost use Rattle.looks.specs.Marks.{black_round, white_inside, inverted_inside};
 
 use crate::pen::{Baseline, Pen, Place, Plate};
 use crate::rects::sides;
+use crate::rounded::Rounded;
 use bit_map::{Mode, Pattern};
 use draw_port::Shade;
+use shape_strips::Corner;
 use tb_geom::Rect;
 
 /// What a step draws.
@@ -23,6 +26,8 @@ pub enum Mark {
     /// Both diagonals of a square in black: of any rectangle, those from its two upper corners on, as far
     /// as they lie in it.
     Cross(Rect),
+    /// A rectangle with rounded corners, or what its frame leaves.
+    Round(Rounded, Shade),
 }
 
 /// A step of a look. It draws nothing where it is off.
@@ -164,6 +169,39 @@ impl Step {
             on: true,
             cut: rect,
             mark: Mark::Cross(rect),
+        }
+    }
+
+    /// Black on a rectangle with rounded corners.
+    pub fn black_round(rect: Rect, corner: Corner) -> Step
+        ensures { result ≡ black_round rect corner }
+    {
+        Step {
+            on: true,
+            cut: rect,
+            mark: Mark::Round(Rounded::whole(rect, corner), BLACK),
+        }
+    }
+
+    /// White on what a frame of one pixel leaves of it.
+    pub fn white_inside(rect: Rect, corner: Corner) -> Step
+        ensures { result ≡ white_inside rect corner }
+    {
+        Step {
+            on: true,
+            cut: rect,
+            mark: Mark::Round(Rounded::inside_of(rect, corner), WHITE),
+        }
+    }
+
+    /// Each pixel of that in its other color.
+    pub fn inverted_inside(rect: Rect, corner: Corner) -> Step
+        ensures { result ≡ inverted_inside rect corner }
+    {
+        Step {
+            on: true,
+            cut: rect,
+            mark: Mark::Round(Rounded::inside_of(rect, corner), TURNED),
         }
     }
 

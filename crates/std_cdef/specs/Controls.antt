@@ -17,7 +17,7 @@ use Rattle.looks.specs.Letters.{lettering}
 use Rattle.looks.specs.Marks.{look_bit}
 use Rattle.std_cdef.specs.declared.check.Variation.{Variation}
 use Rattle.std_cdef.specs.Thumbs.{thumb_value}
-use Rattle.std_cdef.specs.Looks.{button_look, box_look, scroll_look}
+use Rattle.std_cdef.specs.Looks.{button_look, round_button_look, box_look, scroll_look}
 use Rattle.std_cdef.specs.Hits.{whole_hit, scroll_hit}
 
 -- a control whose region is its rectangle, by what it looks like, its parts, where a dragged thumb leads, and how much of it is drawn
@@ -53,6 +53,12 @@ button_part k = whole_hit Button k.size
 
 abbrev pub button_damaged : (old new : KeptControl) → PixelSet
 button_damaged = looked_damaged (λ k. button_look k.size k.highlight)
+
+abbrev pub round_button_seen : KeptControl → List ℕ → PixelSet
+round_button_seen k font = look_bit (lettering font k.title) (round_button_look k.size k.highlight)
+
+abbrev pub round_button_damaged : (old new : KeptControl) → PixelSet
+round_button_damaged = looked_damaged (λ k. round_button_look k.size k.highlight)
 
 abbrev pub box_seen : Variation → KeptControl → List ℕ → PixelSet
 box_seen kind k font = look_bit (lettering font k.title) (box_look kind k.size k.values k.highlight)

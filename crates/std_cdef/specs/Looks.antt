@@ -1,5 +1,5 @@
 -- What the standard controls look like, as lists of steps, from white.
-use Rattle.std.specs.Prelude.{ℕ, pos, nat_abs, Bool, not, ◌&&◌, nat_eq, List, [], ◌∷◌}
+use Rattle.std.specs.Prelude.{ℕ, ◌/◌, pos, nat_abs, Bool, not, ◌&&◌, nat_eq, List, [], ◌∷◌}
 use Rattle.std.specs.Ordering.{int_eq}
 use Rattle.control_values.specs.Settings.{Setting}
 use Rattle.control_values.specs.Parts.{number_of}
@@ -8,6 +8,8 @@ use Rattle.def_iface.specs.declared.size.Size.{Size}
 use Rattle.def_iface.specs.Sizes.{rect_of}
 use Rattle.looks.specs.declared.step.Step.{Step}
 use Rattle.looks.specs.Marks.{black_fill, white_fill, black_frame, black_cross, light_gray_fill, grayed, inverted, centred_text, text_at, when}
+use Rattle.looks.specs.Marks.{black_round, white_inside, inverted_inside}
+use Rattle.shape_strips.specs.declared.corner.Corner.{Corner}
 use Rattle.std_cdef.specs.declared.check.Variation.{Variation}
 use Rattle.std_cdef.specs.declared.check.Variation.TheVariants as check
 use Rattle.std_cdef.specs.Axes.{middle_of, is_long, first_box, last_box, track, by_box}
@@ -22,6 +24,20 @@ button_look s highlight =
     black_frame (rect_of s)
     ∷ centred_text (rect_of s) (nat_abs s.width) (middle_of s)
     ∷ when (nat_eq highlight (number_of Button)) (inverted (rect_of s))
+    ∷ when (is_inactive highlight) (grayed (rect_of s))
+    ∷ []
+
+-- corners of half a button's height
+abbrev pub half_corner : Size → Corner
+half_corner s = record { width = nat_abs s.height / 2; height = nat_abs s.height / 2 }
+
+-- a button with rounded corners: its frame, its title in the middle; what the frame leaves inverted, or all of it gray
+unfoldable pub round_button_look : Size → ℕ → List Step
+round_button_look s highlight =
+    black_round (rect_of s) (half_corner s)
+    ∷ white_inside (rect_of s) (half_corner s)
+    ∷ centred_text (rect_of s) (nat_abs s.width) (middle_of s)
+    ∷ when (nat_eq highlight (number_of Button)) (inverted_inside (rect_of s) (half_corner s))
     ∷ when (is_inactive highlight) (grayed (rect_of s))
     ∷ []
 

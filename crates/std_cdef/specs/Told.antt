@@ -12,8 +12,10 @@ use Rattle.def_iface.specs.ControlKeeping.{nothing_kept, kept_after}
 use Rattle.std_cdef.specs.declared.button.ButtonLook.{ButtonLook}
 use Rattle.std_cdef.specs.declared.check.Variation.{Variation}
 use Rattle.std_cdef.specs.declared.control.StdControl.{StdControl}
+use Rattle.std_cdef.specs.declared.round_button.RoundButtonLook.{RoundButtonLook}
 use Rattle.std_cdef.specs.declared.scroll.ScrollLook.{ScrollLook}
 use Rattle.std_cdef.specs.Controls.{std_control, same_value, button_seen, button_part, button_damaged, box_seen, box_part, box_damaged}
+use Rattle.std_cdef.specs.Controls.{round_button_seen, round_button_damaged}
 use Rattle.std_cdef.specs.Controls.{scroll_seen, scroll_part, scrolled_value, scroll_damaged}
 
 module _ {L : Type 0} where
@@ -34,9 +36,12 @@ module _ {L : Type 0} where
   abbrev pub std_at : Stage → StdControl L → StdControl L
   std_at stage b = record b { stage = stage }
 
--- what buttons, check boxes and radio buttons, and scroll bars are
+-- what buttons, those with rounded corners, check boxes and radio buttons, and scroll bars are
 abbrev pub button_meaning : StdControl ButtonLook → ControlDefinition
 button_meaning = std_meaning (λ _. button_seen) (λ _. button_part) (λ _. same_value) (λ _. button_damaged)
+
+abbrev pub round_button_meaning : StdControl RoundButtonLook → ControlDefinition
+round_button_meaning = std_meaning (λ _. round_button_seen) (λ _. button_part) (λ _. same_value) (λ _. round_button_damaged)
 
 abbrev pub check_meaning : StdControl Variation → ControlDefinition
 check_meaning = std_meaning box_seen (λ _. box_part) (λ _. same_value) box_damaged
@@ -47,6 +52,9 @@ scroll_meaning = std_meaning (λ _. scroll_seen) (λ _. scroll_part) (λ _. scro
 -- those that were told nothing yet
 abbrev pub fresh_button : StdControl ButtonLook
 fresh_button = record { look = record {}; stage = Fresh; kept = nothing_kept }
+
+abbrev pub fresh_round_button : StdControl RoundButtonLook
+fresh_round_button = record { look = record {}; stage = Fresh; kept = nothing_kept }
 
 abbrev pub fresh_check : Variation → StdControl Variation
 fresh_check variation = fresh_std variation

@@ -76,6 +76,17 @@ fn button_damage(old: &KeptControl, new: &KeptControl, same_title: bool) -> Rect
     }
 }
 
+/// The part of a button that a point lies in: all of its rectangle is one.
+pub(crate) fn button_hit(kept: &KeptControl, point: Point) -> Option<ControlPart>
+    ensures { result ≡ button_part kept.now point }
+{
+    if kept.size.rect().contains(point) {
+        Some(ControlPart::Button)
+    } else {
+        None
+    }
+}
+
 impl ControlLook for ButtonLook {
     ghost seen = { λ _. button_seen };
 
@@ -90,11 +101,7 @@ impl ControlLook for ButtonLook {
     }
 
     fn hit(&self, kept: &KeptControl, point: Point) -> Option<ControlPart> {
-        if kept.size.rect().contains(point) {
-            Some(ControlPart::Button)
-        } else {
-            None
-        }
+        button_hit(kept, point)
     }
 
     fn thumb_value(&self, kept: &KeptControl, _from: Point, _to: Point) -> i16 {

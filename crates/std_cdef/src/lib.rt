@@ -2,7 +2,7 @@
 //! Definition Functions").
 //!
 //! `StdControl` is the definition of each, and they differ in their `ControlLook` alone: `StdButton` is that
-//! of a simple button, `StdCheck` that of a check box and of a radio button (its look is a `Variation`, which
+//! of a simple button, `StdRoundButton` that of one with rounded corners, `StdCheck` that of a check box and of a radio button (its look is a `Variation`, which
 //! says which), and `StdScroll` that of a scroll bar. The pixels of each are all those of its rectangle.
 //!
 //! What a control looks like, which part of it a point lies in, and where a scroll bar's thumb is, are
@@ -21,6 +21,7 @@ mod check;
 mod control;
 pub mod laws;
 mod rects;
+mod round_button;
 mod scroll;
 mod scroll_bar;
 mod thumb;
@@ -29,4 +30,5 @@ mod titles;
 pub use button::{ButtonLook, StdButton};
 pub use check::{StdCheck, Variation};
 pub use control::{ControlLook, StdControl};
+pub use round_button::{RoundButtonLook, StdRoundButton};
 pub use scroll::{ScrollLook, StdScroll};

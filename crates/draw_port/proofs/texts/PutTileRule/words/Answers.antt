@@ -1,4 +1,4 @@
-use Rattle.std.proofs.Common.{◌≡◌, ◌≢◌, ◌≤◌, ◌*◌, ◌+◌, ◌∙◌, ◌+ℤ◌, ◌-ℤ◌, pos, true, ap, get_or, cond, SFits, w32, w64, rules, arith, get_or-set_other}
+use Rattle.std.proofs.Common.{◌≡◌, ◌≢◌, ◌*◌, ◌+◌, ◌∙◌, ◌+ℤ◌, ◌-ℤ◌, pos, true, ap, get_or, cond, SFits, w32, w64, rules, arith, get_or-set_other}
 use Rattle.std.proofs.lemmas.Int.{ints, to_z-of_z}
 use Rattle.bit_map.specs.Modes.{mode_bit}
 use Rattle.bit_map.specs.Words.{bit_in}
