@@ -1,4 +1,4 @@
-//! Buttons, check boxes and radio buttons.
+//! Buttons of both kinds, check boxes and radio buttons.
 ghost use Rattle.std.specs.Prelude.{◌≡◌};
 
 use crate::checksum::Checksum;
@@ -7,20 +7,22 @@ use crate::sizes::{GROUPS, Widths, sizes};
 use crate::tools::Tools;
 use anyhow::Result;
 use def_iface::{ControlDef, Size, Stage};
-use std_cdef::{StdButton, StdCheck, Variation};
+use std_cdef::{StdButton, StdCheck, StdRoundButton, Variation};
 use tb_geom::Refusal;
 
 /// What is drawn.
 #[derive(Clone, Copy)]
 enum Kind {
     Button,
+    RoundButton,
     Check,
     Radio,
 }
 
 /// The kinds with their names and the part codes that they have.
-const KINDS: [(Kind, &str, i32); 3] = [
+const KINDS: [(Kind, &str, i32); 4] = [
     (Kind::Button, "button", 10),
+    (Kind::RoundButton, "rbutton", 10),
     (Kind::Check, "check", 11),
     (Kind::Radio, "radio", 11),
 ];
@@ -56,6 +58,7 @@ fn add_kind(
 ) -> Result<(), Refusal> {
     match kind {
         Kind::Button => add_fresh(sum, tools, StdButton::new(), size, numbers),
+        Kind::RoundButton => add_fresh(sum, tools, StdRoundButton::new(), size, numbers),
         Kind::Check => {
             let check = StdCheck::new(Variation::CheckBox);
             add_fresh(sum, tools, check, size, numbers)
