@@ -6,7 +6,7 @@
 //! asked with a `Lettering`, which is a font with the text, and is drawn with the canvas's font.
 //! `draw_look` draws any look. `damage_between` compares two looks of as many steps, and answers a
 //! rectangle outside which they are equal in every font. So a step that is not wanted is switched off,
-//! and not left out.
+//! and not left out. A `Rounded` is a rectangle with rounded corners, or what a frame of one pixel leaves of it.
 //!
 //! Where several texts stand together, as in a row of a menu, each step has its own: `draw_lettered` draws
 //! such steps over what stands there, and `draw_step` draws a single one.
