@@ -2,5 +2,6 @@
 pub mod PaintLemmas
 pub mod CrossLemmas
 pub mod DamageLemmas
+pub mod RoundedLemmas
 pub mod SameLemmas
 pub mod AreaLemmas
