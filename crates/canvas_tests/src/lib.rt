@@ -8,3 +8,5 @@
 
 #[cfg(test)]
 mod canvases;
+#[cfg(test)]
+mod strips;

@@ -49,7 +49,7 @@ module _ (Holds : SessionState → Type 0)
   said_keeps : (old : ScriptState) (line : Option (Result Command Refusal)) (text : List ℕ) (new : ScriptState) → SaidAnswers raw old line text new → HoldsOf old → HoldsOf new
   said_keeps old None text new answered holds = subst HoldsOf (sym answered.1) holds
   said_keeps old (Some (Err e)) text new answered holds = subst HoldsOf (sym answered.1) holds
-  said_keeps old (Some (Ok command)) text new answered holds = takes_keeping (why_unread old.is_begun command) old command text new answered holds
+  said_keeps old (Some (Ok command)) text new answered holds = takes_keeping (why_unread old.is_begun old.version command) old command text new answered holds
 
   pub written_keeps : (old : ScriptState) (lines : List (List ℕ)) (text : List ℕ) (new : ScriptState) → Written raw old lines text new → HoldsOf old → HoldsOf new
   written_keeps old [] text new written holds = subst HoldsOf (sym written.1) holds

@@ -55,7 +55,7 @@ obeys_images (made s) command text new (after, answered, is) = answers_images s 
 
 -- `image` is of every version, and is not refused
 takes_images : (why : Option Refusal) (old : ScriptState) (command : Command) (text : List ℕ) (new : ScriptState)
-    → why_unread old.is_begun command ≡ why → Takes true why old command text new → AreImages (asked command) text
+    → why_unread old.is_begun old.version command ≡ why → Takes true why old command text new → AreImages (asked command) text
 takes_images None old (Version number) text new is taken = subst (AreImages 0) (sym taken.0) none
 takes_images None old command text new is (after, obeyed, then) = obeys_images old.session command text after obeyed
 takes_images (Some e) old Image text new is taken =
@@ -66,7 +66,7 @@ takes_images (Some e) old command text new is taken = subst (AreImages 0) (sym t
 said_images : (old : ScriptState) (says : Option (Result Command Refusal)) (text : List ℕ) (new : ScriptState) → SaidAnswers true old says text new → AreImages (cond (asks_image says) 1 0) text
 said_images old None text new answered = subst (AreImages 0) (sym answered.0) none
 said_images old (Some (Err e)) text new answered = subst (AreImages 0) (sym answered.0) none
-said_images old (Some (Ok command)) text new taken = takes_images (why_unread old.is_begun command) old command text new refl taken
+said_images old (Some (Ok command)) text new taken = takes_images (why_unread old.is_begun old.version command) old command text new refl taken
 
 -- `image` is said alike in every version
 image_alike : (one another : ℤ) (line : List ℕ) → asks_image (said one line) ≡ asks_image (said another line)

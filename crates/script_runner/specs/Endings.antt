@@ -36,7 +36,7 @@ CommandEnds raw session command after old new r =
 -- a command of a script was answered, as far as writing went
 abbrev pub IsTaken : {X : Type 0} → Bool → ScriptState → Command → ScriptState → Output → Output → Result X Refusal → Type 0
 IsTaken raw old command new before after r =
-    SendsSome (λ text. Takes raw (why_unread old.is_begun command) old command text new) before after r
+    SendsSome (λ text. Takes raw (why_unread old.is_begun old.version command) old command text new) before after r
 
 -- there was no memory for the desk that a command of a script was to make: it is taken, and nothing was done or written
 pub record IsDenied (old : ScriptState) (command : Command) (new : ScriptState) (before after : Output) (e : Refusal) : Type 0 where

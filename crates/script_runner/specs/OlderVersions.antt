@@ -1,7 +1,8 @@
 -- What scripts of version 1 wrote before there were versions, and those of version 2 before there was version 3.
-use Rattle.std.specs.Prelude.{◌≡◌, ◌⊎◌, ℕ, ℤ, pos, Bool, true, false, List, [], ◌∷◌, ◌++◌, Option, None, Some, Result, Ok, Err}
+use Rattle.std.specs.Prelude.{◌≡◌, ◌⊎◌, ℕ, ℤ, pos, Bool, true, false, if◌then◌else◌, List, [], ◌∷◌, ◌++◌, Option, None, Some, Result, Ok, Err}
 use Rattle.tb_geom.specs.declared.refusal.Refusal.{Refusal}
-use Rattle.tb_geom.specs.declared.refusal.Refusal.TheVariants.{BadSyntax}
+use Rattle.tb_geom.specs.declared.refusal.Refusal.TheVariants.{BadSyntax, NoSuchName}
+use Rattle.desk_call.specs.declared.call.Call.{Call as Asked}
 use Rattle.desk_call.specs.declared.call.Call.TheVariants.{Window}
 use Rattle.desk_call.specs.declared.window.WindowCall.TheVariants.{NewFloating}
 use Rattle.script_text.specs.declared.command.Command.{Command}
@@ -9,17 +10,24 @@ use Rattle.script_text.specs.declared.command.Command.TheVariants.{Version, Call
 use Rattle.script_text.specs.Lines.{said}
 use Rattle.script_text.specs.Replies.{refused_text}
 use Rattle.line_words.specs.Replies.{done_text}
+use Rattle.script_runner.specs.Script.{names_later_kind}
 use Rattle.script_runner.specs.Session.{SessionState, Obeys, reply_shown}
 
--- what a line said before there were versions, by what it says in version 2: then there was no `version` and no `float`
+-- what a call said before there was version 3: then there were no windows and buttons with rounded corners
+abbrev pub called_before : Asked → Option (Result Command Refusal)
+called_before call = if names_later_kind call then Some (Err NoSuchName) else Some (Ok (Call call))
+
+-- what a line said before there were versions, by what it says in version 2: then there was no `version` and no `float` either
 abbrev pub said_before : Option (Result Command Refusal) → Option (Result Command Refusal)
 said_before (Some (Ok (Version number))) = Some (Err BadSyntax)
 said_before (Some (Ok (Call (Window (NewFloating w))))) = Some (Err BadSyntax)
+said_before (Some (Ok (Call call))) = called_before call
 said_before says = says
 
--- what a line says behind the first that is answered, where a version stands too late
+-- what a line of version 2 said before there was version 3, behind the first that is answered, where a version stands too late
 abbrev pub said_behind : Option (Result Command Refusal) → Option (Result Command Refusal)
 said_behind (Some (Ok (Version number))) = Some (Err BadSyntax)
+said_behind (Some (Ok (Call call))) = called_before call
 said_behind says = says
 
 -- whether a version is said, or else by what follows, where nothing is said

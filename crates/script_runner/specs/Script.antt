@@ -1,10 +1,15 @@
 -- What the lines of a script do, and what they answer: some are about the script itself, and the others about its desk.
-use Rattle.std.specs.Prelude.{◌≡◌, ℕ, ℤ, pos, int_le, Bool, true, false, ◌&&◌, List, [], ◌∷◌, ◌++◌, Option, None, Some, Result, Ok, Err, if◌then◌else◌}
+use Rattle.std.specs.Prelude.{◌≡◌, ℕ, ℤ, pos, int_le, int_lt, codes, is_none, Bool, true, false, ◌&&◌, List, [], ◌∷◌, ◌++◌, Option, None, Some, Result, Ok, Err, if◌then◌else◌}
 use Rattle.tb_geom.specs.declared.refusal.Refusal.{Refusal}
-use Rattle.tb_geom.specs.declared.refusal.Refusal.TheVariants.{BadSyntax, OutOfRange}
+use Rattle.tb_geom.specs.declared.refusal.Refusal.TheVariants.{BadSyntax, OutOfRange, NoSuchName}
+use Rattle.std.specs.Str.{bytes_eq}
 use Rattle.def_iface.specs.Stocks.{AllSlots}
+use Rattle.desk_call.specs.declared.call.Call.{Call as Asked}
+use Rattle.desk_call.specs.declared.call.Call.TheVariants.{Window, Control}
+use Rattle.desk_call.specs.declared.control.ControlCall.TheVariants as controls
+use Rattle.desk_call.specs.declared.window.WindowCall.TheVariants.{New, NewFloating}
 use Rattle.script_text.specs.declared.command.Command.{Command}
-use Rattle.script_text.specs.declared.command.Command.TheVariants.{Version}
+use Rattle.script_text.specs.declared.command.Command.TheVariants.{Version, Call}
 use Rattle.script_text.specs.Lines.{said}
 use Rattle.script_text.specs.Replies.{refused_text}
 use Rattle.line_words.specs.Replies.{done_text}
@@ -28,16 +33,28 @@ begun s = record s { is_begun = true }
 abbrev pub is_version : ℤ → Bool
 is_version number = int_le (pos 1) number && int_le number (pos 3)
 
--- why a command is refused whatever desk there is, where a line was answered or not: a version stands first, and there is one
--- of its number
-abbrev pub why_unread : Bool → Command → Option Refusal
-why_unread is_begun (Version number) = if is_begun then Some BadSyntax else (if is_version number then None else Some OutOfRange)
-why_unread is_begun _ = None
+-- whether a call names a kind that version 3 brought: windows and buttons with rounded corners
+abbrev pub names_later_kind : Asked → Bool
+names_later_kind (Window (New w)) = bytes_eq w.kind (codes "round")
+names_later_kind (Window (NewFloating w)) = bytes_eq w.kind (codes "round")
+names_later_kind (Control (controls.New n)) = bytes_eq n.kind (codes "rbutton")
+names_later_kind _ = false
+
+-- why such a call is refused: an older version has not the kind
+abbrev pub why_unnamed : ℤ → Option Refusal
+why_unnamed version = if int_lt version (pos 3) then Some NoSuchName else None
+
+-- why a command is refused whatever desk there is, in a script of this version in which a line was answered or not: a version
+-- stands first, and there is one of its number; a kind is one that the version has
+abbrev pub why_unread : Bool → ℤ → Command → Option Refusal
+why_unread is_begun version (Version number) = if is_begun then Some BadSyntax else (if is_version number then None else Some OutOfRange)
+why_unread is_begun version (Call call) = if names_later_kind call then why_unnamed version else None
+why_unread is_begun version _ = None
 
 -- whether the command is the one that makes the script's desk
 abbrev pub makes_desk_of : ScriptState → Command → Bool
 makes_desk_of s (Version number) = false
-makes_desk_of s command = makes_desk s.session command
+makes_desk_of s command = is_none (why_unread s.is_begun s.version command) && makes_desk s.session command
 
 -- `raw` says whether a run is raw: whether it shows images alone
 module _ (raw : Bool) where
@@ -52,7 +69,7 @@ module _ (raw : Bool) where
   abbrev pub SaidAnswers : ScriptState → Option (Result Command Refusal) → List ℕ → ScriptState → Type 0
   SaidAnswers old None text new = (text ≡ []) × (new ≡ old)
   SaidAnswers old (Some (Err e)) text new = (text ≡ reply_shown raw (refused_text e)) × (new ≡ begun old)
-  SaidAnswers old (Some (Ok command)) text new = Takes (why_unread old.is_begun command) old command text new
+  SaidAnswers old (Some (Ok command)) text new = Takes (why_unread old.is_begun old.version command) old command text new
 
   -- the lines, one after another, may be answered by this text, and leave this: each is read in the version that the script
   -- has by then

@@ -29,7 +29,8 @@ pub fn raw_runs_write_images_alone()
 {}
 
 /// Where the first line that is answered says no version, a script's lines write what they wrote before there were versions,
-/// and do to the desk what they did: each line that says a version or asks for a floating window is BadSyntax.
+/// and do to the desk what they did: each line that says a version or asks for a floating window is BadSyntax, and a kind that
+/// version 3 brought is NoSuchName.
 #[tactic(auto, using(crate::proofs::OlderRuns::written_as_before))]
 pub fn scripts_of_version_1_write_what_they_wrote()
     ensures { (raw : Bool) (font : List ℕ) (stocks : AllSlots) (lines : List (List ℕ)) (text : List ℕ)
@@ -39,7 +40,8 @@ pub fn scripts_of_version_1_write_what_they_wrote()
 {}
 
 /// Where the first line that is answered says version 2, the lines behind it write what they wrote before there was version 3,
-/// and do to the desk what they did: they are read in version 2, and each that says a version is BadSyntax.
+/// and do to the desk what they did: they are read in version 2, each that says a version is BadSyntax, and a kind that
+/// version 3 brought is NoSuchName.
 #[tactic(auto, using(crate::proofs::OlderRuns::written_in_version_2))]
 pub fn scripts_of_version_2_write_what_they_wrote()
     ensures { (raw : Bool) (font : List ℕ) (stocks : AllSlots) (lines behind : List (List ℕ)) (text : List ℕ)

@@ -1,9 +1,9 @@
 //! A script at work: its desk, the version of its commands, and whether a line was answered.
-ghost use Rattle.std.specs.Prelude.{◌≡◌, pos, Some, None, OnOk, false};
+ghost use Rattle.std.specs.Prelude.{◌≡◌, Bool, ℤ, pos, Some, None, OnOk, false};
 ghost use Rattle.def_iface.specs.Stocks.{AllSlots, AreAllFull};
 ghost use Rattle.script_runner.specs.Checks.{IsCheckLine};
 ghost use Rattle.script_runner.specs.Endings.{LineEnds, TakeEnds};
-ghost use Rattle.script_runner.specs.Script.{is_version, why_unread};
+ghost use Rattle.script_runner.specs.Script.{is_version, names_later_kind, why_unread};
 ghost use Rattle.script_runner.specs.Session.{LeavesStock};
 ghost use Rattle.script_runner.specs.Writers.{IsSameWriter, SendsSome};
 
@@ -11,6 +11,7 @@ use crate::answer_writer::AnswerWriter;
 use crate::on_stock::{OnStock, ScriptOnStock};
 use crate::session::Session;
 use def_iface::{Stock, StockedAll};
+use desk_call::{Call, ControlCall, WindowCall};
 use desk_toolbox::{Desk, Toolbox};
 use script_text::Command;
 use std::alloc::Global;
@@ -100,7 +101,7 @@ impl Script {
             (⟦<Self as ScriptOnStock>⟧.script self.new stock.new)
             (S.output writer.old.sink.now) (S.output writer.new.sink.now) result }
     {
-        let refusal = why_unread(self.is_begun, command);
+        let refusal = why_unread(self.is_begun, self.version, command);
         self.is_begun = true;
         if let Some(refusal) = refusal {
             return writer.reply(&Err(refusal));
@@ -137,19 +138,44 @@ impl Script {
     }
 }
 
-/// Why a command is refused whatever desk there is, where a line was answered or not.
-fn why_unread(is_begun: bool, command: &Command<'_>) -> Option<Refusal>
-    ensures { result ≡ why_unread is_begun command.now }
+/// Why a command is refused whatever desk there is, in a script of this version in which a line was answered or not.
+fn why_unread(is_begun: bool, version: i32, command: &Command<'_>) -> Option<Refusal>
+    ensures { result ≡ why_unread is_begun version command.now }
 {
     match command {
         Command::Version(number) => why_no_version(is_begun, *number),
-        _ => None,
+        Command::Call(call) => why_not_called(version, call),
+        Command::Desk(_) => None,
+        Command::Image => None,
+    }
+}
+
+/// Why a call is refused in a script of this version: a kind that version 3 brought is none in an older one.
+fn why_not_called(version: i32, call: &Call<'_>) -> Option<Refusal>
+    ensures { (is_begun : Bool) → result ≡ why_unread is_begun version (Command.Call call.now) }
+{
+    if names_later_kind(call) && version < 3 {
+        Some(Refusal::NoSuchName)
+    } else {
+        None
+    }
+}
+
+/// Whether a call names a kind that version 3 brought.
+fn names_later_kind(call: &Call<'_>) -> bool
+    ensures { result ≡ names_later_kind call.now }
+{
+    match call {
+        Call::Window(WindowCall::New(new)) => new.kind.as_slice() == b"round".as_slice(),
+        Call::Window(WindowCall::NewFloating(new)) => new.kind.as_slice() == b"round".as_slice(),
+        Call::Control(ControlCall::New(new)) => new.kind.as_slice() == b"rbutton".as_slice(),
+        _ => false,
     }
 }
 
 /// Why a version is refused: it stands first, and is 1 to 3.
 fn why_no_version(is_begun: bool, number: i32) -> Option<Refusal>
-    ensures { result ≡ why_unread is_begun (Command.Version number) }
+    ensures { (version : ℤ) → result ≡ why_unread is_begun version (Command.Version number) }
 {
     if is_begun {
         return Some(Refusal::BadSyntax);
