@@ -1,6 +1,6 @@
 -- An icon on a canvas, and where two icons differ.
-use Rattle.std.proofs.Common.{◌≡◌, ℕ, ℤ, pos, negsuc, ◌-ℤ◌, ◌≤ℤ◌, Bool, true, false, not, cond, ◌&&◌, refl, sym, ap, ◌∙◌, arith, w32, SFits, to_z, of_z}
-use Rattle.std.specs.Prelude.{nat_abs, nat_lt}
+use Rattle.std.proofs.Common.{◌≡◌, ℤ, pos, negsuc, ◌-ℤ◌, ◌≤ℤ◌, Bool, true, false, not, cond, ◌&&◌, refl, sym, ap, ◌∙◌, arith, w32, SFits, to_z, of_z}
+use Rattle.std.specs.Prelude.{nat_abs}
 use Rattle.std.specs.Int.{int_max}
 use Rattle.std.specs.Ordering.{int_eq}
 use Rattle.std.specs.Str.{bytes_eq}

@@ -1,5 +1,5 @@
 -- Icons: controls whose title has the bytes of an image.
-use Rattle.std.specs.Prelude.{ℕ, pos, nat_abs, Bool, true, false, not, ◌&&◌, if◌then◌else◌, List, Option, None}
+use Rattle.std.specs.Prelude.{ℕ, pos, nat_abs, Bool, true, not, ◌&&◌, if◌then◌else◌, List, Option, None}
 use Rattle.std.specs.Int.{int_max}
 use Rattle.std.specs.Ordering.{int_eq}
 use Rattle.std.specs.Str.{bytes_eq}
