@@ -11,6 +11,7 @@ from desk_kit.manual import DRAW, INNER, PATH, read_manual
 # The names of the refusals that lie in the line itself.
 OF_FORM = ("BadSyntax", "NoSuchName", "TooLong")
 CLIP = "clip"
+KIND = "KIND"
 # The version of what is of no later one.
 FIRST_VERSION = 1
 WORD = re.compile(r'"[^"]*"|[^ ]+')
@@ -78,7 +79,8 @@ class Forms:
         command, unknown = known(words[0], self.commands, "command")
         if command is None:
             return Reading(None, unknown)
-        form, version = self.commands[command], self.version_of(command)
+        form = self.commands[command]
+        version = max(self.version_of(command), self.version_of(command, *kind_in(words, form)))
         if command == DRAW and words[2:3] == [CLIP]:
             form = self.clipped
         place = self.place_of_inner(command, form)
@@ -94,6 +96,13 @@ class Forms:
     def place_of_inner(self, command, form):
         """Where the inner form begins in this form of a command, from 0, or None where it has none."""
         return words_of(form).index(INNER[command]) if command in self.inner else None
+
+
+def kind_in(words, form):
+    """The word at the place of a kind in this form, in a list: an empty one where the form has no kind, or the line ends before
+    it."""
+    wanted = words_of(form)
+    return words[wanted.index(KIND) :][:1] if KIND in wanted else []
 
 
 def known(word, names, what):

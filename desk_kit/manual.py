@@ -41,7 +41,8 @@ class Manual:
         self.inner = {it: by_names(self.column(it, word)) for it, word in INNER.items() if it in self.forms}
         self.operations = self.inner[DRAW]
         self.patterns = self.column(DRAW, "PATTERN")
-        # The version from which on a script has a command, or an inner form, as the words that name it: 'float', 'draw oval'.
+        # The version from which on a script has a command, an inner form or a kind, as the words that name it: 'float',
+        # 'draw oval', 'window round'.
         # What is not here is of version 1.
         self.versions = dict(self.versioned()) if VERSION in self.forms else {}
         # What each refusal means, by its number and name.
@@ -70,12 +71,13 @@ class Manual:
         return []
 
     def versioned(self):
-        """Each command and each inner form of a later version, as the words that name it, with that version. In the table
-        inner forms stand below the name of their command, and commands below no name."""
+        """Each command, inner form and kind of a later version, as the words that name it, with that version. In the table
+        inner forms and kinds stand below the names of their commands, and commands below no name."""
         head, *rows = next((it for it in self.tables_of(VERSION) if it[0][0] == "Version"), [[""]])
         for number, *cells in rows:
             for title, cell in zip(head[1:], cells):
-                yield from ((" ".join([*codes_in(title), name]), int(number)) for name in codes_in(cell))
+                for command in codes_in(title) or [""]:
+                    yield from ((f"{command} {name}".lstrip(), int(number)) for name in codes_in(cell))
 
     def kinds_of(self, command):
         """The kinds that a command may name, or none."""

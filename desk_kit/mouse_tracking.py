@@ -15,7 +15,9 @@ THUMB = 129
 # What the parts of a scroll bar are a page of: a part of its range.
 PAGES = 4
 
-KIND_NAMES = {"button": "Button", "check": "Check box", "radio": "Radio button", "scroll": "Scroll bar"}
+KIND_NAMES = {
+    "button": "Button", "rbutton": "Button", "check": "Check box", "radio": "Radio button", "scroll": "Scroll bar",
+}  # fmt: skip
 
 
 def clamped(coordinate):
@@ -273,6 +275,7 @@ class ControlTracking(Tracking):
 
 USES = {
     "button": ControlTracking.pressed,
+    "rbutton": ControlTracking.pressed,
     "check": ControlTracking.checked,
     "radio": ControlTracking.chosen,
     "scroll": ControlTracking.scrolled,

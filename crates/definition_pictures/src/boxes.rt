@@ -1,4 +1,4 @@
-//! Buttons, check boxes and radio buttons.
+//! Buttons of each kind, icons, check boxes and radio buttons.
 ghost use Rattle.std.specs.Prelude.{◌≡◌};
 
 use crate::checksum::Checksum;
@@ -7,20 +7,26 @@ use crate::sizes::{GROUPS, Widths, sizes};
 use crate::tools::Tools;
 use anyhow::Result;
 use def_iface::{ControlDef, Size, Stage};
-use std_cdef::{StdButton, StdCheck, Variation};
+use std_cdef::{StdButton, StdCheck, StdDefaultButton, StdIcon, StdRoundButton, Variation};
 use tb_geom::Refusal;
 
 /// What is drawn.
 #[derive(Clone, Copy)]
 enum Kind {
     Button,
+    RoundButton,
+    DefaultButton,
+    Icon,
     Check,
     Radio,
 }
 
 /// The kinds with their names and the part codes that they have.
-const KINDS: [(Kind, &str, i32); 3] = [
+const KINDS: [(Kind, &str, i32); 6] = [
     (Kind::Button, "button", 10),
+    (Kind::RoundButton, "rbutton", 10),
+    (Kind::DefaultButton, "default-button", 10),
+    (Kind::Icon, "icon-image", 10),
     (Kind::Check, "check", 11),
     (Kind::Radio, "radio", 11),
 ];
@@ -28,21 +34,25 @@ const KINDS: [(Kind, &str, i32); 3] = [
 /// The part code of a part that none of them has.
 const OTHER_PART: i32 = 20;
 
-/// The title of each.
+/// The title of each but icons.
 const TITLE: &[u8] = b"Ag";
+
+/// The bytes of each icon.
+const IMAGE: &[u8] = b"The rows of an icon are the bytes of its title, each of whole bytes, the high bit left";
 
 /// Adds the picture of a Fresh control.
 fn add_fresh<C: ControlDef>(
     sum: &mut Checksum,
     tools: Tools<'_>,
     fresh: C,
+    title: &[u8],
     size: Size,
     numbers: Numbers,
 ) -> Result<(), Refusal>
     requires { (C.control_meaning fresh).stage ≡ Stage.Fresh }
 {
     let mut control = fresh;
-    begin(&mut control, size, TITLE, numbers)?;
+    begin(&mut control, size, title, numbers)?;
     add_picture(sum, tools, &control, size)
 }
 
@@ -55,14 +65,20 @@ fn add_kind(
     numbers: Numbers,
 ) -> Result<(), Refusal> {
     match kind {
-        Kind::Button => add_fresh(sum, tools, StdButton::new(), size, numbers),
+        Kind::Button => add_fresh(sum, tools, StdButton::new(), TITLE, size, numbers),
+        Kind::RoundButton => add_fresh(sum, tools, StdRoundButton::new(), TITLE, size, numbers),
+        Kind::DefaultButton => {
+            let button = StdDefaultButton::new();
+            add_fresh(sum, tools, button, TITLE, size, numbers)
+        }
+        Kind::Icon => add_fresh(sum, tools, StdIcon::new(), IMAGE, size, numbers),
         Kind::Check => {
             let check = StdCheck::new(Variation::CheckBox);
-            add_fresh(sum, tools, check, size, numbers)
+            add_fresh(sum, tools, check, TITLE, size, numbers)
         }
         Kind::Radio => {
             let radio = StdCheck::new(Variation::RadioButton);
-            add_fresh(sum, tools, radio, size, numbers)
+            add_fresh(sum, tools, radio, TITLE, size, numbers)
         }
     }
 }

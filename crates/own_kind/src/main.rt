@@ -38,7 +38,7 @@ const MENUS: u8 = 32;
 const LISTS: u8 = 16;
 
 /// The names of the kinds of window, as scripts have them.
-static WINDOW_KINDS: [&[u8]; 7] = [
+static WINDOW_KINDS: [&[u8]; 8] = [
     b"document",
     b"dialog",
     b"plain",
@@ -46,10 +46,11 @@ static WINDOW_KINDS: [&[u8]; 7] = [
     b"nogrow",
     b"zoom",
     b"notched",
+    b"round",
 ];
 
 /// Those of the kinds of control.
-static CONTROL_KINDS: [&[u8]; 4] = [b"button", b"check", b"radio", b"scroll"];
+static CONTROL_KINDS: [&[u8]; 5] = [b"button", b"check", b"radio", b"scroll", b"rbutton"];
 
 /// Those of the kinds of list: the one of scripts, and one that is its own.
 static LIST_KINDS: [&[u8]; 2] = [b"text", b"gauge"];

@@ -17,8 +17,8 @@ use Rattle.looks.specs.Letters.{lettering}
 use Rattle.looks.specs.Marks.{look_bit}
 use Rattle.std_cdef.specs.declared.check.Variation.{Variation}
 use Rattle.std_cdef.specs.Thumbs.{thumb_value}
-use Rattle.std_cdef.specs.Looks.{button_look, round_button_look, box_look, scroll_look}
-use Rattle.std_cdef.specs.Hits.{whole_hit, scroll_hit}
+use Rattle.std_cdef.specs.Looks.{button_look, default_button_look, round_button_look, box_look, scroll_look}
+use Rattle.std_cdef.specs.Hits.{whole_hit, inset_hit, scroll_hit}
 
 -- a control whose region is its rectangle, by what it looks like, its parts, where a dragged thumb leads, and how much of it is drawn
 -- anew
@@ -59,6 +59,15 @@ round_button_seen k font = look_bit (lettering font k.title) (round_button_look 
 
 abbrev pub round_button_damaged : (old new : KeptControl) → PixelSet
 round_button_damaged = looked_damaged (λ k. round_button_look k.size k.highlight)
+
+abbrev pub default_button_seen : KeptControl → List ℕ → PixelSet
+default_button_seen k font = look_bit (lettering font k.title) (default_button_look k.size k.highlight)
+
+abbrev pub default_button_part : KeptControl → Point → Option ControlPart
+default_button_part k = inset_hit 4 Button k.size
+
+abbrev pub default_button_damaged : (old new : KeptControl) → PixelSet
+default_button_damaged = looked_damaged (λ k. default_button_look k.size k.highlight)
 
 abbrev pub box_seen : Variation → KeptControl → List ℕ → PixelSet
 box_seen kind k font = look_bit (lettering font k.title) (box_look kind k.size k.values k.highlight)

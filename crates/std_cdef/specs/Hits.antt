@@ -10,11 +10,16 @@ use Rattle.def_iface.specs.Sizes.{rect_of}
 use Rattle.looks.specs.declared.spot.Spot.{Spot}
 use Rattle.looks.specs.Spots.{first_part, spot}
 use Rattle.std_cdef.specs.Axes.{first_box, last_box}
+use Rattle.std_cdef.specs.Looks.{inset}
 use Rattle.std_cdef.specs.Thumbs.{thumb, before_thumb, after_thumb, has_thumb}
 
 -- a control that is one part, all of it
 abbrev pub whole_hit : ControlPart → Size → Point → Option ControlPart
 whole_hit part s p = if rect_holds (rect_of s) p then Some part else None
+
+-- a control that is one part, all but a margin of so many pixels
+abbrev pub inset_hit : ℕ → ControlPart → Size → Point → Option ControlPart
+inset_hit margin part s p = if rect_holds (inset margin s) p then Some part else None
 
 -- the parts of a scroll bar: it has none without a thumb
 abbrev pub scroll_spots : Size → Setting → ℕ → List (Spot (Option ControlPart))

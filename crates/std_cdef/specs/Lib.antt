@@ -3,5 +3,6 @@ pub mod Axes
 pub mod Thumbs
 pub mod Looks
 pub mod Hits
+pub mod Icons
 pub mod Controls
 pub mod Told

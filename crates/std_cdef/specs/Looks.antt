@@ -1,13 +1,14 @@
 -- What the standard controls look like, as lists of steps, from white.
-use Rattle.std.specs.Prelude.{ℕ, ◌/◌, pos, nat_abs, Bool, not, ◌&&◌, nat_eq, List, [], ◌∷◌}
+use Rattle.std.specs.Prelude.{ℕ, ◌/◌, pos, ◌-ℤ◌, nat_abs, Bool, not, ◌&&◌, nat_eq, List, [], ◌∷◌}
 use Rattle.std.specs.Ordering.{int_eq}
 use Rattle.control_values.specs.Settings.{Setting}
 use Rattle.control_values.specs.Parts.{number_of}
 use Rattle.control_values.specs.declared.part.ControlPart.TheVariants.{Button, CheckBox, UpButton, DownButton}
+use Rattle.tb_geom.specs.declared.rect.Rect.{Rect}
 use Rattle.def_iface.specs.declared.size.Size.{Size}
 use Rattle.def_iface.specs.Sizes.{rect_of}
 use Rattle.looks.specs.declared.step.Step.{Step}
-use Rattle.looks.specs.Marks.{black_fill, white_fill, black_frame, black_cross, light_gray_fill, grayed, inverted, centred_text, text_at, when}
+use Rattle.looks.specs.Marks.{black_fill, white_fill, black_frame, black_cross, light_gray_fill, grayed, inverted, centred_text, text_at, when, box}
 use Rattle.looks.specs.Marks.{black_round, white_inside, inverted_inside}
 use Rattle.shape_strips.specs.declared.corner.Corner.{Corner}
 use Rattle.std_cdef.specs.declared.check.Variation.{Variation}
@@ -38,6 +39,22 @@ round_button_look s highlight =
     ∷ white_inside (rect_of s) (half_corner s)
     ∷ centred_text (rect_of s) (nat_abs s.width) (middle_of s)
     ∷ when (nat_eq highlight (number_of Button)) (inverted_inside (rect_of s) (half_corner s))
+    ∷ when (is_inactive highlight) (grayed (rect_of s))
+    ∷ []
+
+-- the rectangle of a control less so many pixels at each edge
+abbrev pub inset : ℕ → Size → Rect
+inset d s = box (pos d) (pos d) (s.width -ℤ pos d) (s.height -ℤ pos d)
+
+-- a default button: the pixels less than 3 from an edge black and the others white; 4 from each edge a button, cut to that, with its
+-- title in the middle of the whole; that button inverted, or all of it gray
+unfoldable pub default_button_look : Size → ℕ → List Step
+default_button_look s highlight =
+    black_fill (rect_of s)
+    ∷ white_fill (inset 3 s)
+    ∷ black_frame (inset 4 s)
+    ∷ centred_text (inset 4 s) (nat_abs s.width) (middle_of s)
+    ∷ when (nat_eq highlight (number_of Button)) (inverted (inset 4 s))
     ∷ when (is_inactive highlight) (grayed (rect_of s))
     ∷ []
 

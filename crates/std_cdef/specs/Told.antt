@@ -12,11 +12,15 @@ use Rattle.def_iface.specs.ControlKeeping.{nothing_kept, kept_after}
 use Rattle.std_cdef.specs.declared.button.ButtonLook.{ButtonLook}
 use Rattle.std_cdef.specs.declared.check.Variation.{Variation}
 use Rattle.std_cdef.specs.declared.control.StdControl.{StdControl}
+use Rattle.std_cdef.specs.declared.default_button.DefaultButtonLook.{DefaultButtonLook}
+use Rattle.std_cdef.specs.declared.icon.IconLook.{IconLook}
 use Rattle.std_cdef.specs.declared.round_button.RoundButtonLook.{RoundButtonLook}
 use Rattle.std_cdef.specs.declared.scroll.ScrollLook.{ScrollLook}
 use Rattle.std_cdef.specs.Controls.{std_control, same_value, button_seen, button_part, button_damaged, box_seen, box_part, box_damaged}
 use Rattle.std_cdef.specs.Controls.{round_button_seen, round_button_damaged}
+use Rattle.std_cdef.specs.Controls.{default_button_seen, default_button_part, default_button_damaged}
 use Rattle.std_cdef.specs.Controls.{scroll_seen, scroll_part, scrolled_value, scroll_damaged}
+use Rattle.std_cdef.specs.Icons.{icon_seen, icon_part, icon_damaged}
 
 module _ {L : Type 0} where
   -- what one is, by what it looks like, its parts, where a dragged thumb leads, and how much of it is drawn anew
@@ -36,12 +40,18 @@ module _ {L : Type 0} where
   abbrev pub std_at : Stage → StdControl L → StdControl L
   std_at stage b = record b { stage = stage }
 
--- what buttons, those with rounded corners, check boxes and radio buttons, and scroll bars are
+-- what buttons, those with rounded corners, default buttons, icons, check boxes and radio buttons, and scroll bars are
 abbrev pub button_meaning : StdControl ButtonLook → ControlDefinition
 button_meaning = std_meaning (λ _. button_seen) (λ _. button_part) (λ _. same_value) (λ _. button_damaged)
 
 abbrev pub round_button_meaning : StdControl RoundButtonLook → ControlDefinition
 round_button_meaning = std_meaning (λ _. round_button_seen) (λ _. button_part) (λ _. same_value) (λ _. round_button_damaged)
+
+abbrev pub default_button_meaning : StdControl DefaultButtonLook → ControlDefinition
+default_button_meaning = std_meaning (λ _. default_button_seen) (λ _. default_button_part) (λ _. same_value) (λ _. default_button_damaged)
+
+abbrev pub icon_meaning : StdControl IconLook → ControlDefinition
+icon_meaning = std_meaning (λ _. icon_seen) (λ _. icon_part) (λ _. same_value) (λ _. icon_damaged)
 
 abbrev pub check_meaning : StdControl Variation → ControlDefinition
 check_meaning = std_meaning box_seen (λ _. box_part) (λ _. same_value) box_damaged
@@ -55,6 +65,12 @@ fresh_button = record { look = record {}; stage = Fresh; kept = nothing_kept }
 
 abbrev pub fresh_round_button : StdControl RoundButtonLook
 fresh_round_button = record { look = record {}; stage = Fresh; kept = nothing_kept }
+
+abbrev pub fresh_default_button : StdControl DefaultButtonLook
+fresh_default_button = record { look = record {}; stage = Fresh; kept = nothing_kept }
+
+abbrev pub fresh_icon : StdControl IconLook
+fresh_icon = record { look = record {}; stage = Fresh; kept = nothing_kept }
 
 abbrev pub fresh_check : Variation → StdControl Variation
 fresh_check variation = fresh_std variation

@@ -10,7 +10,7 @@ ghost use Rattle.looks.specs.Damages.{IsWithin, look_damage};
 ghost use Rattle.looks.specs.Letters.{Lettering};
 ghost use Rattle.looks.specs.Marks.{look_bit};
 ghost use Rattle.std_cdef.specs.Axes.{box_top, by_box};
-ghost use Rattle.std_cdef.specs.Looks.{check_text, lit_box, gray_all, is_on, check_look, radio_look, box_look};
+ghost use Rattle.std_cdef.specs.Looks.{check_text, is_on, check_look, radio_look, box_look};
 ghost use Rattle.std_cdef.specs.Controls.{box_damaged, box_seen};
 
 use crate::check::Variation;
@@ -52,21 +52,6 @@ fn check_text(size: Size) -> Step
     Step::text_at(size.rect(), 18, middle(size))
 }
 
-/// The second frame of a box that is highlighted.
-fn lit_box(size: Size, highlight: Highlight) -> Step
-    requires { is_control_size size ≡ true }
-    ensures { result ≡ lit_box size highlight }
-{
-    Step::black_frame(by_box(size, 3, 1, 13, 11)).when(highlight.shows(ControlPart::CheckBox))
-}
-
-/// All of it in gray, where it is inactive.
-fn gray_all(size: Size, highlight: Highlight) -> Step
-    ensures { result ≡ gray_all size highlight }
-{
-    Step::grayed(size.rect()).when(highlight.is_inactive())
-}
-
 /// Whether the control is on.
 fn is_on(values: ControlValues) -> bool
     ensures { result ≡ is_on values }
@@ -80,12 +65,13 @@ fn check_look(size: Size, values: ControlValues, highlight: Highlight) -> [Step;
     requires { is_control_size size ≡ true }
     ensures { result ≡ check_look size values highlight }
 {
+    let lit = highlight.shows(ControlPart::CheckBox);
     [
         Step::black_frame(by_box(size, 2, 0, 14, 12)),
         Step::black_cross(by_box(size, 3, 1, 13, 11)).when(is_on(values)),
         check_text(size),
-        lit_box(size, highlight),
-        gray_all(size, highlight),
+        Step::black_frame(by_box(size, 3, 1, 13, 11)).when(lit),
+        Step::grayed(size.rect()).when(highlight.is_inactive()),
     ]
 }
 
@@ -95,6 +81,7 @@ fn radio_look(size: Size, values: ControlValues, highlight: Highlight) -> [Step;
     requires { is_control_size size ≡ true }
     ensures { result ≡ radio_look size values highlight }
 {
+    let lit = highlight.shows(ControlPart::CheckBox);
     [
         Step::black_fill(by_box(size, 3, 0, 13, 1)),
         Step::black_fill(by_box(size, 3, 11, 13, 12)),
@@ -102,8 +89,8 @@ fn radio_look(size: Size, values: ControlValues, highlight: Highlight) -> [Step;
         Step::black_fill(by_box(size, 13, 1, 14, 11)),
         Step::black_fill(by_box(size, 5, 3, 11, 9)).when(is_on(values)),
         check_text(size),
-        lit_box(size, highlight),
-        gray_all(size, highlight),
+        Step::black_frame(by_box(size, 3, 1, 13, 11)).when(lit),
+        Step::grayed(size.rect()).when(highlight.is_inactive()),
     ]
 }
 

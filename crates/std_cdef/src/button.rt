@@ -11,12 +11,12 @@ ghost use Rattle.std_cdef.specs.Controls.{button_damaged, button_part, button_se
 ghost use Rattle.std_cdef.specs.Told.{fresh_button};
 
 use crate::control::{ControlLook, StdControl};
-use crate::rects::{columns, is_control_size, middle};
+use crate::rects::{is_control_size, middle};
 use crate::titles::same_title;
 use control_values::{ControlPart, Highlight};
 use def_iface::{ControlDef, KeptControl, Size, Stage};
 use draw_port::Canvas;
-use looks::{Step, damage_between, draw_look};
+use looks::{Step, columns, damage_between, draw_look};
 use tb_geom::{Point, Rect};
 
 /// What a simple button looks like (pushButProc).
@@ -49,7 +49,7 @@ fn button_look(size: Size, highlight: Highlight) -> [Step; 4]
     let whole = size.rect();
     [
         Step::black_frame(whole),
-        Step::centred_text(whole, columns(size), middle(size)),
+        Step::centred_text(whole, columns(size.width), middle(size)),
         Step::inverted(whole).when(highlight.shows(ControlPart::Button)),
         Step::grayed(whole).when(highlight.is_inactive()),
     ]

@@ -1,9 +1,9 @@
 //! What the controls have in common: their sizes, their region, and where a title stands.
-ghost use Rattle.std.specs.Prelude.{◌≡◌, ◌≤◌, true, IfOk, nat_abs};
+ghost use Rattle.std.specs.Prelude.{◌≡◌, ◌≤◌, true, IfOk};
 ghost use Rattle.tb_geom.specs.declared.point.Point.{Point};
 ghost use Rattle.tb_geom.specs.Rects.{rect_holds, is_in_range};
 ghost use Rattle.tb_geom.specs.Pixels.{holds};
-ghost use Rattle.def_iface.specs.ControlMeaning.{is_control_size, is_control_extent};
+ghost use Rattle.def_iface.specs.ControlMeaning.{is_control_size};
 ghost use Rattle.def_iface.specs.Sizes.{rect_of};
 ghost use Rattle.std_cdef.specs.Axes.{middle_of};
 
@@ -16,13 +16,8 @@ use std::alloc::{AllocError, Global};
 pub(crate) fn is_control_size(size: Size) -> bool
     ensures { result ≡ is_control_size size }
 {
-    is_extent(size.width) && is_extent(size.height)
-}
-
-fn is_extent(n: i32) -> bool
-    ensures { result ≡ is_control_extent n }
-{
-    1 <= n && n <= 1024
+    let Size { width, height } = size;
+    (1 <= width && width <= 1024) && (1 <= height && height <= 1024)
 }
 
 /// The region of a control: its rectangle.
@@ -31,14 +26,6 @@ pub(crate) fn region_of(alloc: Global, size: Size) -> Result<Region, AllocError>
     ensures { IfOk result (λ r. (p : Point) → holds r p ≡ rect_holds (rect_of size) p) }
 {
     Region::from_rect_in_range(alloc, size.rect())
-}
-
-/// The count of a control's columns.
-pub(crate) fn columns(size: Size) -> u16
-    requires { is_control_size size ≡ true }
-    ensures { result ≡ nat_abs size.width }
-{
-    size.width as u16
 }
 
 /// The baseline of a title: that of a text in the middle of the control's rows.

@@ -12,12 +12,12 @@ ghost use Rattle.std_cdef.specs.Told.{fresh_round_button};
 
 use crate::button::button_hit;
 use crate::control::{ControlLook, StdControl};
-use crate::rects::{columns, is_control_size, middle};
+use crate::rects::{is_control_size, middle};
 use crate::titles::same_title;
 use control_values::{ControlPart, Highlight};
 use def_iface::{ControlDef, KeptControl, Size, Stage};
 use draw_port::Canvas;
-use looks::{Step, damage_between, draw_look};
+use looks::{Step, columns, damage_between, draw_look};
 use shape_strips::Corner;
 use tb_geom::{Point, Rect};
 
@@ -65,7 +65,7 @@ fn round_button_look(size: Size, highlight: Highlight) -> [Step; 5]
     [
         Step::black_round(whole, corner),
         Step::white_inside(whole, corner),
-        Step::centred_text(whole, columns(size), middle(size)),
+        Step::centred_text(whole, columns(size.width), middle(size)),
         Step::inverted_inside(whole, corner).when(highlight.shows(ControlPart::Button)),
         Step::grayed(whole).when(highlight.is_inactive()),
     ]

@@ -6,4 +6,5 @@ pub mod Lines
 pub mod Hits
 pub mod Windows
 pub mod Notched
+pub mod Rounded
 pub mod Told

@@ -25,7 +25,7 @@ pub enum Variation {
 }
 
 /// What a window of a kind shows, beside the characters of its title.
-#[derive(Clone, Copy, Debug, PartialEq, Eq)]
+#[derive(Clone, Copy)]
 pub(crate) struct Shown {
     pub flags: Flags,
     /// The title is not empty.

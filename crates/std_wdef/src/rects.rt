@@ -1,7 +1,7 @@
 //! The rectangles of the tables, in the window's coordinates.
-ghost use Rattle.std.specs.Prelude.{◌≡◌, true, pos, ◌-ℤ◌, ◌+ℤ◌};
+ghost use Rattle.std.specs.Prelude.{◌≡◌, true, pos, ◌-ℤ◌};
 ghost use Rattle.def_iface.specs.Sizes.{is_size};
-ghost use Rattle.looks.specs.Marks.{box, neg};
+ghost use Rattle.looks.specs.Marks.{box};
 ghost use Rattle.std_wdef.specs.Looks.{ring, document_box, shadow_box, size_box, title_bar};
 
 use def_iface::Size;
@@ -62,14 +62,6 @@ pub(crate) fn size_box(size: Size) -> Rect
         size.width,
         size.height,
     )
-}
-
-/// The row below the title bar.
-pub(crate) fn under_bar(size: Size) -> Rect
-    requires { is_size size ≡ true }
-    ensures { result ≡ box (neg 1) (neg 1) (size.width +ℤ pos 1) (pos 0) }
-{
-    sides(-1, -1, more(size.width, 1), 0)
 }
 
 /// The first column of the size box.

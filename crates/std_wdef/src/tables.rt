@@ -8,7 +8,6 @@ ghost use Rattle.std_wdef.specs.Looks.{size_line, document_look, in_title_bar, i
 use crate::kind::{Shown, Variation};
 use crate::rects::{
     document_box, from_corner, ring, shadow_box, size_box, size_box_left, size_box_top, title_bar,
-    under_bar,
 };
 use def_iface::{Flags, Size};
 use looks::{Look, Plate, Step, columns, from_right, less, more, sides};
@@ -77,7 +76,7 @@ fn bar_lines(flags: Flags, size: Size) -> [Step; 9]
     [
         Step::white_fill(document_box(size)),
         Step::black_frame(document_box(size)),
-        Step::black_fill(under_bar(size)),
+        Step::black_fill(sides(-1, -1, more(size.width, 1), 0)),
         stripe(-15, flags, size),
         stripe(-13, flags, size),
         stripe(-11, flags, size),

@@ -8,7 +8,7 @@ use def_iface::{Size, Stage, WindowChange, WindowDef};
 use draw_port::{Canvas, Cut};
 use std::alloc::Global;
 use std::test::Fail;
-use std_wdef::{NotchedWindow, StdWindow, Variation};
+use std_wdef::{NotchedWindow, RoundWindow, StdWindow, Variation};
 use strike_font::Font;
 use tb_geom::{Rect, Refusal};
 use test_pixels::rect;
@@ -122,5 +122,47 @@ fn a_title_stands_on_white_between_the_stripes(rt: HostRuntime) -> Result<(), Fa
     window.told(WindowChange::Tracked(true));
     let map = drawn(alloc, &window)?;
     assert!(rt; shows(&map, &[(10, -10)], &[(7, -10)]));
+    Ok(())
+}
+
+#[test]
+fn a_rounded_window_is_white_on_black_where_it_is_highlighted(rt: HostRuntime) -> Result<(), Fail> {
+    let alloc = rt.alloc();
+    let mut window = RoundWindow::new();
+    window.begin();
+    let size = Size {
+        width: 60,
+        height: 30,
+    };
+    window.told(WindowChange::Resized(size));
+    window.told(WindowChange::Titled(b"A"));
+    let map = drawn(alloc, &window)?;
+    assert!(rt;
+        shows(
+            &map,
+            &[(27, -11), (29, -13), (-1, -10), (1, -17), (3, -18), (0, -1)],
+            &[(27, -13), (3, -17), (4, -18), (8, -16)]
+        )
+    );
+    window.told(WindowChange::Highlighted(true));
+    window.told(WindowChange::Closable(true));
+    let map = drawn(alloc, &window)?;
+    assert!(rt;
+        shows(
+            &map,
+            &[
+                (27, -13),
+                (-1, -10),
+                (1, -17),
+                (2, -17),
+                (7, -10),
+                (10, -10)
+            ],
+            &[(27, -11), (29, -13), (8, -16), (18, -6)]
+        )
+    );
+    window.told(WindowChange::Tracked(true));
+    let map = drawn(alloc, &window)?;
+    assert!(rt; shows(&map, &[(7, -10), (19, -6)], &[(10, -10), (18, -6)]));
     Ok(())
 }

@@ -2,7 +2,7 @@
 //! their tables are those that were asked for. Expected values are pixels worked out by hand.
 //!
 //! `told` tests what a window is told and where a point lies in it, `drawn` what windows look like, `lines` the lines of
-//! their outlines. `place` is where windows lie on a map.
+//! their outlines, `rounded` the rounded window. `place` is where windows lie on a map.
 #![tactic(auto)]
 
 #[cfg(test)]
@@ -10,5 +10,7 @@ mod drawn;
 #[cfg(test)]
 mod lines;
 pub mod place;
+#[cfg(test)]
+mod rounded;
 #[cfg(test)]
 mod told;

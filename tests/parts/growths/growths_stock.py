@@ -11,9 +11,11 @@ from desk_kit.answers import Fault
 DESK = b"desk 8 8 0"
 WINDOW = b'window plain 1 1 4 4 1 0 ""'
 NO_DEFINITION = b"refused 16 NoDefinition\n"
+# A script of the latest version, which has all kinds.
+BEGIN = [(b"version 3", b"ok\n"), (DESK, b"ok\n")]
 # The kinds of windows and of controls that a script knows.
-WINDOW_KINDS = (b"document", b"nogrow", b"zoom", b"dialog", b"plain", b"shadow", b"notched")
-CONTROL_KINDS = (b"button", b"check", b"radio", b"scroll")
+WINDOW_KINDS = (b"document", b"nogrow", b"zoom", b"dialog", b"plain", b"shadow", b"notched", b"round")
+CONTROL_KINDS = (b"button", b"check", b"radio", b"scroll", b"rbutton")
 # How many windows of a kind a script can open, how many controls of a kind it can make, how many lists, and how many of
 # these in a window.
 WINDOWS = 16
@@ -56,14 +58,14 @@ def numbered(command, count, first=1):
 def try_windows(program, kind):
     """Sixteen windows that are refused leave sixteen to be opened; one more finds no definition left."""
     window = b'window %s 1 1 4 4 1 0 ""' % kind
-    try_definitions(program, [(DESK, b"ok\n")], numbered(window, WINDOWS), [(window, NO_DEFINITION)])
+    try_definitions(program, BEGIN, numbered(window, WINDOWS), [(window, NO_DEFINITION)])
 
 
 def try_controls(program, kind):
     """64 controls that are refused leave as many to be made; one more, in a window that has room, finds no definition
     left."""
     control = b'control %%d %s 0 0 9 9 1 0 1 0 ""' % kind
-    begin = [(DESK, b"ok\n"), *numbered(WINDOW, 2)]
+    begin = [*BEGIN, *numbered(WINDOW, 2)]
     try_definitions(program, begin, numbered(control % 1, CONTROLS), [(control % 2, NO_DEFINITION)])
 
 

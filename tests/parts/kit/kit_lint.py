@@ -56,8 +56,11 @@ CLIPPED = "draw 1 clip 000A0000000000040004 foval 0 0 8 8 1 patCopy black"
 CLIPPED_FORM = "draw WINDOW clip HEX foval LEFT TOP RIGHT BOTTOM PENWIDTH PENHEIGHT MODE PATTERN"
 REGION = "region rect 0 0 8"
 REGION_FORM = "region rect LEFT TOP RIGHT BOTTOM"
+ROUND = 'float round 2 30 9 6 1 0 "x"'
+BUTTON = 'control 1 rbutton 0 0 9 6 1 0 1 0 "x"'
+BUTTON_FORM = 'control WINDOW KIND LEFT TOP WIDTH HEIGHT SHOWN MIN MAX VALUE "TITLE"'
 UNVERSIONED = [DESK.rstrip("\n"), FLOAT, "version 2"]
-VERSIONED = ["version 2", DESK.rstrip("\n"), FLOAT, "version 2", 'float plain 2 2 9 6 1 0 x', OVAL, REGION]
+VERSIONED = ["version 2", DESK.rstrip("\n"), FLOAT, "version 2", 'float plain 2 2 9 6 1 0 x', OVAL, REGION, ROUND, BUTTON]
 THIRD = ["version 003", DESK.rstrip("\n"), FLOAT, "region oval 0 0 8 8", OVAL, CLIPPED, REGION, "region fill 0 0 8 8", "region"]
 NO_VERSION = ["version 4", DESK.rstrip("\n"), OVAL, CLIPPED]
 
@@ -90,6 +93,8 @@ def lines_of_another_version_are_told(place):
         ("two", 5, VERSIONED[4], f"{bad}. The form is: {FLOAT_FORM}"),
         ("two", 6, OVAL, f"{third}: {OVAL_FORM}"),
         ("two", 7, REGION, f"{third}: {REGION_FORM}"),
+        ("two", 8, ROUND, f"{third.replace('15 BadSyntax', '20 NoSuchName')}: {FLOAT_FORM}"),
+        ("two", 9, BUTTON, f"{third.replace('15 BadSyntax', '20 NoSuchName')}: {BUTTON_FORM}"),
         ("x3", 5, OVAL, f"refused 20 NoSuchName. The form is: {OVAL_FORM}"),
         ("x3", 6, CLIPPED, f"{bad}: 12 words in place of 13. The form is: {CLIPPED_FORM}"),
         ("x3", 7, REGION, f"{bad}: 5 words in place of 6. The form is: {REGION_FORM}"),
@@ -206,7 +211,8 @@ def every_line_that_rows_have_answered_has_its_form(_):
     counts = len(its.commands), {command: len(forms) for command, forms in its.inner.items()}
     same("how many commands and inner forms there are", counts, (98, {"draw": 20, "region": 19}))
     drawn = ("round", "oval", "frect", "fround", "foval", "arc", "farc", "line", "poly", "fpoly", "frgn")
-    later = {"float": 2, "region": 3, **{f"draw {it}": 3 for it in drawn}}
+    kinds = ("window round", "float round", "control rbutton")
+    later = {"float": 2, "region": 3, **dict.fromkeys([*(f"draw {it}" for it in drawn), *kinds], 3)}
     same("those of later versions", its.versions, later)
     for folder in folders_in(os.path.join(TOP, "tests", "rows")):
         for row in rows_of(folder):

@@ -143,9 +143,9 @@ def the_manual_has_every_command_of_the_rows(_):
     same("those that no row has", [it for it in forms if it.encode() not in used], [])
     same("those of the prompt alone", [it for it in OWN if it in forms], [])
     kinds = {
-        "window": ["document", "nogrow", "zoom", "dialog", "plain", "shadow", "notched"],
-        "float": ["document", "nogrow", "zoom", "dialog", "plain", "shadow", "notched"],
-        "control": ["button", "check", "radio", "scroll"],
+        "window": ["document", "nogrow", "zoom", "dialog", "plain", "shadow", "notched", "round"],
+        "float": ["document", "nogrow", "zoom", "dialog", "plain", "shadow", "notched", "round"],
+        "control": ["button", "check", "radio", "scroll", "rbutton"],
         "list": ["text"],
     }
     same("kinds", {it: manual().kinds_of(it) for it in forms if manual().kinds_of(it)}, kinds)
@@ -214,10 +214,11 @@ def words_are_completed(_):
         ("", "x", []),
         ("help ", "up", ["update", "updatergn"]),
         ("help update ", "", []),
-        ("window ", "", ["document ", "nogrow ", "zoom ", "dialog ", "plain ", "shadow ", "notched "]),
+        ("window ", "", ["document ", "nogrow ", "zoom ", "dialog ", "plain ", "shadow ", "notched ", "round "]),
         ("window plain ", "", []),
         ("control ", "", []),
         ("control 1 ", "c", ["check "]),
+        ("control 1 ", "r", ["radio ", "rbutton "]),
         ("list 1 ", "", ["text "]),
         ("post ", "", []),
         ("draw ", "", []),

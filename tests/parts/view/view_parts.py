@@ -26,6 +26,14 @@ control 1 button 86 68 66 18 1 0 1 0 "OK"
 chilite 1 6 255
 """
 
+# The content begins at 10 44, and the bar above it has the rows 26 to 42.
+ROUNDED = """\
+version 3
+desk 140 110 20
+window round 10 44 90 40 1 1 "Round"
+control 1 rbutton 8 8 60 18 1 0 1 0 "OK"
+"""
+
 RADIO_GROUPS = """\
 desk 120 120 20
 window plain 10 30 100 84 1 0 ""
@@ -213,6 +221,16 @@ def a_button_is_tracked(tried):
     tried.wants("avail 65535", NO_EVENT)
 
 
+def rounded_windows_and_buttons_are_used_as_others(tried):
+    tried.click(18, 52)
+    tried.says('Button 1 "OK" was pressed')
+    tried.wants("cget 1 1", "ok 0 0 1 0 1")
+    tried.drag((60, 34), (70, 30))
+    tried.wants("info 1", "ok 20 40 90 40 1 1")
+    tried.click(30, 30)
+    tried.wants("find 60 60", "ok 0 0")
+
+
 def an_inactive_button_is_not_tracked(tried):
     tried.click(50, 120)
     tried.says('Window 1 "Settings", at 30 76 in it')
@@ -336,6 +354,7 @@ TESTS = {
     radio_buttons_apart_from_each_other_are_groups: RADIO_GROUPS,
     a_scroll_bar_goes_by_one_by_a_quarter_and_by_its_thumb: SETTINGS,
     a_button_is_tracked: SETTINGS,
+    rounded_windows_and_buttons_are_used_as_others: ROUNDED,
     an_inactive_button_is_not_tracked: SETTINGS,
     an_item_of_a_menu_is_chosen: MENUS,
     a_disabled_item_is_not_chosen: MENUS,

@@ -1,7 +1,8 @@
 use Rattle.std.proofs.Common.{sym, ap, ◌∙◌}
 use Rattle.looks.specs.Letters.{lettering}
 use Rattle.def_iface.proofs.KeptLemmas.{kept_title}
-use Rattle.std_wdef.proofs.Hearing.{std_answered, std_hears}
+use Rattle.std_wdef.specs.Windows.{shown_damage}
+use Rattle.std_wdef.proofs.Hearing.{answered, std_hears}
 use Rattle.std_wdef.proofs.std_window.StdWindowWindowDef.told.Goals as goal
 
 pub returns-clause-heard : goal.returns-clause-heard
@@ -15,5 +16,5 @@ returns-clause-damage c = λ font p plane out.
 
 pub returns-clause-answered : goal.returns-clause-answered
 returns-clause-answered c =
-    std_answered c.args.self.now.variation c.args.change c.args.self.now.flags c.args.self.now.title c.args.self.now.size c.told_damage-damage.result _ _ _ _ c.title_after-title.result _
+    answered (shown_damage c.args.self.now.variation) c.args.change c.args.self.now.flags c.args.self.now.title c.args.self.now.size c.told_damage-damage.result _ _ _ _ c.title_after-title.result _
     c.keeps_title.ensures c.is_titled.ensures c.is_titled-2.ensures c.flags_after.ensures c.title_after-title.ensures c.size_after.ensures c.told_damage-damage.ensures.small

@@ -1,0 +1,11 @@
+use Rattle.looks.specs.Letters.{lettering}
+use Rattle.std_cdef.proofs.Hearing.{same_letters}
+use Rattle.std_cdef.proofs.default_button.DefaultButtonLookControlLook.damage.Goals as goal
+
+pub returns-clause-alike : goal.returns-clause-alike
+returns-clause-alike c font =
+    c.default_button_damage.ensures.alike (lettering font c.args.old.now.title) (lettering font c.args.new.now.title)
+    (same_letters font c.args.old.now.title c.args.new.now.title c.same_title.result c.same_title.ensures)
+
+pub returns-clause-small : goal.returns-clause-small
+returns-clause-small c p e = c.default_button_damage.ensures.small p e c.same_title.ensures
