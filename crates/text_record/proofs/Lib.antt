@@ -5,3 +5,4 @@ pub mod WidthLemmas
 pub mod PassLemmas
 pub mod PlaceLemmas
 pub mod FoundLemmas
+pub mod ShowLemmas

@@ -1,6 +1,7 @@
 -- Where lines lie.
 use Rattle.std.specs.Prelude.{slice_range}
-use Rattle.std.proofs.Common.{◌≡◌, ℕ, ◌+◌, ◌*◌, ◌<◌, ◌≤◌, List, length, ℤ, pos, ◌+ℤ◌, ◌-ℤ◌, ap, ◌∙◌, mul-le-mul}
+use Rattle.std.proofs.Common.{◌≡◌, ℕ, ◌+◌, ◌*◌, ◌<◌, ◌≤◌, List, length, ℤ, pos, ◌+ℤ◌, ◌-ℤ◌, ap, ◌∙◌, arith, mul-le-mul}
+use Rattle.std.proofs.lemmas.Int.{ints}
 use Rattle.text_lines.specs.declared.line.TextLine.{TextLine}
 use Rattle.text_lines.specs.Lines.{line_at, line_of, LiesOn}
 use Rattle.text_lines.proofs.FollowLemmas.{line_bounds, lines_few, lines_follow, found_lies}
@@ -29,21 +30,28 @@ row_lies t o = found_lies t.widths (room_of t.wrap t.width) t.bytes o
 pub rows_small : (j height : ℕ) → j ≤ 32000 → height ≤ 381 → j * height ≤ 12192000
 rows_small j height p q = mul-le-mul p q
 
-pub pen_is : (left by spare : ℤ) (j : Justification) (r : Record) (number : ℕ) → left ≡ r.left → j ≡ r.justification → by ≡ indent j spare → spare ≡ spare_of r.text (line_in r number)
-    → ((left +ℤ pos 1) +ℤ by) ≡ pen_of r (line_in r number)
-pen_is left by spare j r number a b c d = λ i. (a i +ℤ pos 1) +ℤ (c ∙ (λ k. indent (b k) (d k))) i
+beside_one : (left by : ℤ) → (left +ℤ (pos 1 +ℤ by)) ≡ ((left +ℤ pos 1) +ℤ by)
+beside_one left by = omega (arith, ints)
+
+-- where a line begins, step by step
+pub pen_is : (by spare : ℤ) (j : Justification) (r : Record) (number : ℕ) → j ≡ r.justification → by ≡ indent j spare → spare ≡ spare_of r.text (line_in r number)
+    → (r.left +ℤ (pos 1 +ℤ by)) ≡ pen_of r (line_in r number)
+pen_is by spare j r number b c d = beside_one r.left by ∙ (λ i. (r.left +ℤ pos 1) +ℤ (c ∙ (λ k. indent (b k) (d k))) i)
 
 -- a line that another follows has a byte
 pub line_filled : (t : Lined) (j : ℕ) → j + 1 < length (lines_of t) → (line_at (lines_of t) j).start < (line_at (lines_of t) j).end
 line_filled t j p = (lines_follow t.widths (room_of t.wrap t.width) t.bytes).filled j p
 
+beside_both : (left pen wide : ℤ) → (left +ℤ (pen +ℤ wide)) ≡ ((left +ℤ pen) +ℤ wide)
+beside_both left pen wide = omega (arith, ints)
+
 -- the column of an offset, step by step
-pub column_is : (r : Record) (o number start wide : ℕ) (pen : ℤ) (l : TextLine) (widths bytes before : List ℕ) → number ≡ row_of r o → l ≡ line_in r number → start ≡ l.start → pen ≡ pen_of r (line_in r number)
-    → widths ≡ r.text.widths → bytes ≡ r.text.bytes → before ≡ slice_range bytes start o → wide ≡ bytes_width widths before → (pen +ℤ pos wide) ≡ column_of r o
+pub column_is : (r : Record) (o number start wide : ℕ) (pen : ℤ) (l : TextLine) (widths bytes before : List ℕ) → number ≡ row_of r o → l ≡ line_in r number → start ≡ l.start → (r.left +ℤ pen) ≡ pen_of r (line_in r number)
+    → widths ≡ r.text.widths → bytes ≡ r.text.bytes → before ≡ slice_range bytes start o → wide ≡ bytes_width widths before → (r.left +ℤ (pen +ℤ pos wide)) ≡ column_of r o
 column_is r o number start wide pen l widths bytes before n e s p w b f g =
     let start_is : start ≡ (line_in r (row_of r o)).start = s ∙ ap (λ (x : TextLine). x.start) e ∙ ap (λ k. (line_in r k).start) n in
     let before_is : before ≡ slice_range r.text.bytes (line_in r (row_of r o)).start o = f ∙ (λ i. slice_range (b i) (start_is i) o) in
-    λ i. (p ∙ ap (λ k. pen_of r (line_in r k)) n) i +ℤ pos ((g ∙ (λ k. bytes_width (w k) (before_is k))) i)
+    beside_both r.left pen (pos wide) ∙ (λ i. (p ∙ ap (λ k. pen_of r (line_in r k)) n) i +ℤ pos ((g ∙ (λ k. bytes_width (w k) (before_is k))) i))
 
 -- the offset on a line, step by step
 pub offset_is : (r : Record) (number start last passed : ℕ) (h pen : ℤ) (l : TextLine) (widths bytes : List ℕ) → l ≡ line_in r number → start ≡ l.start → pen ≡ pen_of r (line_in r number)

@@ -3,3 +3,4 @@ pub mod Placings
 pub mod Texts
 pub mod Places
 pub mod Changes
+pub mod Showing

@@ -14,6 +14,10 @@
 //! width, without the blanks at its end. The place of an offset is the column at which the byte there begins. The offset at
 //! a point is that of the first byte of the line at its row of which more than half lies right of the point.
 //!
+//! `scroll` moves the destination, and `show_selection` moves it so that the end of the selection shows. How far a line or an
+//! offset lies from left and top of the destination does not depend on these two, and is what their new numbers are made of:
+//! it has bounds of its own, so that the numbers stay in range.
+//!
 //! `put` is what all edits stand on. It takes the room for the bytes and for the lines first, and then changes them where
 //! they are, so that a refused call changes nothing, and one that makes the text shorter takes none. That the lines are
 //! those of the text is the invariant of `LinedText`, a type that no other crate sees.
@@ -27,6 +31,7 @@ mod metrics;
 mod places;
 mod placing;
 mod record;
+mod showing;
 
 pub use metrics::Metrics;
 pub use placing::{Justification, Placing};

@@ -1,5 +1,5 @@
 //! Where lines and bytes lie.
-ghost use Rattle.std.specs.Prelude.{◌≡◌, ◌≤◌, ◌<◌, ◌*◌, ◌≤ℤ◌, pos, negsuc, length};
+ghost use Rattle.std.specs.Prelude.{◌≡◌, ◌≤◌, ◌<◌, ◌*◌, ◌≤ℤ◌, ◌+ℤ◌, pos, negsuc, length};
 ghost use Rattle.text_lines.specs.Widths.{bytes_width};
 ghost use Rattle.text_record.specs.Texts.{lines_of};
 ghost use Rattle.text_record.specs.Places.{indent, drawn_bytes, inked_width, spare_of, pen_of, line_top, row_of, line_in, column_on, column_of, place_of, line_at_row, last_offset, offset_on, offset_at, word_start, word_end};
@@ -88,6 +88,16 @@ impl TextRecord {
         i32::from(self.text.width()) - 1 - self.inked_width(number) as i32
     }
 
+    /// How far right of the left of the destination the first byte of a line begins.
+    fn pen_beside(&self, number: usize) -> i32
+        requires { number < length (lines_of self.now.text) }
+        ensures value { (self.now.left +ℤ result) ≡ pen_of self.now (line_in self.now number) }
+        ensures from { negsuc 8159998 ≤ℤ result }
+        ensures to { result ≤ℤ pos 16383 }
+    {
+        1 + indent(self.justification, self.spare(number))
+    }
+
     /// The column at which the first byte of a line begins.
     pub fn pen(&self, number: usize) -> i32
         requires { number < length (lines_of self.now.text) }
@@ -95,8 +105,25 @@ impl TextRecord {
         ensures from { negsuc 24937214 ≤ℤ result }
         ensures to { result ≤ℤ pos 16793598 }
     {
-        let indent = indent(self.justification, self.spare(number));
-        self.left + 1 + indent
+        self.left + self.pen_beside(number)
+    }
+
+    /// The columns at which lines begin and end at most: 1 right of the left of the destination, and behind its last one.
+    pub fn edges(&self) -> (i32, i32)
+        ensures left { result.0 ≡ self.now.left +ℤ pos 1 }
+        ensures right { result.1 ≡ self.now.left +ℤ pos self.now.text.width }
+    {
+        (self.left + 1, self.left + i32::from(self.text.width()))
+    }
+
+    /// How far below the top of the destination a line lies.
+    pub(crate) fn line_below(&self, number: usize) -> i32
+        requires { number < length (lines_of self.now.text) }
+        ensures value { (self.now.top +ℤ result) ≡ line_top self.now number }
+        ensures from { pos 0 ≤ℤ result }
+        ensures to { result ≤ℤ pos 12192000 }
+    {
+        rows_down(number, self.height)
     }
 
     /// The top row of a line.
@@ -106,7 +133,7 @@ impl TextRecord {
         ensures from { negsuc 16777215 ≤ℤ result }
         ensures to { result ≤ℤ pos 28969215 }
     {
-        self.top + rows_down(number, self.height)
+        self.top + self.line_below(number)
     }
 
     /// The number of the line that an offset lies on. An offset behind the text lies where its end does.
@@ -117,16 +144,25 @@ impl TextRecord {
         line_of(self.lines(), offset)
     }
 
+    /// How far right of the left of the destination an offset lies.
+    pub(crate) fn column_beside(&self, offset: usize) -> i32
+        ensures value { (self.now.left +ℤ result) ≡ column_of self.now offset }
+        ensures from { negsuc 8159998 ≤ℤ result }
+        ensures to { result ≤ℤ pos 8176383 }
+    {
+        let number = self.row_of(offset);
+        let start = usize::from(self.line(number).start);
+        let before = bytes_between(self.bytes(), start, offset);
+        self.pen_beside(number) + bytes_width(self.text.widths(), before) as i32
+    }
+
     /// The column of an offset: where the byte there begins. Behind the text it is where that ends.
     pub fn column_of(&self, offset: usize) -> i32
         ensures value { result ≡ column_of self.now offset }
         ensures from { negsuc 24937214 ≤ℤ result }
         ensures to { result ≤ℤ pos 24953598 }
     {
-        let number = self.row_of(offset);
-        let start = usize::from(self.line(number).start);
-        let before = bytes_between(self.bytes(), start, offset);
-        self.pen(number) + bytes_width(self.text.widths(), before) as i32
+        self.left + self.column_beside(offset)
     }
 
     /// The place of an offset: its column, and the top row of its line (TEGetPoint answers the row below its line).

@@ -1,5 +1,5 @@
 //! A text record.
-ghost use Rattle.std.specs.Prelude.{◌≡◌, ◌≤◌, true, length, IfOk, IfErr, if◌then◌else◌, pos, negsuc};
+ghost use Rattle.std.specs.Prelude.{◌≡◌, ◌≤◌, ◌≤ℤ◌, ◌+ℤ◌, true, length, IfOk, IfErr, if◌then◌else◌, pos, negsuc};
 ghost use Rattle.text_record.specs.Placings.{is_placing, box_of};
 ghost use Rattle.text_record.specs.Texts.{placing_of, new_record, lines_of};
 
@@ -203,7 +203,13 @@ impl TextRecord {
 
     /// The box: the view, or where framed the view with 3 columns and rows more on each side.
     pub fn bounds(&self) -> Rect
-        ensures { result ≡ box_of self.now.framed self.now.view }
+        ensures sides { result ≡ box_of self.now.framed self.now.view }
+        ensures left_from { negsuc 16386 ≤ℤ result.left }
+        ensures right_to { result.right ≤ℤ pos 16386 }
+        ensures top_from { negsuc 16386 ≤ℤ result.top }
+        ensures bottom_to { result.bottom ≤ℤ pos 16386 }
+        ensures columns { (result.left +ℤ pos 1) ≤ℤ result.right }
+        ensures rows { (result.top +ℤ pos 1) ≤ℤ result.bottom }
     {
         if self.framed {
             widened(self.view)

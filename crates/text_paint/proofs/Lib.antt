@@ -1,0 +1,5 @@
+-- Lemmas.
+pub mod OverLemmas
+pub mod PartLemmas
+pub mod PaintLemmas
+pub mod LawLemmas

@@ -1,0 +1,22 @@
+use Rattle.std.proofs.Common.{◌≡◌, refl, ◌∙◌, arith}
+use Rattle.draw_port.proofs.CanvasLemmas.{SameFrame-none, SameFrame-then}
+use Rattle.text_paint.specs.Shown.{line_count}
+use Rattle.text_paint.proofs.OverLemmas.{drawn_not}
+use Rattle.text_paint.proofs.PaintLemmas.{line_more, lines_ended}
+use Rattle.text_paint.proofs.lines.draw_lines.Goals as goal
+
+pub loop-number-init : goal.loop-number-init
+loop-number-init c = record { same_map = refl; same_frame = SameFrame-none _; drawn = drawn_not _ _ }
+
+pub loop-number-preserved : goal.loop-number-preserved
+loop-number-preserved c =
+    record {
+      same_map = c.text.ensures.same_map ∙ c.loop-number.invariant.same_map;
+      same_frame = SameFrame-then _ _ _ c.loop-number.invariant.same_frame c.text.ensures.same_frame;
+      drawn = line_more c.args.canvas.now c.loop-number.canvas c.args.text.now c.loop-number.number c.drawn_bytes.result.now c.line_pen-pen.result _ _ _ c.loop-number.invariant.same_frame c.drawn_bytes.ensures.bytes c.line_pen-pen.ensures c.loop-number.invariant.drawn c.text.ensures.drawn;
+    }
+
+pub returns-clause-drawn : goal.returns-clause-drawn
+returns-clause-drawn c =
+    let all : c.loop-number.number ≡ line_count c.args.text.now = omega (arith, c.line_count-number-end.ensures.value) in
+    lines_ended c.args.canvas.now c.args.text.now c.loop-number.number _ _ all c.loop-number.invariant.drawn

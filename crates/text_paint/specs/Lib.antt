@@ -1,0 +1,2 @@
+-- What the contracts speak of: what a text record shows.
+pub mod Shown
