@@ -38,7 +38,8 @@ const OTHER_PART: i32 = 20;
 const TITLE: &[u8] = b"Ag";
 
 /// The bytes of each icon.
-const IMAGE: &[u8] = b"The rows of an icon are the bytes of its title, each of whole bytes, the high bit left";
+const IMAGE: &[u8] =
+    b"The rows of an icon are the bytes of its title, each of whole bytes, the high bit left";
 
 /// Adds the picture of a Fresh control.
 fn add_fresh<C: ControlDef>(

@@ -1,6 +1,6 @@
 //! Where lines and offsets lie.
 
-use crate::made::{line_is, record, selects, standing, write};
+use crate::made::{line_is, mark, record, selects, standing, write};
 use std::test::Fail;
 use tb_geom::{Point, Rect, Refusal};
 use text_record::{Justification, Placing, TextRecord};
@@ -123,5 +123,58 @@ fn flags_are_set(rt: HostRuntime) -> Result<(), Fail> {
     assert!(rt; !text.is_shown() && !text.has_caret());
     text.activate(true);
     assert!(rt; text.is_active() && text.has_caret() && selects(&text, 0, 0));
+    Ok(())
+}
+
+/// Whether the destination begins at a column and a row.
+fn begins_at(record: &TextRecord, left: i32, top: i32) -> bool {
+    let placing = record.placing();
+    placing.left == left && placing.top == top
+}
+
+/// Where a text stands that begins at 1 1 and is 31 wide, in a view of 30 by 20.
+fn in_a_low_view() -> Placing {
+    Placing {
+        left: 1,
+        top: 1,
+        width: 31,
+        view: Rect {
+            left: 1,
+            top: 1,
+            right: 31,
+            bottom: 21,
+        },
+    }
+}
+
+#[test]
+fn the_line_of_a_selection_is_brought_into_view(rt: HostRuntime) -> Result<(), Fail> {
+    let mut text = record(rt.alloc(), in_a_low_view(), Justification::Left, true)?;
+    write(&mut text, b"ab cd ef gh ij kl mn")?;
+    assert!(rt; text.line_count() == 4 && text.edges() == (2, 32));
+    text.show_selection();
+    assert!(rt; begins_at(&text, 1, -19));
+    text.scroll(0, 10)?;
+    assert!(rt; begins_at(&text, 1, -9) && lies_at(&text, 20, 14, 21));
+    mark(&mut text, 0, 0)?;
+    text.show_selection();
+    assert!(rt; begins_at(&text, 1, 1));
+    match text.scroll(16777215, 0) {
+        Ok(()) => assert!(rt; false),
+        Err(refusal) => assert!(rt; refusal == Refusal::OutOfRange),
+    }
+    assert!(rt; begins_at(&text, 1, 1));
+    Ok(())
+}
+
+#[test]
+fn the_column_before_a_point_is_brought_into_view(rt: HostRuntime) -> Result<(), Fail> {
+    let mut text = record(rt.alloc(), in_a_low_view(), Justification::Left, false)?;
+    write(&mut text, b"abcdef")?;
+    text.show_selection();
+    assert!(rt; begins_at(&text, -6, 1) && lies_at(&text, 6, 31, 1));
+    mark(&mut text, 0, 0)?;
+    text.show_selection();
+    assert!(rt; begins_at(&text, 1, 1));
     Ok(())
 }

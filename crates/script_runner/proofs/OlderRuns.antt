@@ -127,10 +127,10 @@ module _ (raw : Bool) where
     same = ap (λ s. s.version) taken.1 ∙ is;
     begins = ap (λ s. s.is_begun) taken.1;
   }
-  call_behind old call text new false is (after, obeyed, then) = record {
-    answered = subst (λ s. Obeys raw old.session (Call call) text s) (sym (ap (λ s. s.session) then)) obeyed;
-    same = ap (λ s. s.version) then ∙ is;
-    begins = ap (λ s. s.is_begun) then;
+  call_behind old call text new false is (after, obeyed, leaves) = record {
+    answered = subst (λ s. Obeys raw old.session (Call call) text s) (sym (ap (λ s. s.session) leaves)) obeyed;
+    same = ap (λ s. s.version) leaves ∙ is;
+    begins = ap (λ s. s.is_begun) leaves;
   }
 
   said_as_behind : (old : ScriptState) (says : Option (Result Command Refusal)) (text : List ℕ) (new : ScriptState) → old.version ≡ pos 2 → old.is_begun ≡ true
@@ -148,10 +148,10 @@ module _ (raw : Bool) where
   said_as_behind old (Some (Ok (Version number))) text new is begun taken = version_behind old number old.is_begun text new is begun taken
   said_as_behind old (Some (Ok (Call call))) text new is begun taken =
       call_behind old call text new (names_later_kind call) is (subst (λ v. Takes raw (why_unread old.is_begun v (Call call)) old (Call call) text new) is taken)
-  said_as_behind old (Some (Ok command)) text new is begun (after, obeyed, then) = record {
-    answered = subst (λ s. Obeys raw old.session command text s) (sym (ap (λ s. s.session) then)) obeyed;
-    same = ap (λ s. s.version) then ∙ is;
-    begins = ap (λ s. s.is_begun) then;
+  said_as_behind old (Some (Ok command)) text new is begun (after, obeyed, leaves) = record {
+    answered = subst (λ s. Obeys raw old.session command text s) (sym (ap (λ s. s.session) leaves)) obeyed;
+    same = ap (λ s. s.version) leaves ∙ is;
+    begins = ap (λ s. s.is_begun) leaves;
   }
 
   all_behind : (old : ScriptState) (lines : List (List ℕ)) (text : List ℕ) (new : ScriptState) → old.version ≡ pos 2 → old.is_begun ≡ true

@@ -1,5 +1,8 @@
 //! Records, and what is painted of them.
 
+ghost use Rattle.std.specs.Prelude.{◌≡◌, true};
+ghost use Rattle.draw_port.specs.Origins.{is_near_origin};
+
 use bit_map::{BitMap, Mode, Pattern};
 use draw_port::Canvas;
 use std::alloc::Global;
@@ -18,6 +21,7 @@ pub(crate) struct Sheet {
     pub(crate) height: i32,
     pub(crate) clip: Rect,
     pub(crate) origin: Point,
+    ghost near: { is_near_origin origin ≡ true },
 }
 
 impl Sheet {
