@@ -24,6 +24,7 @@ pub mod LinesChanged
 pub mod LinesGiven
 pub mod LinesAnswered
 pub mod ListsEnded
+pub mod ListedLayers
 pub mod LayerTaken
 pub mod BarsGone
 pub mod ListsDisposed
