@@ -42,6 +42,7 @@ pub mod ListsFollowed
 pub mod ListsSettled
 pub mod ListsSelected
 pub mod ListFacts
+pub mod ListsBeside
 pub mod GivenBars
 pub mod ListsLeft
 pub mod Numbers

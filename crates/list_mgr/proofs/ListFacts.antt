@@ -126,7 +126,7 @@ rest_of before after width height bar font active next stock = λ i. record {
   stock = stock i;
 }
 
-there_window : (o : Option WindowRecord) → is_none o ≡ false → (w : WindowRecord) × (o ≡ Some w)
+pub there_window : (o : Option WindowRecord) → is_none o ≡ false → (w : WindowRecord) × (o ≡ Some w)
 there_window None e = absurd (cc)
 there_window (Some w) e = (w, refl)
 
@@ -297,7 +297,7 @@ module _ (before after : ListDesk) where
   both its = (its.beside, (its.list, its.control))
 
   -- the window of a list that is not missing is there
-  window_there : (l : ListOf) (rest : List (Bool × Refusal)) → first_refusal (missing_refusals l before.desk.windows.desk before.lists.lists ++ rest) ≡ None → is_missing l.window before.desk.windows.desk.windows ≡ false
+  pub window_there : (l : ListOf) (rest : List (Bool × Refusal)) → first_refusal (missing_refusals l before.desk.windows.desk before.lists.lists ++ rest) ≡ None → is_missing l.window before.desk.windows.desk.windows ≡ false
   window_there l rest none = (none_hold (is_missing l.window before.desk.windows.desk.windows) NoSuchWindow ((is_none (lists.index_of l before.lists.lists), NoSuchList) ∷ []) (front_fails (missing_refusals l before.desk.windows.desk before.lists.lists) rest none)).0
 
   clicked : (k : ListClick) (o : Option Cell) (answer : ListReply) → is_missing k.list.window before.desk.windows.desk.windows ≡ false → IsClickOn k o answer before after → KeepsNext before after

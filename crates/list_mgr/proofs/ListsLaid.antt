@@ -60,11 +60,14 @@ module _ (before after : ListDesk) (was : IsRightLists before) where
         subst (λ (x : List WindowRecord × ControlsState). AreWholeControls x.0 x.1) (λ i. (sym windows_are i, sym same i))
         (controls_laid window laid.layers d.windows before.controls was.desk.whole (subst (λ (s : ControlsState). AreLayersOf (items_of window s.controls) laid.layers) same laid.controls))
 
+    -- the layers beside its lists are as they were
+    pub beside_are : ((ks : List Layer) → beside_lists (relaid ks) ≡ beside_lists ks) → map unlisted e.windows ≡ map unlisted d.windows
+    beside_are stay = ap (map unlisted) windows_are ∙ beside_laid (look_of d) window laid.layers d.windows was.desk.right.plain.desk (λ w found. ap beside_lists (laid.become w found) ∙ stay w.layers)
+
     distinct_are : ((ks : List Layer) → beside_lists (relaid ks) ≡ beside_lists ks) → AreWholeLists e.windows after.lists → IsDesk (layered_desk e)
     distinct_are stay lists =
         distinct_windows (look_of d) (look_of e) after.lists.lists d.windows e.windows lists.apart (ap (map bare) windows_are ∙ bare_laid window laid.layers d.windows)
-        (ap (map unlisted) windows_are ∙ beside_laid (look_of d) window laid.layers d.windows was.desk.right.plain.desk (λ w found. ap beside_lists (laid.become w found) ∙ stay w.layers))
-        lists.joined was.desk.right.plain.desk
+        (beside_are stay) lists.joined was.desk.right.plain.desk
 
   -- a list was put behind the others
   pub put_keeps : (n : NewList) (serial : ℕ) (vertical horizontal : Option ℕ) (put : IsListPut n serial vertical horizontal before after)
