@@ -26,6 +26,7 @@ use Rattle.window_frame.specs.Followers.Flag.{Highlighting, Zooming}
 use Rattle.window_frame.specs.FrameSteps.{IsFrameStep, with_flag, with_title, with_tracked}
 use Rattle.window_frame.proofs.FrameKeeps.{frame_keeps}
 use Rattle.window_frame.proofs.ToldSteps.{HoldsOfFrames, of_caught_up, of_frame}
+use Rattle.window_paint.specs.White.{all_white}
 use Rattle.control_mgr.specs.ControlDesks.{ControlRecord, ControlsState, controls_show}
 use Rattle.control_mgr.specs.ControlSteps.{AreLayersOf}
 use Rattle.control_mgr.specs.WholeControls.{AreWholeControls}
@@ -51,7 +52,7 @@ pub still : (before after : ToolboxState) → after.desk.windows.desk ≡ before
 still before after desk controls lists was = record {
   controls = subst (λ (x : FullDesk × ControlsState). AreWholeControls x.0.windows x.1) (λ i. (sym desk i, sym controls i)) was.controls;
   lists = subst (λ (x : FullDesk × ListsState). AreWholeLists x.0.windows x.1) (λ i. (sym desk i, sym lists i)) was.lists;
-  shown = subst (λ (x : FullDesk × ControlsState × ListsState). x.0.shows ≡ controls_show (lists_show x.2.lists) x.1.controls x.0.font) (λ i. (sym desk i, sym controls i, sym lists i)) was.shown;
+  shown = subst (λ (x : FullDesk × ControlsState × ListsState). x.0.shows ≡ controls_show (lists_show (λ font. all_white) x.2.lists) x.1.controls x.0.font) (λ i. (sym desk i, sym controls i, sym lists i)) was.shown;
 }
 
 -- ---- the same controls, beside other windows
@@ -159,8 +160,8 @@ module _ (B : Bond) where
 
 -- the same controls and lists, shown in the same font
 shown_on : (before after : ToolboxState) → after.desk.windows.desk.shows ≡ before.desk.windows.desk.shows → after.desk.windows.desk.font ≡ before.desk.windows.desk.font → after.controls ≡ before.controls → after.lists ≡ before.lists → AreContentsRight before
-    → after.desk.windows.desk.shows ≡ controls_show (lists_show after.lists.lists) after.controls.controls after.desk.windows.desk.font
-shown_on before after shows font controls lists was = shows ∙ was.shown ∙ (λ i. controls_show (lists_show (sym lists i).lists) (sym controls i).controls (sym font i))
+    → after.desk.windows.desk.shows ≡ controls_show (lists_show (λ font. all_white) after.lists.lists) after.controls.controls after.desk.windows.desk.font
+shown_on before after shows font controls lists was = shows ∙ was.shown ∙ (λ i. controls_show (lists_show (λ font. all_white) (sym lists i).lists) (sym controls i).controls (sym font i))
 
 pub frames_leave : (call : FrameCall) (answer : Result FrameReply Refusal) (before after : DeskState) (s : ControlsState) → IsFrameStep call answer before after → AreWholeControls before.windows.desk.windows s → AreWholeControls after.windows.desk.windows s
 frames_leave call answer before after s step whole =

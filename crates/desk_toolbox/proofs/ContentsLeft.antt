@@ -24,6 +24,7 @@ use Rattle.window_mgr.specs.FullDesk.{FullDesk, FullState, IsGiven, IsRightState
 use Rattle.window_mgr.specs.Placings.{Placing, sized, zoomed}
 use Rattle.window_mgr.specs.Refused.{is_missing}
 use Rattle.window_frame.specs.Followers.{IsCaughtUpBy}
+use Rattle.window_paint.specs.White.{all_white}
 use Rattle.control_mgr.specs.ControlClosing.{IsWindowLeft}
 use Rattle.control_mgr.specs.ControlDesks.{ControlRecord, ControlsState, controls_show}
 use Rattle.control_mgr.specs.ControlSteps.{AreLayersOf, IsControlStep}
@@ -122,11 +123,11 @@ module _ (call : WindowCall) (answer : WindowReply) (before : ToolboxState) (mid
       (λ n f next. subst (λ own. AreListLayers own []) (sym (no_lists_of_missing n ls ws was.lists.somewhere (next_is_new before.desk.windows.desk n numbered next))) tt)
       (listed_every before.lists ws was.lists)
 
-  shows : told.desk.shows ≡ controls_show (lists_show ls) cs told.desk.font
+  shows : told.desk.shows ≡ controls_show (lists_show (λ font. all_white) ls) cs told.desk.font
   shows =
       told_keeps (λ d. d.shows) (λ d vs active next stock. refl) call (Ok answer) before.desk middle told answered caught
       ∙ was.shown
-      ∙ ap (controls_show (lists_show ls) cs) (sym (told_keeps (λ d. d.font) (λ d vs active next stock. refl) call (Ok answer) before.desk middle told answered caught))
+      ∙ ap (controls_show (lists_show (λ font. all_white) ls) cs) (sym (told_keeps (λ d. d.font) (λ d vs active next stock. refl) call (Ok answer) before.desk middle told answered caught))
 
   -- no window is gone
   module _ (none : to_dispose call ≡ None) (after : ToolboxState) (shown : after.desk.windows ≡ shown_with after.controls.controls after.lists.lists told)
@@ -163,7 +164,7 @@ module _ (call : WindowCall) (answer : WindowReply) (before : ToolboxState) (mid
     kept_contents = record {
       controls = subst (λ (x : FullState × ControlsState). AreWholeControls x.0.desk.windows x.1) (λ i. (sym same i, sym left i)) whole;
       lists = subst (λ (x : FullState × ListsState). AreWholeLists x.0.desk.windows x.1) (λ i. (sym same i, sym ended i)) whole_lists;
-      shown = subst (λ (x : FullState × ControlsState × ListsState). x.0.desk.shows ≡ controls_show (lists_show x.2.lists) x.1.controls x.0.desk.font) (λ i. (sym same i, sym left i, sym ended i)) shows;
+      shown = subst (λ (x : FullState × ControlsState × ListsState). x.0.desk.shows ≡ controls_show (lists_show (λ font. all_white) x.2.lists) x.1.controls x.0.desk.font) (λ i. (sym same i, sym left i, sym ended i)) shows;
     }
 
     kept_right : IsRightState told → IsRightToolbox after
@@ -213,12 +214,12 @@ module _ (call : WindowCall) (answer : WindowReply) (before : ToolboxState) (mid
     gone_contents = record {
       controls = subst (λ (s : FullState). AreWholeControls s.desk.windows after.controls) (sym shown) left_controls;
       lists = subst (λ (s : FullState). AreWholeLists s.desk.windows after.lists) (sym shown) left_lists;
-      shown = ap (λ (s : FullState). s.desk.shows) shown ∙ ap (controls_show (lists_show after.lists.lists) after.controls.controls) (sym (ap (λ (s : FullState). s.desk.font) shown));
+      shown = ap (λ (s : FullState). s.desk.shows) shown ∙ ap (controls_show (lists_show (λ font. all_white) after.lists.lists) after.controls.controls) (sym (ap (λ (s : FullState). s.desk.font) shown));
     }
 
     gone_right : IsRightState told → IsRightToolbox after
     gone_right right =
-        let first = followed_right (lists_show ls) d told before.controls after.controls right shows was.controls.settled was.controls.apart was.controls.given was.controls.few joined_all others missing left in
+        let first = followed_right (lists_show (λ font. all_white) ls) d told before.controls after.controls right shows was.controls.settled was.controls.apart was.controls.given was.controls.few joined_all others missing left in
         record {
           right = subst IsRightState (sym shown)
               (lists.right_left d before.lists after.lists ended (shown_with after.controls.controls ls told) after.controls.controls first.0 refl left_controls.joined was.lists.apart listed_all missing);

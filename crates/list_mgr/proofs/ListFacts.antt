@@ -24,6 +24,7 @@ use Rattle.desk_call.specs.declared.list.ListOf.{ListOf}
 use Rattle.desk_call.specs.declared.list.ListReply.{ListReply}
 use Rattle.desk_call.specs.declared.list.ListReply.TheVariants as reply
 use Rattle.desk_call.specs.declared.list.NewList.{NewList}
+use Rattle.window_list.specs.declared.layer.Layer.{Layer}
 use Rattle.list_cells.specs.declared.cell.Cell.{Cell}
 use Rattle.list_cells.specs.Grids.{Grid}
 use Rattle.window_items.specs.Items.{serial_after}

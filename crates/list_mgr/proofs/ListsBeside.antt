@@ -8,7 +8,6 @@ use Rattle.tb_geom.specs.Refusals.{first_refusal}
 use Rattle.desk_layers.specs.declared.part.Part.TheVariants as part
 use Rattle.control_values.specs.Settings.{Setting}
 use Rattle.list_cells.specs.declared.cell.Cell.{Cell}
-use Rattle.list_cells.specs.Clicks.{is_word}
 use Rattle.list_cells.specs.Grids.{Grid}
 use Rattle.window_list.specs.declared.layer.Layer.{Layer}
 use Rattle.desk_call.specs.declared.control.ControlCall.TheVariants as control_calls
@@ -31,7 +30,7 @@ use Rattle.control_mgr.specs.ControlDesks.{index_of}
 use Rattle.control_mgr.specs.ControlSteps.{IsSettingPutAt, behind_controls}
 use Rattle.control_mgr.proofs.ControlsKept.{control_behind, uncontrolled}
 use Rattle.list_mgr.specs.ListDesks.{IsListDeskUnchanged, KeptList, ListDesk, list_of, with_controls}
-use Rattle.list_mgr.specs.ListRefusals.{cell_refusals, list_refusals, of_list}
+use Rattle.list_mgr.specs.ListRefusals.{cell_refusals, is_word, list_refusals, of_list}
 use Rattle.list_mgr.specs.ListSteps.{AreBarsSet, IsBarGone, IsBarGoneIf, IsBarMade, IsBarSet, IsClickOn, IsListDisposed, IsListEffect, IsListGone, IsListMade, IsListPut, IsListStep, IsRelined, IsSeenOrNot, IsToggledOrNot, IsUnseen, clicked_at, with_last, without_part}
 use Rattle.list_mgr.proofs.ListFacts.{there_window, window_there}
 use Rattle.list_mgr.proofs.ListedLayers.{beside_last, beside_lists, beside_without}

@@ -7,6 +7,7 @@ use Rattle.def_iface.specs.contracts.taken_list.TakenListDefined.TheImpl as take
 use Rattle.window_mgr.specs.DeskStates.{Opened, desk_with}
 use Rattle.window_mgr.specs.Records.{state_of}
 use Rattle.window_frame.proofs.FramesShowing.{frame_step_showing}
+use Rattle.window_paint.specs.White.{all_white}
 use Rattle.control_mgr.specs.ControlDesks.{controls_show}
 use Rattle.control_mgr.specs.WholeControls.{records_of}
 use Rattle.list_mgr.specs.ListDesks.{lists_show}
@@ -55,7 +56,7 @@ returns-in-Frame-clause-step g c =
       c.perform.result,
       search rules,
       (
-        frame_step_showing (controls_show (lists_show (lists.records_of (taken_list.loan-value g.dyn-4).it c.args.self.now.lists)) (records_of (taken_control.loan-value g.dyn-2).it c.args.self.now.controls)) c.in-Frame.call c.perform.result (desk_with before (state_of (taken.loan-value g.dyn-1).it c.args.self.now.windows _)) (desk_with after (state_of (taken.loan-value g.dyn-1).it c.perform.new.windows _))
+        frame_step_showing (controls_show (lists_show (λ font. all_white) (lists.records_of (taken_list.loan-value g.dyn-4).it c.args.self.now.lists)) (records_of (taken_control.loan-value g.dyn-2).it c.args.self.now.controls)) c.in-Frame.call c.perform.result (desk_with before (state_of (taken.loan-value g.dyn-1).it c.args.self.now.windows _)) (desk_with after (state_of (taken.loan-value g.dyn-1).it c.perform.new.windows _))
             c.requires.whole.managers.windows.sound.distinct done.1,
         record { events = refl; controls = refl; lists = refl; menus = refl },
       ),
@@ -85,7 +86,7 @@ returns-in-Menu-clause-step g c =
       c.perform-in-Menu.result,
       search rules,
       record {
-        step = menu_step_showing (controls_show (lists_show (lists.records_of (taken_list.loan-value g.dyn-4).it c.args.self.now.lists)) (records_of (taken_control.loan-value g.dyn-2).it c.args.self.now.controls)) _ _ c.requires.whole.managers.windows.sound.distinct c.in-Menu.call c.perform-in-Menu.result done.2;
+        step = menu_step_showing (controls_show (lists_show (λ font. all_white) (lists.records_of (taken_list.loan-value g.dyn-4).it c.args.self.now.lists)) (records_of (taken_control.loan-value g.dyn-2).it c.args.self.now.controls)) _ _ c.requires.whole.managers.windows.sound.distinct c.in-Menu.call c.perform-in-Menu.result done.2;
         events = refl;
         controls = refl;
         lists = refl;

@@ -19,6 +19,7 @@ use Rattle.window_mgr.proofs.SameDeskLemmas.{on_refusal}
 use Rattle.window_update.specs.WholeUpdates.{opened}
 use Rattle.window_frame.proofs.Economical.{all_economical, economical_untouched, others_if_done, refused_economical}
 use Rattle.window_frame.proofs.FramesShowing.{caught_up_by_showing}
+use Rattle.window_paint.specs.White.{all_white}
 use Rattle.control_mgr.specs.ControlDesks.{ControlRecord, controls_show}
 use Rattle.control_mgr.specs.Settled.{IsSettledControl}
 use Rattle.control_mgr.specs.WholeControls.{AreWholeControls, controls_state, records_of}
@@ -84,7 +85,7 @@ pub returns-in-Ok-clause-step : goal.returns-in-Ok-clause-step
 returns-in-Ok-clause-step g c =
     let old = c.args.self.now in
     let loan = (taken.loan-value g.dyn-1).it in
-    let shows = controls_show (lists_show (lists.records_of (taken_list.loan-value g.dyn-4).it old.lists)) (records_of (taken_control.loan-value g.dyn-2).it old.controls) in
+    let shows = controls_show (lists_show (λ font. all_white) (lists.records_of (taken_list.loan-value g.dyn-4).it old.lists)) (records_of (taken_control.loan-value g.dyn-2).it old.controls) in
     let done = c.in-Ok.ensures in
     let caught = (caught_up_so c.args.call.now c.args.nature c.requires.nature _ c.perform.new.self c.follow.new.windows c.follow.ensures.told _ done.whole).1 in
     window_is_told _ c.args.call.now (Ok c.in-Ok.reply) _ _ (covered_so c.args.call.now c.args.nature c.requires.nature _ _ _ (c.is_behind_menu.ensures _) c.if-is_behind_menu.false)
@@ -123,7 +124,7 @@ returns-in-Ok-clause-whole g c =
     (window_whole _ _ old.windows mid _ _ _ _ _ old.activity c.args.call.now (Ok c.in-Ok.reply) c.requires.admitted done.step (record { menus = c.requires.whole.managers.menus; front = c.requires.whole.managers.front })) in
     let before : ToolboxState = toolbox_state loan menu_loan control_loan list_loan old ((stock.all_slots-value g.dyn-1 g.dyn-2 g.dyn-4 g.dyn-3).it c.args.stock.now) in
     let after : ToolboxState = record {
-      desk = desk_with (opened old.activity old.updates) (state_showing (controls_show (lists_show (lists.records_of list_loan c.forget.new.lists)) (records_of control_loan c.forget.new.controls)) (state_of loan c.follow.new.windows (window_slots c.perform.new.stock)));
+      desk = desk_with (opened old.activity old.updates) (state_showing (controls_show (lists_show (λ font. all_white) (lists.records_of list_loan c.forget.new.lists)) (records_of control_loan c.forget.new.controls)) (state_of loan c.follow.new.windows (window_slots c.perform.new.stock)));
       controls = controls_state control_loan c.forget.new.controls (slots c.forget.new.control_stock);
       lists = lists_state list_loan c.forget.new.lists (list_slots c.forget.new.list_stock);
       menus = before.menus;
@@ -154,7 +155,7 @@ returns-in-Ok-clause-economy g c informed =
 pub returns-in-Err-clause-step : goal.returns-in-Err-clause-step
 returns-in-Err-clause-step g c =
     let old = c.args.self.now in
-    let shows = controls_show (lists_show (lists.records_of (taken_list.loan-value g.dyn-4).it old.lists)) (records_of (taken_control.loan-value g.dyn-2).it old.controls) in
+    let shows = controls_show (lists_show (λ font. all_white) (lists.records_of (taken_list.loan-value g.dyn-4).it old.lists)) (records_of (taken_control.loan-value g.dyn-2).it old.controls) in
     window_is_told _ c.args.call.now (Err c.in-Err.refusal) _ _ (covered_so c.args.call.now c.args.nature c.requires.nature _ _ _ (c.is_behind_menu.ensures _) c.if-is_behind_menu.false) (
       rw (narrowed_so c.args.call.now c.args.nature c.requires.nature c.args.self.now.activity (opened c.args.self.now.activity c.args.self.now.updates).begun None c.in_default.ensures) (
         record { activity = refl; begun = refl },

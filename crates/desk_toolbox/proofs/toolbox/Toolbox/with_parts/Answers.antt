@@ -2,6 +2,7 @@ use Rattle.std.proofs.Common.{rules, SFits, w32, ap}
 use Rattle.std.proofs.lemmas.Int.{to_z-of_z}
 use Rattle.def_iface.specs.contracts.taken_control.TakenControlDefined.TheImpl as taken_control
 use Rattle.def_iface.specs.contracts.taken_list.TakenListDefined.TheImpl as taken_list
+use Rattle.window_paint.specs.White.{all_white}
 use Rattle.control_mgr.specs.Seen.{all_seen}
 use Rattle.control_mgr.specs.ControlDesks.{controls_show}
 use Rattle.control_mgr.specs.WholeControls.{records_of}
@@ -33,7 +34,7 @@ returns-in-Ok-clause-whole g c stocks full =
     let begun = simp to_z-of_z at c.in-Ok.ensures.begun in
     let empty = begun stocks.windows full.windows in
     let menus = menus_begin _ _ c.args.width c.args.height c.args.bar _ _ _ _ stocks.windows stocks.menus c.requires.menus c.requires.front empty (stocked_by_full stocks.menus full.menus) in
-    let shows = controls_show (lists_show (whole_lists.records_of (taken_list.loan-value g.dyn-4).it c.new-in-Ok-2.result)) (records_of (taken_control.loan-value g.dyn-3).it c.new-in-Ok.result) in
+    let shows = controls_show (lists_show (λ font. all_white) (whole_lists.records_of (taken_list.loan-value g.dyn-4).it c.new-in-Ok-2.result)) (records_of (taken_control.loan-value g.dyn-3).it c.new-in-Ok.result) in
     record {
       managers = record {
         windows = empty.whole;
