@@ -25,6 +25,7 @@ use Rattle.menu_mgr.specs.WholeMenus.{AreMenusStocked}
 use Rattle.desk_toolbox.specs.Classes.{AreClassed, IsOrdinary}
 use Rattle.desk_toolbox.specs.EventSteps.{first_events}
 use Rattle.desk_toolbox.specs.ToolboxStates.{ToolboxState, with_controls}
+use Rattle.desk_toolbox.specs.Untexted.{HaveNoTexts}
 
 -- no window is meant, or one of these
 abbrev pub IsThere : Option ℕ → List WindowRecord → Type 0
@@ -85,10 +86,11 @@ IsPulledThere _ menus = Unit {0}
 abbrev pub IsTitleInBar : MenusState → Type 0
 IsTitleInBar menus = IfSome menus.highlighted (λ id. is_in_bar (pos id) menus.menus ≡ true)
 
--- the controls and the lists of a state are whole beside its windows, which show them
+-- the controls and the lists of a state are whole beside its windows, which show them, and have no other layers
 pub record AreContentsRight (s : ToolboxState) : Type 0 where
   pub controls : AreWholeControls s.desk.windows.desk.windows s.controls
   pub lists : AreWholeLists s.desk.windows.desk.windows s.lists
+  pub texts : HaveNoTexts s.desk.windows.desk.windows
   pub shown : ShowsControls (with_controls s)
 
 -- a right state, in which the active window and the one last told active are ordinary windows of the desk, that of what is open

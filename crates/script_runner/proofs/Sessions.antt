@@ -34,6 +34,7 @@ none_show : (font : List ℕ) (part : Part) (p : Point) → controls_show (lists
 none_show font parts.Picture p = refl
 none_show font (parts.Control n) p = refl
 none_show font (parts.List n) p = refl
+none_show font (parts.Text n) p = refl
 
 -- the desk that the Toolbox made
 pub new_desk : {V : Type 0} {H : V → Type 0} (loan : TakenBox V H → WindowLoan) {W : Type 0} {K : W → Type 0} (menu_loan : TakenBox W K → MenuLoan) {U : Type 0} {J : U → Type 0} (control_loan : TakenBox U J → ControlLoan) {X : Type 0} {L : X → Type 0} (list_loan : TakenBox X L → ListLoan) (t : Toolbox V U W X H J K L) (font : List ℕ) (stocks : AllSlots) (size wanted : DeskSize) → size ≡ wanted
