@@ -40,8 +40,8 @@ use Rattle.desk_toolbox.specs.ToolboxStates.{ToolboxState, with_menus}
 use Rattle.desk_toolbox.proofs.Bonds.{Bond, Every, every_all, all_every, every_changed}
 use Rattle.desk_toolbox.proofs.StepCounts.{frame_counts}
 use Rattle.desk_toolbox.proofs.Totals.{copies, counted_is_found, either_class, found_counts}
-use Rattle.desk_toolbox.specs.Untexted.{HaveNoTexts}
-use Rattle.desk_toolbox.proofs.Untexted.{untexted}
+use Rattle.desk_toolbox.specs.KnownLayers.{AreLayersKnown}
+use Rattle.desk_toolbox.proofs.KnownLayers.{known_to}
 
 -- a right state whose controls and lists are whole and shown
 pub record IsRightToolbox (s : ToolboxState) : Type 0 where
@@ -54,7 +54,7 @@ pub still : (before after : ToolboxState) → after.desk.windows.desk ≡ before
 still before after desk controls lists was = record {
   controls = subst (λ (x : FullDesk × ControlsState). AreWholeControls x.0.windows x.1) (λ i. (sym desk i, sym controls i)) was.controls;
   lists = subst (λ (x : FullDesk × ListsState). AreWholeLists x.0.windows x.1) (λ i. (sym desk i, sym lists i)) was.lists;
-  texts = subst (λ (d : FullDesk). HaveNoTexts d.windows) (sym desk) was.texts;
+  known = subst (λ (d : FullDesk). AreLayersKnown d.windows) (sym desk) was.known;
   shown = subst (λ (x : FullDesk × ControlsState × ListsState). x.0.shows ≡ controls_show (lists_show (λ font. all_white) x.2.lists) x.1.controls x.0.font) (λ i. (sym desk i, sym controls i, sym lists i)) was.shown;
 }
 
@@ -190,22 +190,22 @@ updates_leave_lists call answer before after s step whole = subst (λ (d : FullD
 pub menus_leave_lists : (call : MenuCall) (answer : Result MenuReply Refusal) (before after : MenuDesk) (s : ListsState) → IsMenuStep call answer before after → AreWholeLists before.desk.windows.desk.windows s → AreWholeLists after.desk.windows.desk.windows s
 menus_leave_lists call answer before after s step whole = subst (λ ws. AreWholeLists ws s) (sym (menu_keeps (λ d. d.windows) (λ d titles. refl) call answer before after step)) whole
 
--- windows without text records have none
-pub frames_leave_none : (call : FrameCall) (answer : Result FrameReply Refusal) (before after : DeskState) → IsFrameStep call answer before after → HaveNoTexts before.windows.desk.windows → HaveNoTexts after.windows.desk.windows
-frames_leave_none call answer before after step none =
-    every_all untexted after.windows.desk.windows (frame_holds untexted call answer before after step (all_every untexted before.windows.desk.windows none))
+-- windows whose layers are controls' and lists' alone have no others
+pub frames_leave_known : (call : FrameCall) (answer : Result FrameReply Refusal) (before after : DeskState) → IsFrameStep call answer before after → AreLayersKnown before.windows.desk.windows → AreLayersKnown after.windows.desk.windows
+frames_leave_known call answer before after step none =
+    every_all known_to after.windows.desk.windows (frame_holds known_to call answer before after step (all_every known_to before.windows.desk.windows none))
 
-pub updates_leave_none : (call : UpdateCall) (answer : Result WindowReply Refusal) (before after : DeskState) → IsUpdateStep call answer before after → HaveNoTexts before.windows.desk.windows → HaveNoTexts after.windows.desk.windows
-updates_leave_none call answer before after step none = subst (λ (d : FullDesk). HaveNoTexts d.windows) (sym (update_keeps_desk call answer before after step)) none
+pub updates_leave_known : (call : UpdateCall) (answer : Result WindowReply Refusal) (before after : DeskState) → IsUpdateStep call answer before after → AreLayersKnown before.windows.desk.windows → AreLayersKnown after.windows.desk.windows
+updates_leave_known call answer before after step none = subst (λ (d : FullDesk). AreLayersKnown d.windows) (sym (update_keeps_desk call answer before after step)) none
 
-pub menus_leave_none : (call : MenuCall) (answer : Result MenuReply Refusal) (before after : MenuDesk) → IsMenuStep call answer before after → HaveNoTexts before.desk.windows.desk.windows → HaveNoTexts after.desk.windows.desk.windows
-menus_leave_none call answer before after step none = subst HaveNoTexts (sym (menu_keeps (λ d. d.windows) (λ d titles. refl) call answer before after step)) none
+pub menus_leave_known : (call : MenuCall) (answer : Result MenuReply Refusal) (before after : MenuDesk) → IsMenuStep call answer before after → AreLayersKnown before.desk.windows.desk.windows → AreLayersKnown after.desk.windows.desk.windows
+menus_leave_known call answer before after step none = subst AreLayersKnown (sym (menu_keeps (λ d. d.windows) (λ d titles. refl) call answer before after step)) none
 
 pub beside_frames : (call : FrameCall) (answer : Result FrameReply Refusal) (before after : ToolboxState) → IsFrameStep call answer before.desk after.desk → after.controls ≡ before.controls → after.lists ≡ before.lists → AreContentsRight before → AreContentsRight after
 beside_frames call answer before after step controls lists was = record {
   controls = subst (AreWholeControls after.desk.windows.desk.windows) (sym controls) (frames_leave call answer before.desk after.desk before.controls step was.controls);
   lists = subst (AreWholeLists after.desk.windows.desk.windows) (sym lists) (frames_leave_lists call answer before.desk after.desk before.lists step was.lists);
-  texts = frames_leave_none call answer before.desk after.desk step was.texts;
+  known = frames_leave_known call answer before.desk after.desk step was.known;
   shown = shown_on before after (frame_keeps (λ d. d.shows) (λ d ws. refl) call answer before.desk after.desk step)
       (frame_keeps (λ d. d.font) (λ d ws. refl) call answer before.desk after.desk step) controls lists was;
 }
@@ -214,7 +214,7 @@ pub beside_menus : (call : MenuCall) (answer : Result MenuReply Refusal) (before
 beside_menus call answer before after step controls lists was = record {
   controls = subst (AreWholeControls after.desk.windows.desk.windows) (sym controls) (menus_leave call answer (with_menus before) (with_menus after) before.controls step was.controls);
   lists = subst (AreWholeLists after.desk.windows.desk.windows) (sym lists) (menus_leave_lists call answer (with_menus before) (with_menus after) before.lists step was.lists);
-  texts = menus_leave_none call answer (with_menus before) (with_menus after) step was.texts;
+  known = menus_leave_known call answer (with_menus before) (with_menus after) step was.known;
   shown = shown_on before after (menu_keeps (λ d. d.shows) (λ d titles. refl) call answer (with_menus before) (with_menus after) step)
       (menu_keeps (λ d. d.font) (λ d titles. refl) call answer (with_menus before) (with_menus after) step) controls lists was;
 }

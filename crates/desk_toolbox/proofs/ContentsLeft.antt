@@ -9,7 +9,7 @@ use Rattle.tb_geom.specs.Points.{PixelSet}
 use Rattle.window_items.specs.Items.{items_of, is_in}
 use Rattle.desk_call.specs.declared.control.ControlCall.{ControlCall}
 use Rattle.desk_call.specs.declared.control.ControlReply.{ControlReply}
-use Rattle.desk_call.specs.declared.update.LayerKind.TheVariants.{Controls, Texts}
+use Rattle.desk_call.specs.declared.update.LayerKind.TheVariants.{Controls}
 use Rattle.desk_call.specs.declared.window.WindowCall.{WindowCall}
 use Rattle.desk_call.specs.declared.window.WindowCall.TheVariants as asks
 use Rattle.desk_call.specs.declared.window.WindowReply.{WindowReply}
@@ -49,8 +49,8 @@ use Rattle.desk_toolbox.proofs.ContentsBeside.{IsRightToolbox, caught_up_holds, 
 use Rattle.desk_toolbox.proofs.KeptDesks.{told_keeps}
 use Rattle.desk_toolbox.proofs.StepCounts.{AreNumbered, HasLess, Recount, told_recounts, disposed_is_gone, right_is_numbered}
 use Rattle.desk_toolbox.proofs.Totals.{copies, counted_is_found, either_class, found_counts, serial_of_counted}
-use Rattle.desk_toolbox.specs.Untexted.{HaveNoTexts}
-use Rattle.desk_toolbox.proofs.Untexted.{control_leaves_none, list_leaves_none, untexted}
+use Rattle.desk_toolbox.specs.KnownLayers.{AreLayersKnown, is_known}
+use Rattle.desk_toolbox.proofs.KnownLayers.{control_leaves_known, list_leaves_known, known_to}
 
 -- ---- the windows after a call on them
 
@@ -125,8 +125,8 @@ module _ (call : WindowCall) (answer : WindowReply) (before : ToolboxState) (mid
       (λ n f next. subst (λ own. AreListLayers own []) (sym (no_lists_of_missing n ls ws was.lists.somewhere (next_is_new before.desk.windows.desk n numbered next))) tt)
       (listed_every before.lists ws was.lists)
 
-  untexted_told : Every untexted told.desk.windows
-  untexted_told = holds untexted (λ n f next. All-nil (λ (k : Layer). is_of Texts k.part ≡ false)) (all_every untexted ws was.texts)
+  known_told : Every known_to told.desk.windows
+  known_told = holds known_to (λ n f next. All-nil (λ (k : Layer). is_known k ≡ true)) (all_every known_to ws was.known)
 
   shows : told.desk.shows ≡ controls_show (lists_show (λ font. all_white) ls) cs told.desk.font
   shows =
@@ -169,7 +169,7 @@ module _ (call : WindowCall) (answer : WindowReply) (before : ToolboxState) (mid
     kept_contents = record {
       controls = subst (λ (x : FullState × ControlsState). AreWholeControls x.0.desk.windows x.1) (λ i. (sym same i, sym left i)) whole;
       lists = subst (λ (x : FullState × ListsState). AreWholeLists x.0.desk.windows x.1) (λ i. (sym same i, sym ended i)) whole_lists;
-      texts = subst (λ (s : FullState). HaveNoTexts s.desk.windows) (sym same) (every_all untexted told.desk.windows untexted_told);
+      known = subst (λ (s : FullState). AreLayersKnown s.desk.windows) (sym same) (every_all known_to told.desk.windows known_told);
       shown = subst (λ (x : FullState × ControlsState × ListsState). x.0.desk.shows ≡ controls_show (lists_show (λ font. all_white) x.2.lists) x.1.controls x.0.desk.font) (λ i. (sym same i, sym left i, sym ended i)) shows;
     }
 
@@ -220,7 +220,7 @@ module _ (call : WindowCall) (answer : WindowReply) (before : ToolboxState) (mid
     gone_contents = record {
       controls = subst (λ (s : FullState). AreWholeControls s.desk.windows after.controls) (sym shown) left_controls;
       lists = subst (λ (s : FullState). AreWholeLists s.desk.windows after.lists) (sym shown) left_lists;
-      texts = subst (λ (s : FullState). HaveNoTexts s.desk.windows) (sym shown) (every_all untexted told.desk.windows untexted_told);
+      known = subst (λ (s : FullState). AreLayersKnown s.desk.windows) (sym shown) (every_all known_to told.desk.windows known_told);
       shown = ap (λ (s : FullState). s.desk.shows) shown ∙ ap (controls_show (lists_show (λ font. all_white) after.lists.lists) after.controls.controls) (sym (ap (λ (s : FullState). s.desk.font) shown));
     }
 
@@ -256,15 +256,15 @@ made_stays_right call answer before middle told after was answered caught shown 
 pub right_lists : (s : ToolboxState) → IsRightToolbox s → IsRightLists (with_lists s)
 right_lists s was = record { desk = record { right = was.right; shows = was.contents.shown; whole = was.contents.controls }; lists = was.contents.lists }
 
-right_toolbox : (s : ToolboxState) → IsRightLists (with_lists s) → HaveNoTexts s.desk.windows.desk.windows → IsRightToolbox s
-right_toolbox s its none = record { right = its.desk.right; contents = record { controls = its.desk.whole; lists = its.lists; texts = none; shown = its.desk.shows } }
+right_toolbox : (s : ToolboxState) → IsRightLists (with_lists s) → AreLayersKnown s.desk.windows.desk.windows → IsRightToolbox s
+right_toolbox s its none = record { right = its.desk.right; contents = record { controls = its.desk.whole; lists = its.lists; known = none; shown = its.desk.shows } }
 
 pub list_stays_right : (call : ListCall) (answer : Result ListReply Refusal) (before after : ToolboxState) → IsRightToolbox before → IsListStep call answer (with_lists before) (with_lists after) → IsRightToolbox after
 list_stays_right call answer before after was step =
     right_toolbox after (list_keeps (with_lists before) (with_lists after) (right_lists before was) call answer step)
-    (list_leaves_none call answer (with_lists before) (with_lists after) (right_lists before was) step was.contents.texts)
+    (list_leaves_known call answer (with_lists before) (with_lists after) (right_lists before was) step was.contents.known)
 
 pub control_stays_right : (call : ControlCall) (answer : Result ControlReply Refusal) (before after : ToolboxState) → IsRightToolbox before → IsControlStep call answer (with_controls before) (with_controls after) → after.lists ≡ before.lists → IsRightToolbox after
 control_stays_right call answer before after was step same =
     right_toolbox after (step_keeps (with_lists before) (with_lists after) (right_lists before was) call answer step same)
-    (control_leaves_none call answer (with_controls before) (with_controls after) was.right.plain.desk was.contents.controls.apart step was.contents.texts)
+    (control_leaves_known call answer (with_controls before) (with_controls after) was.right.plain.desk was.contents.controls.apart step was.contents.known)

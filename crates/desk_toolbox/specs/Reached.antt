@@ -25,7 +25,7 @@ use Rattle.menu_mgr.specs.WholeMenus.{AreMenusStocked}
 use Rattle.desk_toolbox.specs.Classes.{AreClassed, IsOrdinary}
 use Rattle.desk_toolbox.specs.EventSteps.{first_events}
 use Rattle.desk_toolbox.specs.ToolboxStates.{ToolboxState, with_controls}
-use Rattle.desk_toolbox.specs.Untexted.{HaveNoTexts}
+use Rattle.desk_toolbox.specs.KnownLayers.{AreLayersKnown}
 
 -- no window is meant, or one of these
 abbrev pub IsThere : Option ℕ → List WindowRecord → Type 0
@@ -90,7 +90,7 @@ IsTitleInBar menus = IfSome menus.highlighted (λ id. is_in_bar (pos id) menus.m
 pub record AreContentsRight (s : ToolboxState) : Type 0 where
   pub controls : AreWholeControls s.desk.windows.desk.windows s.controls
   pub lists : AreWholeLists s.desk.windows.desk.windows s.lists
-  pub texts : HaveNoTexts s.desk.windows.desk.windows
+  pub known : AreLayersKnown s.desk.windows.desk.windows
   pub shown : ShowsControls (with_controls s)
 
 -- a right state, in which the active window and the one last told active are ordinary windows of the desk, that of what is open

@@ -24,7 +24,7 @@ use Rattle.menu_mgr.specs.WholeMenus.{AreLive, IsPlaced, IsWholeMenus, menus_of,
 use Rattle.desk_toolbox.specs.declared.toolbox.Toolbox.{Toolbox}
 use Rattle.desk_toolbox.specs.FrontMaps.{IsFrontRight}
 use Rattle.desk_toolbox.specs.ToolboxStates.{ToolboxState}
-use Rattle.desk_toolbox.specs.Untexted.{HaveNoTexts}
+use Rattle.desk_toolbox.specs.KnownLayers.{AreLayersKnown}
 
 -- `loan` says what a window's definition that was taken means, `menu_loan` what a menu's, `control_loan` what a control's, and
 -- `list_loan` what a list's
@@ -39,7 +39,7 @@ module _ {V : Type 0} {H : V → Type 0} (loan : TakenBox V H → WindowLoan) {W
     pub menus : IsWholeMenus menu_loan t.activity t.menus stocks.menus
     pub front : IsFrontRight menu_loan t.activity t.windows t.menus t.front
     pub lists : AreWholeLists (desk_of loan t.windows []).windows (lists_state list_loan t.lists stocks.lists)
-    pub texts : HaveNoTexts (desk_of loan t.windows []).windows
+    pub known : AreLayersKnown (desk_of loan t.windows []).windows
 
   -- its state: what its windows show of controls and lists is what these show
   abbrev pub toolbox_state : Toolbox V U W X H J K L → AllSlots → ToolboxState

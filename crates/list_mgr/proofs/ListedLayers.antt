@@ -38,7 +38,7 @@ other_part (part.List m) (part.Control n) e f = refl
 other_part (part.List m) (part.Text n) e f = refl
 other_part (part.List m) (part.List n) e f = absurd (true≢false f)
 
-control_no_list : (q : Part) → is_of Controls q ≡ true → is_of Lists q ≡ false
+pub control_no_list : (q : Part) → is_of Controls q ≡ true → is_of Lists q ≡ false
 control_no_list part.Picture e = refl
 control_no_list (part.Control m) e = refl
 control_no_list (part.Text m) e = refl

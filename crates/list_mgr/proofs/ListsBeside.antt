@@ -117,7 +117,7 @@ relined : (l : ListOf) (f : KeptList → KeptList) (before after : ListDesk) →
 relined l f before after (mid, (x, named, done), bars) = others_of before after (bars_set l mid after bars ∙ seen x.kept.drawing l f x before mid done)
 
 module _ (before after : ListDesk) (was : IsRightLists before) where
-  bar_made : (wanted : Bool) (n : NewControl) (serial : Option ℕ) → IsBarMade wanted n serial before after → SameOthers before after
+  pub bar_made : (wanted : Bool) (n : NewControl) (serial : Option ℕ) → IsBarMade wanted n serial before after → SameOthers before after
   bar_made false n serial done = others_of before after (still before after done.1)
   bar_made true n serial ((c, is, step), same) =
       from_uncontrolled before.desk.windows.desk.windows after.desk.windows.desk.windows
@@ -129,7 +129,7 @@ module _ (before after : ListDesk) (was : IsRightLists before) where
       from_uncontrolled before.desk.windows.desk.windows after.desk.windows.desk.windows
       (control_behind (control_calls.Dispose c) (Ok control_reply.Done) (with_controls before) (with_controls after) was.desk.right.plain.desk was.desk.whole.apart done.0)
 
-  bar_gone : (window : ℕ) (o : Option ℕ) → IsBarGone window o before after → SameOthers before after
+  pub bar_gone : (window : ℕ) (o : Option ℕ) → IsBarGone window o before after → SameOthers before after
   bar_gone window None same = others_of before after (still before after same)
   bar_gone window (Some n) done = gone_if (is_none (index_of (record { window = window; control = n }) before.controls.controls)) (record { window = window; control = n }) done
 
@@ -138,7 +138,7 @@ module _ (before after : ListDesk) (was : IsRightLists before) where
       from_unlisted before.desk.windows.desk.windows after.desk.windows.desk.windows
       (beside_are before after was n.window (with_last put.layer) (Some (part.List serial)) put.laid put.beside.controls (λ ks. beside_last ks put.layer (ap (is_of Lists) put.its.part)))
 
-  list_gone : (l : ListOf) (x : KeptList) → IsListGone l x before after → SameOthers before after
+  pub list_gone : (l : ListOf) (x : KeptList) → IsListGone l x before after → SameOthers before after
   list_gone l x gone =
       from_unlisted before.desk.windows.desk.windows after.desk.windows.desk.windows
       (beside_are before after was l.window (without_part (part.List l.list)) None gone.laid gone.beside.controls (beside_without l.list))

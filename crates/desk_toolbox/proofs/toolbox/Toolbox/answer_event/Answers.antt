@@ -23,7 +23,7 @@ returns-clause-whole g c stocks whole = record {
   menus = whole.managers.menus;
   front = whole.managers.front;
   lists = whole.managers.lists;
-  texts = whole.managers.texts;
+  known = whole.managers.known;
 }
 
 pub returns-clause-step : goal.returns-clause-step

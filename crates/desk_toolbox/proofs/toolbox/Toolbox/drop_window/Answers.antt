@@ -26,5 +26,5 @@ returns-clause-whole g c =
       menus = beside.menus;
       front = beside.front;
       lists = whole.lists;
-      texts = whole.texts;
+      known = whole.known;
     }

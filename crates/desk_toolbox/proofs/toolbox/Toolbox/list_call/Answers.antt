@@ -6,7 +6,7 @@ use Rattle.def_iface.specs.contracts.taken_menu.TakenMenuDefined.TheImpl as take
 use Rattle.window_paint.specs.White.{all_white}
 use Rattle.window_update.specs.WholeUpdates.{opened}
 use Rattle.desk_toolbox.proofs.ListsAside.{menus_after_list, trackable_after_list, updates_after_list}
-use Rattle.desk_toolbox.proofs.Untexted.{list_leaves_none}
+use Rattle.desk_toolbox.proofs.KnownLayers.{list_leaves_known}
 use Rattle.desk_toolbox.proofs.toolbox.Toolbox.list_call.Goals as goal
 
 pub returns-clause-whole : goal.returns-clause-whole
@@ -32,8 +32,8 @@ returns-clause-whole g c =
       menus = menus.menus;
       front = menus.front;
       lists = done.2;
-      texts = list_leaves_none c.args.call.now c.perform.result _ _
-          (record { desk = record { right = c.requires.whole.right; shows = refl; whole = c.requires.whole.managers.controls }; lists = c.requires.whole.managers.lists }) made c.requires.whole.managers.texts;
+      known = list_leaves_known c.args.call.now c.perform.result _ _
+          (record { desk = record { right = c.requires.whole.right; shows = refl; whole = c.requires.whole.managers.controls }; lists = c.requires.whole.managers.lists }) made c.requires.whole.managers.known;
     }
 
 pub returns-clause-step : goal.returns-clause-step

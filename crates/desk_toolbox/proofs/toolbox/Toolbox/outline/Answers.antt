@@ -34,7 +34,7 @@ returns-in-Ok-clause-whole g c stocks whole =
         outline = c.show_outline.ensures.shown;
       };
       lists = whole.managers.lists;
-      texts = whole.managers.texts;
+      known = whole.managers.known;
     }
 
 pub returns-in-Ok-clause-step : goal.returns-in-Ok-clause-step

@@ -13,7 +13,7 @@ use Rattle.control_mgr.specs.WholeControls.{records_of}
 use Rattle.list_mgr.specs.ListDesks.{lists_show}
 use Rattle.list_mgr.specs.WholeLists as lists
 use Rattle.menu_mgr.proofs.MenusShowing.{menu_step_showing}
-use Rattle.desk_toolbox.proofs.ContentsBeside.{frames_leave, frames_leave_lists, frames_leave_none, menus_leave, menus_leave_lists, menus_leave_none}
+use Rattle.desk_toolbox.proofs.ContentsBeside.{frames_leave, frames_leave_lists, frames_leave_known, menus_leave, menus_leave_lists, menus_leave_known}
 use Rattle.desk_toolbox.proofs.MenuStands.{menu_outlines_none, menu_trackable}
 use Rattle.desk_toolbox.proofs.TrackedControls.{frame_trackable}
 use Rattle.desk_toolbox.proofs.MenusBeside.{frame_whole}
@@ -41,7 +41,7 @@ returns-in-Frame-clause-whole g c =
       updates = updates_after_frame _ c.args.self.now.windows c.perform.new.windows c.args.self.now.updates _ _ before after c.in-Frame.call c.perform.result may done.1 c.requires.whole.managers.updates;
       controls = frames_leave c.in-Frame.call c.perform.result _ _ _ done.1 c.requires.whole.managers.controls;
       lists = frames_leave_lists c.in-Frame.call c.perform.result _ _ _ done.1 c.requires.whole.managers.lists;
-      texts = frames_leave_none c.in-Frame.call c.perform.result _ _ done.1 c.requires.whole.managers.texts;
+      known = frames_leave_known c.in-Frame.call c.perform.result _ _ done.1 c.requires.whole.managers.known;
       trackable = frame_trackable _ _ _ c.requires.whole.managers.trackable c.in-Frame.call c.perform.result done.1;
       menus = menus.menus;
       front = menus.front;
@@ -75,7 +75,7 @@ returns-in-Menu-clause-whole g c =
       updates = updates_after_menu _ c.args.self.now.windows c.perform-in-Menu.new.windows c.args.self.now.updates _ _ before after _ _ c.in-Menu.call c.perform-in-Menu.result may done.2 c.requires.whole.managers.updates;
       controls = menus_leave c.in-Menu.call c.perform-in-Menu.result _ _ _ done.2 c.requires.whole.managers.controls;
       lists = menus_leave_lists c.in-Menu.call c.perform-in-Menu.result _ _ _ done.2 c.requires.whole.managers.lists;
-      texts = menus_leave_none c.in-Menu.call c.perform-in-Menu.result _ _ done.2 c.requires.whole.managers.texts;
+      known = menus_leave_known c.in-Menu.call c.perform-in-Menu.result _ _ done.2 c.requires.whole.managers.known;
       trackable = menu_trackable c.in-Menu.call c.perform-in-Menu.result _ _ _ may done.2;
       menus = done.1;
       front = record { menu = c.perform-in-Menu.ensures.front; kept = none.0; outline = none.1 };

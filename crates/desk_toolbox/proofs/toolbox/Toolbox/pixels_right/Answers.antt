@@ -10,7 +10,7 @@ returns-clause-whole g c stocks whole = record {
     menus = whole.managers.menus;
     front = whole.managers.front;
     lists = whole.managers.lists;
-    texts = whole.managers.texts;
+    known = whole.managers.known;
   };
   right = whole.right;
 }

@@ -7,7 +7,7 @@ use Rattle.control_mgr.specs.ControlDesks.{controls_show}
 use Rattle.control_mgr.specs.WholeControls.{records_of}
 use Rattle.list_mgr.specs.ListDesks.{lists_show}
 use Rattle.list_mgr.specs.WholeLists as lists
-use Rattle.desk_toolbox.proofs.ContentsBeside.{updates_leave, updates_leave_lists, updates_leave_none}
+use Rattle.desk_toolbox.proofs.ContentsBeside.{updates_leave, updates_leave_lists, updates_leave_known}
 use Rattle.desk_toolbox.proofs.MenusBeside.{update_whole}
 use Rattle.desk_toolbox.proofs.TrackedControls.{update_trackable}
 use Rattle.desk_toolbox.proofs.toolbox.Toolbox.update_call.Goals as goal
@@ -30,7 +30,7 @@ returns-clause-whole g c stocks whole =
       menus = menus.menus;
       front = menus.front;
       lists = updates_leave_lists c.args.call.now c.perform.result _ _ _ done.1 whole.managers.lists;
-      texts = updates_leave_none c.args.call.now c.perform.result _ _ done.1 whole.managers.texts;
+      known = updates_leave_known c.args.call.now c.perform.result _ _ done.1 whole.managers.known;
     }
 
 pub returns-clause-step : goal.returns-clause-step

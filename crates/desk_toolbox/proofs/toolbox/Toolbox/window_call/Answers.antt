@@ -37,7 +37,7 @@ use Rattle.desk_toolbox.proofs.Narrowed.{narrowed_made}
 use Rattle.desk_toolbox.proofs.Natures.{caught_up_so, covered_so, ends_its, narrowed_so}
 use Rattle.desk_toolbox.proofs.Stands.{left_trackable}
 use Rattle.desk_toolbox.proofs.UpdatesBeside.{updates_after_following, updates_after_window}
-use Rattle.desk_toolbox.specs.Untexted.{HaveNoTexts}
+use Rattle.desk_toolbox.specs.KnownLayers.{AreLayersKnown}
 use Rattle.desk_toolbox.proofs.toolbox.Toolbox.window_call.Goals as goal
 
 -- ---- the menus tell
@@ -133,14 +133,14 @@ returns-in-Ok-clause-whole g c =
     } in
     let step : IsWindowDone c.args.call.now c.in-Ok.reply before after =
     subst (λ b. IsWindowTold b c.args.call.now (Ok c.in-Ok.reply) before after) (covered_so c.args.call.now c.args.nature c.requires.nature _ _ _ (c.is_behind_menu.ensures _) c.if-is_behind_menu.false) (returns-in-Ok-clause-step g c) in
-    let right = made_keeps_contents c.args.call.now c.in-Ok.reply before step.middle step.told after (record { controls = c.requires.whole.managers.controls; lists = c.requires.whole.managers.lists; texts = c.requires.whole.managers.texts; shown = refl })
+    let right = made_keeps_contents c.args.call.now c.in-Ok.reply before step.middle step.told after (record { controls = c.requires.whole.managers.controls; lists = c.requires.whole.managers.lists; known = c.requires.whole.managers.known; shown = refl })
     (record { look = look_on old.windows; distinct = c.requires.whole.managers.windows.sound.distinct; serials = c.requires.whole.managers.windows.sound.serials }) step.answered step.caught_up step.shown step.controls step.lists in
     record {
       windows = told.0;
       updates = updates_after_following loan mid c.follow.new.windows old.updates _ _ old.activity c.args.call.now c.requires.admitted told.1 updates;
       controls = right.controls;
       lists = right.lists;
-      texts = right.texts;
+      known = right.known;
       trackable = left_trackable c.args.call.now before after c.requires.admitted refl step.controls c.requires.whole.managers.trackable;
       menus = menus.menus;
       front = menus.front;
@@ -187,7 +187,7 @@ returns-in-Err-clause-whole g c =
       menus = menus.menus;
       front = menus.front;
       lists = subst (λ ws. AreWholeLists ws (lists_state list_loan old.lists ((list_stock.slots-value g.dyn-4).it c.args.stock.now.lists))) (sym windows) c.requires.whole.managers.lists;
-      texts = subst HaveNoTexts (sym windows) c.requires.whole.managers.texts;
+      known = subst AreLayersKnown (sym windows) c.requires.whole.managers.known;
     }
 
 pub returns-in-Err-clause-quiet : goal.returns-in-Err-clause-quiet

@@ -14,7 +14,7 @@ use Rattle.desk_toolbox.proofs.MenusBeside.{menus_begin}
 use Rattle.desk_toolbox.proofs.UpdatesBeside.{updates_begin}
 use Rattle.window_mgr.specs.FullDesk.{FullDesk}
 use Rattle.list_mgr.specs.Seen as lists
-use Rattle.desk_toolbox.proofs.ListStands.{no_lists_whole, none_untexted}
+use Rattle.desk_toolbox.proofs.ListStands.{no_lists_whole, none_known}
 use Rattle.desk_toolbox.proofs.TrackedControls.{none_whole}
 use Rattle.desk_toolbox.proofs.toolbox.Toolbox.with_parts.Goals as goal
 
@@ -42,7 +42,7 @@ returns-in-Ok-clause-whole g c stocks full =
         controls = none_whole _ _ (ap (λ (d : FullDesk). d.windows) empty.desk) (ap (all_seen _) c.new-in-Ok.ensures.controls) c.new-in-Ok.ensures.next full.controls;
         trackable = tt;
         lists = no_lists_whole _ _ (ap (λ (d : FullDesk). d.windows) empty.desk) (ap (lists.all_seen _) c.new-in-Ok-2.ensures.lists) c.new-in-Ok-2.ensures.next full.lists;
-        texts = none_untexted _ (ap (λ (d : FullDesk). d.windows) empty.desk);
+        known = none_known _ (ap (λ (d : FullDesk). d.windows) empty.desk);
         menus = menus.menus;
         front = menus.front;
       };
