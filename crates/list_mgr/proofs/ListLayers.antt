@@ -22,7 +22,7 @@ use Rattle.window_list.specs.Holders.{ArePartsApart, PlacedLayers, fits_at}
 use Rattle.window_items.specs.Items.{are_before, has_serial, items_of}
 use Rattle.list_view.specs.Views.{view_rect}
 use Rattle.desk_call.specs.declared.list.NewList.{NewList}
-use Rattle.desk_call.specs.declared.update.LayerKind.TheVariants.{Lists}
+use Rattle.desk_call.specs.declared.update.LayerKind.TheVariants as kinds
 use Rattle.vis_update.specs.declared.relaying.Relaying.{Relaying}
 use Rattle.window_list.specs.declared.window.Window.{Window}
 use Rattle.window_paint.specs.Kinds.{is_of}
@@ -57,9 +57,9 @@ none_before s (x ∷ xs) e =
 -- where no list of these has a serial, no layer of theirs has, and no other
 pub none_named : (n : ℕ) (ls : List KeptList) (ks : List Layer) → AreListLayers ls ks → list_any (has_serial n) ls ≡ false → All (λ k. same_part k.part (part.List n) ≡ false) ks
 none_named n ls [] h none = All-nil (λ (k : Layer). same_part k.part (part.List n) ≡ false)
-none_named n ls (k ∷ ks) h none = by_test (is_of Lists k.part) refl ls h none (λ xs. none_named n xs ks)
+none_named n ls (k ∷ ks) h none = by_test (is_of kinds.Lists k.part) refl ls h none (λ xs. none_named n xs ks)
   where
-    by_test : (b : Bool) → is_of Lists k.part ≡ b → (ys : List KeptList) → AllZip IsLayerOf ys (cond b (k ∷ layers_of_lists ks) (layers_of_lists ks)) → list_any (has_serial n) ys ≡ false
+    by_test : (b : Bool) → is_of kinds.Lists k.part ≡ b → (ys : List KeptList) → AllZip IsLayerOf ys (cond b (k ∷ layers_of_lists ks) (layers_of_lists ks)) → list_any (has_serial n) ys ≡ false
         → ((xs : List KeptList) → AreListLayers xs ks → list_any (has_serial n) xs ≡ false → All (λ (x : Layer). same_part x.part (part.List n) ≡ false) ks)
         → All (λ (x : Layer). same_part x.part (part.List n) ≡ false) (k ∷ ks)
     by_test false is ys h none rest = All-cons (λ (x : Layer). same_part x.part (part.List n) ≡ false) k ks (no_list k.part n is) (rest ys h none)
@@ -79,7 +79,7 @@ zip_more (y ∷ ys) (l ∷ ls) x k h new = (h.0, zip_more ys ls x k h.1 new)
 -- the layers of lists with that of one more
 pub listed_with : (xs : List KeptList) (ls : List Layer) (x : KeptList) (l : Layer) → AreListLayers xs ls → IsLayerOf x l → AreListLayers (xs ++ x ∷ []) (with_last l ls)
 listed_with xs ls x l h new =
-    subst (AllZip IsLayerOf (xs ++ x ∷ [])) (sym (listed_last ls l (ap (is_of Lists) new.part))) (zip_more xs (layers_of_lists ls) x l h new)
+    subst (AllZip IsLayerOf (xs ++ x ∷ [])) (sym (listed_last ls l (ap (is_of kinds.Lists) new.part))) (zip_more xs (layers_of_lists ls) x l h new)
 
 -- ---- the plan of it
 

@@ -20,7 +20,7 @@ use Rattle.list_mgr.specs.Seen.{seen}
 use Rattle.window_items.specs.Items.{has_serial, is_in, is_in_at, is_item, item_index, items_of, place_among}
 use Rattle.window_items.proofs.WindowLemmas.{found_in as list_in, position_there, slice_get-items_of}
 use Rattle.desk_call.specs.declared.list.ListOf.{ListOf}
-use Rattle.desk_call.specs.declared.update.LayerKind.TheVariants.{Lists}
+use Rattle.desk_call.specs.declared.update.LayerKind.TheVariants as kinds
 use Rattle.window_list.specs.declared.window.Window.{Window}
 use Rattle.window_paint.specs.Kinds.{is_of}
 use Rattle.window_mgr.specs.declared.manager.WindowManager.{WindowManager}
@@ -112,7 +112,7 @@ same_lists m n e = cc
 own_layer : (ls : List KeptList) (window : ℕ) (ks : List Layer) (i : ℕ) (x : KeptList) (at : ℕ) (k : Layer) → AreListsApart ls → AreListLayers (items_of window ls) ks
     → slice_get ls i ≡ Some x → slice_get ks at ≡ Some k → k.part ≡ part.List x.serial → IsLayerOf x k
 own_layer ls window ks i x at k apart joined there layer named =
-    let behind = filtered_to (λ (l : Layer). is_of Lists l.part) ks at k layer (ap (is_of Lists) named) in
+    let behind = filtered_to (λ (l : Layer). is_of kinds.Lists l.part) ks at k layer (ap (is_of kinds.Lists) named) in
     let its = with_list (items_of window ls) (layers_of_lists ks) behind.0 k joined behind.1 in
     let among = filtered_from (is_in window) ls behind.0 its.0 its.1 in
     let serial : its.0.serial ≡ x.serial = same_lists its.0.serial x.serial (sym its.2.part ∙ named) in
@@ -123,7 +123,7 @@ some_layer : (ls : List KeptList) (window : ℕ) (ks : List Layer) (i : ℕ) (x 
     → slice_get ls i ≡ Some x → (at : ℕ) × (k : Layer) × (slice_get ks at ≡ Some k) × IsLayerOf x k
 some_layer ls window ks i x joined here there =
     let its = with_layer (items_of window ls) (layers_of_lists ks) (place_among i ls) x joined (slice_get-items_of window i ls here ∙ there) in
-    let among = filtered_from (λ (l : Layer). is_of Lists l.part) ks (place_among i ls) its.0 its.1 in
+    let among = filtered_from (λ (l : Layer). is_of kinds.Lists l.part) ks (place_among i ls) its.0 its.1 in
     (among.0, its.0, among.1, its.2)
 
 same_list : (n : ℕ) (q : Part) → q ≡ part.List n → same_part q (part.List n) ≡ true

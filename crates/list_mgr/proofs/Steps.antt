@@ -1,5 +1,5 @@
 -- Steps of calls about lists: refused ones, those that tell something, and what is known where nothing is missing.
-use Rattle.std.proofs.Common.{◌≡◌, ◌<◌, Bool, true, not, List, [], ◌∷◌, ◌++◌, get_or, Some, None, Ok, refl, sym, ap, ◌∙◌, subst}
+use Rattle.std.proofs.Common.{◌≡◌, ℕ, ◌<◌, Bool, true, not, List, [], ◌∷◌, ◌++◌, get_or, Some, None, Ok, refl, sym, ap, ◌∙◌, subst}
 use Rattle.std.specs.Prelude.{is_none, slice_get}
 use Rattle.std.specs.Option.{option_and_then, option_map}
 use Rattle.tb_geom.specs.declared.refusal.Refusal.{Refusal}
