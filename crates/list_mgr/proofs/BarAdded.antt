@@ -49,8 +49,6 @@ use Rattle.list_mgr.specs.Putting.{IsBarPlanned, IsPlace, MayLay}
 use Rattle.list_mgr.specs.WholeLists.{AreBeside}
 use Rattle.list_mgr.proofs.GoodBars.{bar_judged}
 use Rattle.list_mgr.proofs.PutSteps.{bar_done}
-use Rattle.tb_geom.specs.Points.{PixelSet}
-use Rattle.desk_layers.specs.declared.part.Part.{Part}
 
 -- ---- a bar that is planned
 

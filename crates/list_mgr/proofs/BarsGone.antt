@@ -38,8 +38,6 @@ use Rattle.list_mgr.specs.ListDesks.{ListDesk, lists_show, with_controls}
 use Rattle.list_mgr.specs.ListSteps.{IsBarGone, IsBarGoneIf, SameLists}
 use Rattle.list_mgr.specs.WholeLists.{AreWholeLists}
 use Rattle.list_mgr.proofs.ListsWhole.{whole_behind}
-use Rattle.tb_geom.specs.Points.{PixelSet}
-use Rattle.desk_layers.specs.declared.part.Part.{Part}
 
 -- ---- a control that was ended, if it was there
 

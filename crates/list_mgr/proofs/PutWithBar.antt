@@ -50,8 +50,6 @@ use Rattle.list_mgr.proofs.GoodBars.{IsRoomFor, bar_placed, first_ticket, good_h
 use Rattle.list_mgr.proofs.ListLayers.{may_lay}
 use Rattle.list_mgr.proofs.NewLists.{horizontal_may, room_for, vertical_may}
 use Rattle.list_mgr.proofs.PutSteps.{beside_roomier, made_with_bar, place_roomier, put_roomier}
-use Rattle.tb_geom.specs.Points.{PixelSet}
-use Rattle.desk_layers.specs.declared.part.Part.{Part}
 
 -- where one bar is wanted there is room for it
 one_wanted : (v h : Bool) (count : ℕ) (next : Option ℕ) → h ≡ not v → have_room ((if v then 1 else 0) + (if h then 1 else 0)) count next ≡ true → have_room 1 count next ≡ true

@@ -39,8 +39,6 @@ use Rattle.list_mgr.specs.WholeLists.{AreBeside, LeavesOver}
 use Rattle.list_mgr.proofs.BarAdded.{bar_step, controls_with_bar, kept_with_bar, laid_with_bar, lists_with_bar, place_with_bar}
 use Rattle.list_mgr.proofs.BarsPlanned as bars
 use Rattle.list_mgr.proofs.PutSteps.{beside_roomier, made_with_bars, place_roomier, put_roomier}
-use Rattle.tb_geom.specs.Points.{PixelSet}
-use Rattle.desk_layers.specs.declared.part.Part.{Part}
 
 module _ {V : Type 0} {H : V → Type 0} (loan : TakenBox V H → WindowLoan) {W : Type 0} {K : W → Type 0} (control_loan : TakenBox W K → ControlLoan) {X : Type 0} {L : X → Type 0} (list_loan : TakenBox X L → ListLoan)
     (n : NewList) (k : ListTicket) (d e : ControlLoan) (t : WindowManager V H) (c : Controls (TakenBox W K)) (m : Lists (TakenBox X L)) (kept : IsKept loan t) (took : AreBarsTaken loan control_loan d e t c)
