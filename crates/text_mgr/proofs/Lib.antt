@@ -11,3 +11,5 @@ pub mod Disposed
 pub mod Judging
 pub mod PlaceParts
 pub mod Made
+pub mod MadeSteps
+pub mod Edits

@@ -62,9 +62,9 @@ module _ {V : Type 0} {H : V → Type 0} (loan : TakenBox V H → WindowLoan) wh
     pub of_font : AreWidthsOf t.font widths × AreMetricsOf t.font metrics
     pub justified : justification_of n.justification ≡ Some justification
     pub item : a.item ≡ record {
-        serial = a.item.serial;
-        window = n.window;
-        kept = new_record widths metrics (placing_of n.place) justification n.wraps false;
+      serial = a.item.serial;
+      window = n.window;
+      kept = new_record widths metrics (placing_of n.place) justification n.wraps false;
     }
     pub serial : m.list.next ≡ Some a.item.serial
     pub few : count_of n.window m.list.items.items < most_texts
