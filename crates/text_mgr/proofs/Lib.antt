@@ -13,3 +13,5 @@ pub mod PlaceParts
 pub mod Made
 pub mod MadeSteps
 pub mod Edits
+pub mod TextBits
+pub mod SerialsStay
