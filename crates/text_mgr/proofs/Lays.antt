@@ -98,12 +98,12 @@ module _ {V : Type 0} {H : V → Type 0} (loan : TakenBox V H → WindowLoan) wh
 
       module _ (shape : LayerShape) (shaped : IsBoxShape bounds l.shown shape) where
         screen_fits : is_in_range (moved_rect shape.bounds w.place.h w.place.v) ≡ true
-        screen_fits = ap (λ b. is_in_range (moved_rect b w.place.h w.place.v)) shaped.bounds ∙ may_at.1.1
+        screen_fits = ap (λ b. is_in_range (moved_rect b w.place.h w.place.v)) shaped.bounds ∙ may_at.2
 
         pub shape_lies : (k : Layer) → IsLayerAt w.layers.place (with_shape shape k)
         shape_lies k = record {
           boxed = λ p held. (λ i. rect_holds (shaped.bounds i) p) ∙ sym (shaped.region p) ∙ held;
-          inside = ap is_in_range shaped.bounds ∙ may_at.1.0;
+          inside = ap is_in_range shaped.bounds ∙ may_at.1;
           fits = ap (λ (p : Point). is_in_range (moved_rect shape.bounds p.h p.v)) there ∙ screen_fits;
         }
 
@@ -168,7 +168,7 @@ module _ {V : Type 0} {H : V → Type 0} (loan : TakenBox V H → WindowLoan) wh
                   leaves.0,
                   subst (λ ws. AreWholeTexts ws (texts_state n)) (sym windows_are) (subst (AreWholeTexts (map (with_layers_of x.window new) (desk_of loan t []).windows)) (sym state_is)
                       (whole_laid (laid l) s.text x.window new (desk_of loan t []).windows (texts_state m) beside (found_window x ts s.text is.text)
-                      (λ y e. subst (λ (z : KeptText). is_in_range (box_of z.kept.framed l.placing.view) ≡ true) (it_is loan x t m s is y e) may_at.1.0) joined_new)),
+                      (λ y e. subst (λ (z : KeptText). is_in_range (box_of z.kept.framed l.placing.view) ≡ true) (it_is loan x t m s is y e) may_at.1) joined_new)),
                   record {
                     changed = record { at = s.text; found = is.text; texts = state_is };
                     shape = shape;

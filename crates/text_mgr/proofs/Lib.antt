@@ -15,3 +15,8 @@ pub mod MadeSteps
 pub mod Edits
 pub mod TextBits
 pub mod SerialsStay
+pub mod TextsRight
+pub mod Judged
+pub mod Widths
+pub mod Left
+pub mod Written
