@@ -57,8 +57,11 @@ fn key_of(number: i32) -> Option<u8>
 fn type_key(record: &mut TextRecord, number: i32) -> Result<(), Refusal>
     ensures record { record.new ≡ (if is_ok result then keyed (nat_abs number) record.old else record.old) }
     ensures judged { let refusals = (is_outside (pos 0) (pos 255) number, Refusal.OutOfRange)
-        ∷ (is_typed (nat_abs number)
-        && is_too_long record.old.start record.old.end (nat_abs number ∷ []) record.old, Refusal.TooLong) ∷ [] in
+        ∷ (
+          is_typed (nat_abs number)
+              && is_too_long record.old.start record.old.end (nat_abs number ∷ []) record.old,
+          Refusal.TooLong,
+        ) ∷ [] in
         MatchResult result (λ _. first_refusal refusals ≡ None) (IsRefusedOrShort refusals) }
 {
     match key_of(number) {
