@@ -20,3 +20,4 @@ pub mod Judged
 pub mod Widths
 pub mod Left
 pub mod Written
+pub mod TextsWhole
