@@ -21,3 +21,4 @@ pub mod Widths
 pub mod Left
 pub mod Written
 pub mod TextsWhole
+pub mod Drawn
