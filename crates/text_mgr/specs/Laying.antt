@@ -34,10 +34,10 @@ pub record IsLieOf (l : Lie) (x : KeptText) : Type 0 where
   pub shown : l.shown ≡ x.kept.shown
 
 -- the shape of a record with this box
-pub record IsBoxShape (bounds : Rect) (shown : Bool) (s : LayerShape) : Type 0 where
-  pub shown : s.shown ≡ shown
-  pub region : (p : Point) → holds s.region p ≡ rect_holds bounds p
-  pub bounds : s.bounds ≡ bounds
+pub record IsBoxShape (box : Rect) (seen : Bool) (s : LayerShape) : Type 0 where
+  pub shown : s.shown ≡ seen
+  pub region : (p : Point) → holds s.region p ≡ rect_holds box p
+  pub bounds : s.bounds ≡ box
 
 -- the text record at this place may lie so in its window
 abbrev pub MayLie : {V : Type 0} {H : V → Type 0} → WindowManager V H → Texts → TextAt → Lie → Type 0

@@ -1,5 +1,5 @@
 -- Text records that are made, as the code does it.
-use Rattle.std.specs.Prelude.{◌≡◌, ◌⊎◌, ℕ, ◌<◌, ◌≤◌, true, false, length, [], Option, None, Some, vec_capacity}
+use Rattle.std.specs.Prelude.{◌≡◌, ◌⊎◌, ℕ, ◌<◌, ◌≤◌, true, false, List, length, [], Option, None, Some, vec_capacity}
 use Rattle.std.specs.List.{insert}
 use Rattle.tb_geom.specs.declared.refusal.Refusal.{Refusal}
 use Rattle.tb_geom.specs.declared.refusal.Refusal.TheVariants.{NoMemory}
@@ -62,9 +62,9 @@ module _ {V : Type 0} {H : V → Type 0} (loan : TakenBox V H → WindowLoan) wh
     pub of_font : AreWidthsOf t.font widths × AreMetricsOf t.font metrics
     pub justified : justification_of n.justification ≡ Some justification
     pub item : a.item ≡ record {
-        serial = a.item.serial;
-        window = n.window;
-        kept = new_record widths metrics (placing_of n.place) justification n.wraps false;
+      serial = a.item.serial;
+      window = n.window;
+      kept = new_record widths metrics (placing_of n.place) justification n.wraps false;
     }
     pub serial : m.list.next ≡ Some a.item.serial
     pub few : count_of n.window m.list.items.items < most_texts
@@ -76,4 +76,3 @@ module _ {V : Type 0} {H : V → Type 0} (loan : TakenBox V H → WindowLoan) wh
     pub low : a.layer < length a.layers.layers
     pub may : MayHaveLayers a.window t a.layers
     pub planned : IsPlanOfLayers loan a.window a.layers.layers (Some (part.Text a.item.serial)) t a.relaying
-    pub room : length m.list.items.items < vec_capacity m.list.items

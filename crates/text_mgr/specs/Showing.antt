@@ -8,9 +8,11 @@ use Rattle.window_mgr.specs.Relayered.{IsLayerRedrawn}
 use Rattle.text_mgr.specs.TextDesks.{TextDesk}
 use Rattle.text_mgr.specs.TextSteps.{IsTextChanged, IsTextShownAnew, IsWhereRight}
 
--- where the screen was right, the text record's layer was shown anew
-abbrev pub IsAnewWhereRight : TextOf → FullState → FullState → Type 0
-IsAnewWhereRight t before after = IsRightState before → IsLayerRedrawn t.window (part.Text t.text) before after
+-- the text record's layer was drawn where it is not to be redrawn: where the screen was right it was shown anew. Nothing else of the
+-- desk changed but what layers show
+pub record IsDrawnAnew (t : TextOf) (before after : FullState) : Type 0 where
+  pub desk : after.desk ≡ record before.desk { shows = after.desk.shows }
+  pub shown : IsRightState before → IsLayerRedrawn t.window (part.Text t.text) before after
 
 -- the text record was changed so, and shown anew where the screen was right
 pub record IsPut (t : TextOf) (f : Record → Record) (before after : TextDesk) : Type 0 where

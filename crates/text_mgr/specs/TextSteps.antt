@@ -117,9 +117,9 @@ pub record IsTextMade (n : NewText) (serial : ℕ) (before after : TextDesk) : T
   pub justified : justification_of n.justification ≡ Some justification
   pub serials : before.texts.next ≡ Some serial
   pub made : text ≡ record {
-      serial = serial;
-      window = n.window;
-      kept = new_record widths metrics (placing_of n.place) justification n.wraps false;
+    serial = serial;
+    window = n.window;
+    kept = new_record widths metrics (placing_of n.place) justification n.wraps false;
   }
   pub texts : after.texts ≡ record before.texts { texts = before.texts.texts ++ text ∷ []; next = serial_after serial }
   pub layer : Layer

@@ -43,18 +43,31 @@ fn insert_bytes(record: &mut TextRecord, bytes: &[u8]) -> Result<(), Refusal>
     insert(record, bytes)
 }
 
+/// The byte of a key, by the number of a call, if it is one.
+fn key_of(number: i32) -> Option<u8>
+    ensures { result ≡ (if is_outside (pos 0) (pos 255) number then None else Some (nat_abs number)) }
+{
+    if is_outside(0, 255, number) {
+        return None;
+    }
+    Some(number as u8)
+}
+
 /// Types a key in a record, by the number of a call.
 fn type_key(record: &mut TextRecord, number: i32) -> Result<(), Refusal>
     ensures record { record.new ≡ (if is_ok result then keyed (nat_abs number) record.old else record.old) }
     ensures judged { let refusals = (is_outside (pos 0) (pos 255) number, Refusal.OutOfRange)
-        ∷ (is_typed (nat_abs number)
-        && is_too_long record.old.start record.old.end (nat_abs number ∷ []) record.old, Refusal.TooLong) ∷ [] in
+        ∷ (
+          is_typed (nat_abs number)
+              && is_too_long record.old.start record.old.end (nat_abs number ∷ []) record.old,
+          Refusal.TooLong,
+        ) ∷ [] in
         MatchResult result (λ _. first_refusal refusals ≡ None) (IsRefusedOrShort refusals) }
 {
-    if is_outside(0, 255, number) {
-        return Err(Refusal::OutOfRange);
+    match key_of(number) {
+        Some(code) => key(record, code),
+        None => Err(Refusal::OutOfRange),
     }
-    key(record, number as u8)
 }
 
 /// So many ticks have gone by, by the number of a call.

@@ -1,7 +1,6 @@
 //! The numbers of calls, judged.
-ghost use Rattle.std.specs.Prelude.{◌≡◌, true, if◌then◌else◌, None, Some};
-ghost use Rattle.tb_geom.specs.Rects.{is_in_range};
-ghost use Rattle.text_record.specs.Placings.{box_of};
+ghost use Rattle.std.specs.Prelude.{◌≡◌, ◌≤ℤ◌, pos, negsuc, true, if◌then◌else◌, None, Some};
+ghost use Rattle.text_record.specs.Placings.{box_of, is_placing, widened};
 ghost use Rattle.text_mgr.specs.CallEdits.{are_too_many, is_outside};
 ghost use Rattle.text_mgr.specs.TextPlaces.{click_mode, justification_of, may_stand, may_stand_at, placing_of};
 
@@ -84,20 +83,31 @@ pub(crate) fn placing_of(framed: bool, place: TextPlace) -> Option<Placing>
     }
 }
 
-/// The box of a record that stands so.
-pub(crate) fn box_of(framed: bool, view: Rect) -> Rect
-    requires { is_in_range (box_of framed view) ≡ true }
-    ensures { result ≡ box_of framed view }
+/// A rectangle with 3 columns and rows more on each side.
+fn widened(rect: Rect) -> Rect
+    requires left { negsuc 16383 ≤ℤ rect.left }
+    requires top { negsuc 16383 ≤ℤ rect.top }
+    requires right { rect.right ≤ℤ pos 16383 }
+    requires bottom { rect.bottom ≤ℤ pos 16383 }
+    ensures { result ≡ widened rect }
+{
+    Rect {
+        left: rect.left - 3,
+        top: rect.top - 3,
+        right: rect.right + 3,
+        bottom: rect.bottom + 3,
+    }
+}
+
+/// The box of a record that stands so, framed or not.
+pub(crate) fn box_of(framed: bool, placing: Placing) -> Rect
+    requires { is_placing framed placing ≡ true }
+    ensures { result ≡ box_of framed placing.view }
 {
     if framed {
-        Rect {
-            left: view.left - 3,
-            top: view.top - 3,
-            right: view.right + 3,
-            bottom: view.bottom + 3,
-        }
+        widened(placing.view)
     } else {
-        view
+        placing.view
     }
 }
 
@@ -106,7 +116,7 @@ pub(crate) fn placing_at(framed: bool, place: TextPlace, window: Point) -> Optio
     ensures { result ≡ (if may_stand_at framed place window then Some (placing_of place) else None) }
 {
     let placing = placing_of(framed, place)?;
-    let bounds = box_of(framed, placing.view);
+    let bounds = box_of(framed, placing);
     if bounds.offset(window.h, window.v).is_ok() {
         Some(placing)
     } else {

@@ -87,7 +87,7 @@ impl Texts {
             (IsLaidOrShort t (laid lie) result) windows.old o self.old windows.new o self.new }
     {
         let text = &self.list.items[spot.text];
-        let bounds = box_of(text.kept.is_framed(), lie.placing.view);
+        let bounds = box_of(text.kept.is_framed(), lie.placing);
         let shape = shape_of(self.alloc, bounds, lie.shown)?;
         let layers = &windows.list().at(spot.window).layers;
         let layer = layers.find(Part::Text(text.serial)).unwrap();

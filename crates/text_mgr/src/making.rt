@@ -1,5 +1,5 @@
 //! Text records that are made: judged, planned with all growth, and added, which takes no memory.
-ghost use Rattle.std.specs.Prelude.{◌≡◌, [], None, Some, MatchResult, IfOk, IfErr};
+ghost use Rattle.std.specs.Prelude.{◌≡◌, ◌<◌, [], length, vec_capacity, None, Some, MatchResult, OnOk, IfOk, IfErr};
 ghost use Rattle.desk_call.specs.declared.text.TextCall.TheVariants as asks;
 ghost use Rattle.window_mgr.specs.DeskStates.{Opened};
 ghost use Rattle.text_mgr.specs.Making.{IsAddition, IsNotAdded, IsRoomier, IsTicket, judged_by};
@@ -131,6 +131,7 @@ impl Texts {
         ensures same { IsRoomier self.old self.new }
         ensures judged { IfOk result (λ _. judged_by ⟦<TakenWindow as Defined>⟧.loan new windows.now self.old ≡ None) }
         ensures ok { IfOk result (IsAddition ⟦<TakenWindow as Defined>⟧.loan new windows.now self.new) }
+        ensures room { OnOk result (length self.new.list.items.items < vec_capacity self.new.list.items) }
         ensures err { IfErr result (IsNotAdded ⟦<TakenWindow as Defined>⟧.loan new windows.now self.old) }
     {
         let ticket = self.judge(windows, new)?;
@@ -144,6 +145,7 @@ impl Texts {
         requires kept { ⟦<WindowManager as DeskWindows>⟧.IsKept windows.old }
         requires beside { ⟦<Self as DeskTexts>⟧.AreBeside windows.old self.old }
         requires addition { IsAddition ⟦<TakenWindow as Defined>⟧.loan new windows.old self.old addition }
+        requires room { length self.old.list.items.items < vec_capacity self.old.list.items }
         ensures { (o : Opened) → ⟦<Self as DeskTexts>⟧.Leaves
             (IsTextMade new addition.item.serial) windows.old o self.old windows.new o self.new }
     {

@@ -5,7 +5,7 @@ ghost use Rattle.desk_layers.specs.declared.part.Part.{Part};
 ghost use Rattle.def_iface.specs.WindowSlots.{WindowSlot};
 ghost use Rattle.desk_call.specs.declared.text.TextOf.{TextOf as Named};
 ghost use Rattle.window_mgr.specs.Records.{state_showing};
-ghost use Rattle.text_mgr.specs.Showing.{IsAnewWhereRight};
+ghost use Rattle.text_mgr.specs.Showing.{IsDrawnAnew};
 ghost use Rattle.text_mgr.specs.Spots.{IsSpot, IsSpotOf};
 
 use crate::spots::TextAt;
@@ -25,7 +25,7 @@ impl Texts {
             → (was : List ℕ → Part → PixelSet) (slots : List WindowSlot)
             → ⟦<WindowManager as DeskWindows>⟧.IsWholeOver windows.old slots
             → ⟦<WindowManager as DeskWindows>⟧.IsWholeOver windows.new slots
-            × IsAnewWhereRight t
+            × IsDrawnAnew t
             (state_showing was (⟦<WindowManager as DeskWindows>⟧.state_over windows.old slots))
             (state_showing (⟦<Self as Showing>⟧.shows self.now)
             (⟦<WindowManager as DeskWindows>⟧.state_over windows.new slots)) }

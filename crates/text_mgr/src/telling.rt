@@ -43,9 +43,9 @@ pub(crate) fn place_told(record: &TextRecord, offset: usize) -> TextReply
     ensures { result ≡ place_told offset record.now }
 {
     let at = offset.min(record.bytes().len());
-    let place = record.place_of(at);
+    let row = record.row_of(at);
     TextReply::Place(Point {
-        h: place.h,
-        v: place.v + i32::from(record.line_height()),
+        h: record.column_of(at),
+        v: record.line_top(row) + i32::from(record.line_height()),
     })
 }
