@@ -279,6 +279,19 @@ module _ (r : Rect) (q : Point) where
       let n = t.right in
       edge_past a b q (omega (arith, ints)) (omega (arith, ints))
 
+-- an edge whose ends both lie in a row or above it, or both below, turns no pixel there
+pub edge_beside : (a b p : Point) → differ (int_le a.v p.v) (int_le b.v p.v) ≡ false → edge_turns a b p ≡ false
+edge_beside a b p e = by_lt_z p.v a.v
+    (λ l. by_lt_z p.v b.v
+    (λ m. λ i. passes_above a b p (inl l) i || passes_above b a p (inl m) i)
+    (λ m. absurd (false≢true (sym e ∙ (λ i. differ (le_no a.v p.v l i) (le_yes b.v p.v m i))))))
+    (λ l. by_lt_z p.v b.v
+    (λ m. absurd (false≢true (sym e ∙ (λ i. differ (le_yes a.v p.v l i) (le_no b.v p.v m i)))))
+    (λ m. λ i. passes_above a b p (inr m) i || passes_above b a p (inr l) i))
+  where
+    le_no : (x y : ℤ) → y <ℤ x → int_le x y ≡ false
+    le_no x y l = grind (arith, ints)
+
 even : (a : Bool) → differ a a ≡ false
 even true = refl
 even false = refl

@@ -1,5 +1,6 @@
 //! Polygons of few points, in one pass over their rows.
-ghost use Rattle.std.specs.Prelude.{◌≡◌, ◌≤◌, ◌<◌, ◌+◌, ◌≤ℤ◌, ◌<ℤ◌, true, length, ℤ, pos, negsuc, int_le, IfOk};
+ghost use Rattle.std.specs.Prelude.{◌≡◌, ◌≤◌, ◌<◌, ◌+◌, ◌≤ℤ◌, ◌<ℤ◌, ◌∷◌, ◌++◌, [], true, length, ℤ, pos, negsuc, int_le, IfOk};
+ghost use Rattle.std.specs.List.{insert};
 ghost use Rattle.tb_geom.specs.declared.point.Point.{Point};
 ghost use Rattle.tb_geom.specs.Pixels.{holds};
 ghost use Rattle.tb_geom.specs.Rects.{in_plane};
@@ -110,10 +111,35 @@ fn way_crossings(columns: &mut Crossings, from: Point, others: &[Point], to: Poi
     columns.clear();
     let mut last = from;
     for &point in others {
-        cross(columns, last, point, v);
+        meet(columns, last, point, v);
         last = point;
     }
-    cross(columns, last, to, v);
+    meet(columns, last, to, v);
+}
+
+/// Turns a row from the first column on that an edge turns in the row `v`, if there is one. Most edges pass no row.
+#[inline(always)]
+fn meet(columns: &mut Crossings, from: Point, to: Point, v: i32)
+    requires from_in { in_plane from ≡ true }
+    requires to_in { in_plane to ≡ true }
+    requires climb { IsClimb (negsuc 16384) columns.old.items (pos 16382) }
+    requires room { length columns.old.items < 32 }
+    ensures pixels { (h : ℤ) → h <ℤ pos 16383
+        → inside columns.new.items h ≡ differ (edge_turns from to (record { h = h; v = v })) (inside columns.old.items h) }
+    ensures climb { IsClimb (negsuc 16384) columns.new.items (pos 16382) }
+    ensures few { length columns.new.items ≤ 1 + length columns.old.items }
+{
+    if passes_row(from, to, v) {
+        cross(columns, from, to, v);
+    }
+}
+
+/// Whether one end of an edge lies in the row `v` or above it, and the other below.
+#[inline(always)]
+fn passes_row(from: Point, to: Point, v: i32) -> bool
+    ensures { result ≡ differ (int_le from.v v) (int_le to.v v) }
+{
+    (from.v <= v) != (to.v <= v)
 }
 
 /// Turns a row from the first column on that an edge turns in the row `v`, if there is one.
@@ -149,7 +175,34 @@ fn turn_from(columns: &mut Crossings, x: i32)
         columns.remove(place);
         return;
     }
-    columns.insert(place, x);
+    put_in(columns, place, x);
+}
+
+/// Puts a column in at a place, with those from there on one place further right.
+fn put_in(columns: &mut Crossings, place: usize, x: i32)
+    requires place { place ≤ length columns.old.items }
+    requires room { length columns.old.items < 33 }
+    ensures { columns.new.items ≡ insert columns.old.items place x }
+{
+    let last = open_place(columns.as_mut_slice(), place, x);
+    columns.push(last);
+}
+
+/// Puts a column at a place, and those from there on one place further right, and gives the last one, which has no place.
+#[inline(always)]
+fn open_place(columns: &mut [i32], place: usize, x: i32) -> i32
+    requires { place ≤ length columns.old }
+    ensures { columns.new ++ result ∷ [] ≡ insert columns.old place x }
+{
+    let mut last = x;
+    let mut at = place;
+    while at < columns.len() {
+        let column = columns[at];
+        columns[at] = last;
+        last = column;
+        at += 1;
+    }
+    last
 }
 
 /// How many columns lie left of the column `x`, and whether it is one of them.

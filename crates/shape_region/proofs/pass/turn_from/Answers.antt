@@ -25,11 +25,11 @@ returns-then-is_there-clause-climb c =
 pub returns-clause-pixels : goal.returns-clause-pixels
 returns-clause-pixels c =
     let fits_x = c.ranges.x in
-    λ h. rw c.insert.ensures.items (simp to_z-of_z (put_pixels c.args.columns.now.items c.place_of-place.result.0 c.args.x h))
+    λ h. rw c.put_in.ensures (simp to_z-of_z (put_pixels c.args.columns.now.items c.place_of-place.result.0 c.args.x h))
 
 pub returns-clause-climb : goal.returns-clause-climb
 returns-clause-climb c =
     let fits_x = c.ranges.x in
     let xs = c.args.columns.now.items in
     let s : IsPlace xs c.args.x c.place_of-place.result.0 c.place_of-place.result.1 = simp (to_z-of_z, c.as_slice.ensures.value) at c.place_of-place.ensures in
-    rw c.insert.ensures.items (simp to_z-of_z (put_climbs xs c.place_of-place.result.0 c.args.x (negsuc 16384) (pos 16382) c.requires.climb s.within (search rules) (search rules) s.left (s.apart c.if-is_there.false)))
+    rw c.put_in.ensures (simp to_z-of_z (put_climbs xs c.place_of-place.result.0 c.args.x (negsuc 16384) (pos 16382) c.requires.climb s.within (search rules) (search rules) s.left (s.apart c.if-is_there.false)))

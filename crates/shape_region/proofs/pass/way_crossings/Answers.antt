@@ -19,8 +19,8 @@ loop-point-init c =
       crossed = rw c.clear.ensures (none_crossed c.args.from c.args.others.now c.args.to c.args.v);
     })
 
-pub cross-requires-clause-to_in : goal.cross-requires-clause-to_in
-cross-requires-clause-to_in c =
+pub meet-requires-clause-to_in : goal.meet-requires-clause-to_in
+meet-requires-clause-to_in c =
     let origin : Point = record { h = pos 0; v = pos 0 } in
     let rest = sym (at_drop_more (list_all in_plane) c.args.others.now c.loop-point.point-index origin c.loop-point-test.true) ∙ c.loop-point.invariant.rest_in in
     (and_parts _ _ rest).0
@@ -32,22 +32,22 @@ loop-point-preserved c =
     let one = drop_more c.args.others.now c.loop-point.point-index origin c.loop-point-test.true in
     let rest = sym (at_drop_more (list_all in_plane) c.args.others.now c.loop-point.point-index origin c.loop-point-test.true) ∙ c.loop-point.invariant.rest_in in
     let both = and_parts _ _ rest in
-    let turned = simp to_z-of_z at c.cross.ensures.pixels in
+    let turned = simp to_z-of_z at c.meet.ensures.pixels in
     let so_far = simp to_z-of_z at c.loop-point.invariant.crossed in
     let few = c.loop-point.invariant.few in
-    let more = c.cross.ensures.few in
+    let more = c.meet.ensures.few in
     simp to_z-of_z (record {
       last_in = both.0;
       rest_in = both.1;
       few = omega arith;
-      climb = c.cross.ensures.climb;
-      crossed = one_crossed c.args.from c.args.others.now c.args.to c.args.v c.loop-point.last _ c.loop-point.columns.items c.cross.new.columns.items so_far _ _ one turned;
+      climb = c.meet.ensures.climb;
+      crossed = one_crossed c.args.from c.args.others.now c.args.to c.args.v c.loop-point.last _ c.loop-point.columns.items c.meet.new.columns.items so_far _ _ one turned;
     })
 
 pub returns-clause-pixels : goal.returns-clause-pixels
 returns-clause-pixels c =
     let fits_v = c.ranges.v in
     let end = drop_all c.loop-point.point-index c.args.others.now c.loop-point-test.false in
-    let turned = simp to_z-of_z at c.cross-2.ensures.pixels in
+    let turned = simp to_z-of_z at c.meet-2.ensures.pixels in
     let so_far = simp to_z-of_z at c.loop-point.invariant.crossed in
-    all_crossed c.args.from c.args.others.now c.args.to c.args.v c.loop-point.last _ c.loop-point.columns.items c.cross-2.new.columns.items so_far end turned
+    all_crossed c.args.from c.args.others.now c.args.to c.args.v c.loop-point.last _ c.loop-point.columns.items c.meet-2.new.columns.items so_far end turned
