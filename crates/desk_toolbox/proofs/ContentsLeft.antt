@@ -44,7 +44,7 @@ use Rattle.desk_toolbox.specs.Activations.{to_dispose}
 use Rattle.desk_toolbox.specs.Reached.{AreContentsRight}
 use Rattle.desk_toolbox.specs.Run.{AreControlsLeft, AreListsLeft, IsWindowAnswer, IsWindowAnswered, shown_with}
 use Rattle.desk_toolbox.specs.ToolboxStates.{ToolboxState, with_controls, with_lists}
-use Rattle.desk_toolbox.proofs.Bonds.{Bond, Every, HoldsOn, every_all, done_holds}
+use Rattle.desk_toolbox.proofs.Bonds.{Bond, Every, HoldsOn, every_all, done_holds, all_every}
 use Rattle.desk_toolbox.proofs.ContentsBeside.{IsRightToolbox, caught_up_holds, joined_every, joined_to, listed_every, listed_to, no_lists_of_missing, none_of_missing}
 use Rattle.desk_toolbox.proofs.KeptDesks.{told_keeps}
 use Rattle.desk_toolbox.proofs.StepCounts.{AreNumbered, HasLess, Recount, told_recounts, disposed_is_gone, right_is_numbered}

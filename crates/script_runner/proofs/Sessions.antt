@@ -12,7 +12,6 @@ use Rattle.def_iface.specs.ListMeaning.{ListLoan}
 use Rattle.def_iface.specs.WindowMeaning.{WindowLoan}
 use Rattle.def_iface.specs.MenuMeaning.{MenuLoan}
 use Rattle.def_iface.specs.Stocks.{AllSlots}
-use Rattle.window_paint.specs.White.{all_white}
 use Rattle.control_mgr.specs.ControlDesks.{controls_show}
 use Rattle.list_mgr.specs.ListDesks.{lists_show}
 use Rattle.desk_toolbox.specs.declared.toolbox.Toolbox.{Toolbox}
@@ -30,7 +29,7 @@ use Rattle.script_text.specs.Replies.{refused_text}
 use Rattle.watched_io.specs.Writes.{Output, Sends}
 
 -- no controls and no lists show nothing
-none_show : (font : List ℕ) (part : Part) (p : Point) → controls_show (lists_show (λ font. all_white) []) [] font part p ≡ false
+none_show : (font : List ℕ) (part : Part) (p : Point) → controls_show (lists_show (λ f q p. false) []) [] font part p ≡ false
 none_show font parts.Picture p = refl
 none_show font (parts.Control n) p = refl
 none_show font (parts.List n) p = refl
@@ -42,7 +41,7 @@ pub new_desk : {V : Type 0} {H : V → Type 0} (loan : TakenBox V H → WindowLo
 new_desk loan menu_loan control_loan list_loan t font stocks size wanted same empty begun =
     subst (λ s. IsNewDesk s font stocks (toolbox_state loan menu_loan control_loan list_loan t stocks)) same (record {
       desk =
-          (λ i. record (desk_of loan t.windows stocks.windows) { shows = controls_show (lists_show (λ font. all_white) (begun.lists i)) (begun.controls i) t.windows.font })
+          (λ i. record (desk_of loan t.windows stocks.windows) { shows = controls_show (lists_show (λ f q p. false) (begun.lists i)) (begun.controls i) t.windows.font })
           ∙ (λ i. record (desk_of loan t.windows stocks.windows) { shows = λ part p. none_show t.windows.font part p i })
           ∙ empty.desk;
       idle = begun.idle;
