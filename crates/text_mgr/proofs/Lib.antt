@@ -8,7 +8,7 @@ pub mod Reshown
 pub mod Shown
 pub mod Lays
 pub mod Disposed
-pub mod Judging
+pub mod NewJudged
 pub mod PlaceParts
 pub mod Made
 pub mod MadeSteps
