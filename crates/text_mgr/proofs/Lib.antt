@@ -22,3 +22,4 @@ pub mod Left
 pub mod Written
 pub mod TextsWhole
 pub mod Drawn
+pub mod Edited
