@@ -23,3 +23,4 @@ pub mod Written
 pub mod TextsWhole
 pub mod Drawn
 pub mod Edited
+pub mod LaysSo
