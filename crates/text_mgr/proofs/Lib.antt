@@ -24,3 +24,4 @@ pub mod TextsWhole
 pub mod Drawn
 pub mod Edited
 pub mod LaysSo
+pub mod LaidSteps
