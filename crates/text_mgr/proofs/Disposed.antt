@@ -1,6 +1,6 @@
 -- A text record that is disposed of: the plan of the layers without its own, and the step.
 use Rattle.std.proofs.Common.{◌≡◌, ℕ, ◌<◌, List, [], length, get_or, map, Option, Some, None, refl, sym, ap, ◌∙◌, subst}
-use Rattle.std.specs.Prelude.{is_some, slice_get}
+use Rattle.std.specs.Prelude.{slice_get}
 use Rattle.std.specs.List.{remove}
 use Rattle.std.specs.Option.{option_map_or}
 use Rattle.tb_geom.specs.declared.point.Point.{Point}
@@ -50,8 +50,8 @@ use Rattle.text_mgr.proofs.Whole.{whole_removed}
 module _ {V : Type 0} {H : V → Type 0} (loan : TakenBox V H → WindowLoan) (x : TextOf) (t : WindowManager V H) (m : Texts) (s : TextAt) (is : IsSpotOf loan x t m s) (beside : AreBeside loan t m)
     (w : Window V H) (lies : IsWindowAt t.windows.records.items s.window w) where
   -- its layer is found
-  pub found_some : (found : Option ℕ) → found ≡ layer_index (part.Text x.text) w.layers.layers → is_some found ≡ true
-  found_some found e = ap is_some (e ∙ layer_found loan x t m s is w lies beside)
+  pub found_at : (found : Option ℕ) → found ≡ layer_index (part.Text x.text) w.layers.layers → found ≡ Some (layer_there loan x t m s is w lies beside).index
+  found_at found e = e ∙ layer_found loan x t m s is w lies beside
 
   module _ (index : ℕ) (found : layer_index (part.Text x.text) w.layers.layers ≡ Some index) where
     index_is : (layer_there loan x t m s is w lies beside).index ≡ index

@@ -1,9 +1,9 @@
 -- Text records and the layers of one window that are theirs.
-use Rattle.std.proofs.Common.{◌≡◌, ℕ, zero, suc, ◌<◌, ◌==◌, ◌||◌, Bool, true, false, cond, if◌then◌else◌, List, [], ◌∷◌, ◌++◌, length, get_or, Option, Some, None, refl, sym, ap, ◌∙◌, subst, arith}
+use Rattle.std.proofs.Common.{◌≡◌, ℕ, zero, suc, ◌+◌, ◌<◌, ◌==◌, ◌||◌, Bool, true, false, cond, if◌then◌else◌, List, [], ◌∷◌, ◌++◌, length, get_or, Option, Some, None, refl, sym, ap, ◌∙◌, subst, arith}
 use Rattle.std.specs.Prelude.{All, slice_get, nat_lt}
 use Rattle.std.specs.List.{AllZip, filter, insert, list_any, position, position_or_len, remove}
 use Rattle.std.specs.Option.{option_map}
-use Rattle.std.proofs.lemmas.Bool.{cond-true, eq-eqb, false≢true, lt-ltb}
+use Rattle.std.proofs.lemmas.Bool.{cond-true, eq-eqb, false≢true, lt-ltb, ltb-true}
 use Rattle.std.proofs.lemmas.List.Elements.{All-cons, All-nil}
 use Rattle.tb_geom.specs.declared.point.Point.{Point}
 use Rattle.desk_layers.specs.declared.part.Part.{Part}
@@ -93,11 +93,17 @@ index_first : (q : Part) (l : Layer) (ls : List Layer) → same_part l.part q �
 index_first q l ls e = rw e (cond-true (nat_lt 0 (suc (length ls))) (Some 0) None (lt-ltb 0 (suc (length ls)) (omega arith)))
 
 index_next : (q : Part) (l : Layer) (ls : List Layer) (i : ℕ) → same_part l.part q ≡ false → layer_index q ls ≡ Some i → layer_index q (l ∷ ls) ≡ Some (suc i)
-index_next q l ls i e found = rw e (further (nat_lt (position_or_len (λ (k : Layer). same_part k.part q) ls) (length ls)) (position_or_len (λ (k : Layer). same_part k.part q) ls) found)
+index_next q l ls i e found = rw e (further (position_or_len (λ (k : Layer). same_part k.part q) ls) (length ls) found)
   where
-    further : (b : Bool) (n : ℕ) → cond b (Some n) None ≡ Some i → cond b (Some (suc n)) None ≡ Some (suc i)
-    further true n e = let same : n ≡ i = cc in ap (λ k. Some (suc k)) same
-    further false n e = absurd (cc)
+    further : (n m : ℕ) → cond (nat_lt n m) (Some n) None ≡ Some i → cond (nat_lt (1 + n) (suc m)) (Some (1 + n)) None ≡ Some (suc i)
+    further n m e = by_test (nat_lt n m) refl e
+      where
+        by_test : (b : Bool) → nat_lt n m ≡ b → cond b (Some n) None ≡ Some i → cond (nat_lt (1 + n) (suc m)) (Some (1 + n)) None ≡ Some (suc i)
+        by_test true is h =
+            let same : n ≡ i = cc in
+            let less = ltb-true n m is in
+            ap (λ c. cond c (Some (1 + n)) None) (lt-ltb (1 + n) (suc m) (omega (arith, less))) ∙ ap (λ k. Some k) (omega (arith, same))
+        by_test false is h = absurd (cc)
 
 pub record ItsLayer (x : KeptText) (ls : List Layer) : Type 0 where
   pub index : ℕ

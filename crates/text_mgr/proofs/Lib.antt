@@ -8,7 +8,7 @@ pub mod Reshown
 pub mod Shown
 pub mod Lays
 pub mod Disposed
-pub mod Judging
+pub mod NewJudged
 pub mod PlaceParts
 pub mod Made
 pub mod MadeSteps
@@ -22,3 +22,6 @@ pub mod Left
 pub mod Written
 pub mod TextsWhole
 pub mod Drawn
+pub mod Edited
+pub mod LaysSo
+pub mod LaidSteps

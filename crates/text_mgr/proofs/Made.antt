@@ -56,7 +56,7 @@ use Rattle.text_mgr.specs.TextLayers.{AreTextLayersOf, IsLayerOf, with_last}
 use Rattle.text_mgr.specs.TextPlaces.{may_stand_at, placing_of, view_of}
 use Rattle.text_mgr.specs.TextSteps.{IsTextMade}
 use Rattle.text_mgr.specs.WholeTexts.{AreBeside, AreWholeTexts, LeavesTexts, text_desk, texts_state}
-use Rattle.text_mgr.proofs.Judging.{window_is}
+use Rattle.text_mgr.proofs.NewJudged.{window_is}
 use Rattle.text_mgr.proofs.Layered.{inserted_last, joined_more, none_named}
 use Rattle.text_mgr.proofs.Lays.{AreSetFor}
 use Rattle.text_mgr.proofs.PlaceParts.{MayStand, place_parts}

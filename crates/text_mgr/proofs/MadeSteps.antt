@@ -36,7 +36,7 @@ use Rattle.text_mgr.specs.TextDesks.{KeptText, texts_show}
 use Rattle.text_mgr.specs.TextLayers.{AreTextLayersOf, with_last}
 use Rattle.text_mgr.specs.TextSteps.{IsTextMade}
 use Rattle.text_mgr.specs.WholeTexts.{AreBeside, AreWholeTexts, LeavesTexts, text_desk, texts_state}
-use Rattle.text_mgr.proofs.Judging.{window_is}
+use Rattle.text_mgr.proofs.NewJudged.{window_is}
 use Rattle.text_mgr.proofs.Layered.{inserted_last, joined_more}
 use Rattle.text_mgr.proofs.Lays.{AreSetFor}
 use Rattle.text_mgr.proofs.PlaceParts.{place_parts}

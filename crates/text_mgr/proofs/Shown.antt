@@ -1,8 +1,8 @@
 -- A text record that is changed and shown anew.
 use Rattle.std.proofs.Common.{◌≡◌, ℕ, zero, suc, ◌<◌, ◌==◌, ◌&&◌, Bool, true, false, List, [], ◌∷◌, length, get_or, Option, Some, None, refl, sym, ap, ◌∙◌, subst, eqb-true}
-use Rattle.std.specs.Prelude.{is_some, slice_get}
+use Rattle.std.specs.Prelude.{slice_get}
 use Rattle.std.specs.Option.{option_and_then}
-use Rattle.std.proofs.lemmas.Bool.{eq-eqb, false≢true}
+use Rattle.std.proofs.lemmas.Bool.{eqb-false, false≢true}
 use Rattle.tb_geom.specs.declared.rect.Rect.{Rect}
 use Rattle.tb_geom.specs.Points.{PixelSet}
 use Rattle.tb_geom.specs.Rects.{rect_holds}
@@ -49,7 +49,7 @@ use Rattle.text_mgr.proofs.Whole.{SameBox, whole_edited}
 
 module _ {V : Type 0} {H : V → Type 0} (loan : TakenBox V H → WindowLoan) (x : TextOf) (t : WindowManager V H) (m : declared.Texts) (s : TextAt) (is : IsSpotOf loan x t m s) (beside : AreBeside loan t m)
     (y : KeptText) (read : y ≡ get_or m.list.items.items s.text y) (v : Window V H) (lies : IsWindowAt t.windows.records.items s.window v) where
-  its : ItsLayer (record_there loan x t m s is).item v.layers.layers
+  abbrev its : ItsLayer (record_there loan x t m s is).item v.layers.layers
   its = layer_there loan x t m s is v lies beside
 
   it : (record_there loan x t m s is).item ≡ y
@@ -59,8 +59,8 @@ module _ {V : Type 0} {H : V → Type 0} (loan : TakenBox V H → WindowLoan) (x
   its_index = subst (λ (z : KeptText). layer_index (part.Text z.serial) v.layers.layers ≡ Some its.index) it its.found
 
   -- it is found
-  pub found_some : (found : Option ℕ) → found ≡ layer_index (part.Text y.serial) v.layers.layers → is_some found ≡ true
-  found_some found e = ap is_some (e ∙ its_index)
+  pub found_at : (found : Option ℕ) → found ≡ layer_index (part.Text y.serial) v.layers.layers → found ≡ Some its.index
+  found_at found e = e ∙ its_index
 
   module _ (index : ℕ) (found : layer_index (part.Text y.serial) v.layers.layers ≡ Some index) where
     same_index : its.index ≡ index
@@ -94,12 +94,12 @@ module _ {V : Type 0} {H : V → Type 0} (loan : TakenBox V H → WindowLoan) (x
 
 -- ---- other text records stay
 
-other_there : (g : KeptText → KeptText) (at i : ℕ) (xs : List KeptText) → (i == at) ≡ false → slice_get (edit_at g at xs) i ≡ slice_get xs i
+other_there : (g : KeptText → KeptText) (at i : ℕ) (xs : List KeptText) → (i ≡ at → ⊥) → slice_get (edit_at g at xs) i ≡ slice_get xs i
 other_there g at i [] e = refl
-other_there g zero zero (x ∷ xs) e = absurd (false≢true (sym e))
+other_there g zero zero (x ∷ xs) e = absurd (e refl)
 other_there g zero (suc i) (x ∷ xs) e = refl
 other_there g (suc at) zero (x ∷ xs) e = refl
-other_there g (suc at) (suc i) (x ∷ xs) e = other_there g at i xs e
+other_there g (suc at) (suc i) (x ∷ xs) e = other_there g at i xs (λ same. e (ap (λ n. suc n) same))
 
 -- the one that is changed alone is of another value
 pub others_stay : (x : TextOf) (f : Record → Record) (at : ℕ) (ts : List KeptText) (item : KeptText) → index_of x ts ≡ Some at → slice_get ts at ≡ Some item → (y : TextOf)
@@ -113,7 +113,7 @@ others_stay x f at ts item found there y other =
         let its = found_names y ts i e item (ap (slice_get ts) (eqb-true i at same) ∙ there) in
         let names = found_names x ts at found item there in
         absurd (false≢true (sym other ∙ (λ j. same_owner (Content ((sym its.0 ∙ names.0) j) (part.Text ((sym its.1 ∙ names.1) j))) (Content x.window (part.Text x.text))) ∙ same_owner-self (Content x.window (part.Text x.text))))
-    by_test i e false same = other_there (with_kept f) at i ts same
+    by_test i e false same = other_there (with_kept f) at i ts (eqb-false i at same)
 
     by_place : (o : Option ℕ) → index_of y ts ≡ o → option_and_then (slice_get (edit_at (with_kept f) at ts)) o ≡ option_and_then (slice_get ts) o
     by_place None e = refl

@@ -1,5 +1,5 @@
 -- Why a new text record is refused, as the code judges it.
-use Rattle.std.proofs.Common.{◌≡◌, ℕ, ◌<◌, ◌≤◌, Bool, true, false, not, ◌||◌, List, [], ◌∷◌, length, Option, None, Some, Result, Err, MatchResult, refl, sym, ap, ◌∙◌, subst, arith}
+use Rattle.std.proofs.Common.{◌≡◌, ℕ, ◌<◌, ◌≤◌, Bool, true, false, not, ◌||◌, List, [], ◌∷◌, length, Option, None, Some, Result, Err, MatchResult, if◌then◌else◌, refl, sym, ap, ◌∙◌, subst, arith}
 use Rattle.std.specs.Prelude.{is_none, nat_le}
 use Rattle.std.proofs.lemmas.Bool.Decides.{nat_tests}
 use Rattle.tb_geom.specs.declared.refusal.Refusal.{Refusal}
@@ -23,6 +23,15 @@ use Rattle.text_mgr.specs.declared.texts.Texts.{Texts}
 use Rattle.text_mgr.specs.Making.{judged_by}
 use Rattle.text_mgr.specs.TextPlaces.{justification_of, may_stand_at, may_stand_in}
 use Rattle.text_mgr.specs.TextRefusals.{is_full}
+
+-- what a placing that is told only where it is allowed says
+pub not_allowed : {A : Type 0} (b : Bool) (x : A) → (if b then Some x else None) ≡ None → b ≡ false
+not_allowed true x e = absurd (cc)
+not_allowed false x e = refl
+
+pub allowed : {A : Type 0} (b : Bool) (x y : A) → (if b then Some x else None) ≡ Some y → (b ≡ true) × (y ≡ x)
+allowed true x y e = (refl, cc)
+allowed false x y e = absurd (cc)
 
 -- the window that stands here, as the desk has it
 pub window_is : {V : Type 0} {H : V → Type 0} (loan : TakenBox V H → WindowLoan) (t : WindowManager V H) → IsKept loan t → (window at : ℕ) → StandsAt t.windows.records.items window at
