@@ -7,7 +7,6 @@ use Rattle.std.proofs.lemmas.List.{take-append-drop}
 use Rattle.std.specs.List.{list_all}
 use Rattle.std.proofs.lemmas.Bool.{and_parts, and_from}
 use Rattle.tb_geom.specs.declared.point.Point.{Point}
-use Rattle.tb_geom.specs.Rects.{in_plane}
 use Rattle.region_bytes.proofs.Edges.{differ_swap, inside-nil, inside-push_after, inside-push_before, is_odd-more}
 use Rattle.region_bytes.proofs.Rows.{differ_assoc, differ-false}
 use Rattle.region_rows.specs.Edges.{differ, inside, is_odd, IsClimb, IsRow}

@@ -1,9 +1,9 @@
 -- Polygons and their frames row by row: where edges turn a row, the lines that are put in, and the rectangles around both.
-use Rattle.std.proofs.Common.{◌≡◌, ◌&&◌, ◌||◌, Bool, true, false, inl, inr, ◌-◌, ◌≤◌, length, take, drop, slice_index_or, List, [], ◌∷◌, ℤ, pos, negsuc, ◌-ℤ◌, ◌+ℤ◌, ◌*ℤ◌, ◌≤ℤ◌, ◌<ℤ◌, refl, sym, ap, ◌∙◌, subst, arith}
+use Rattle.std.proofs.Common.{◌≡◌, ◌&&◌, ◌||◌, Bool, true, false, inl, inr, ◌-◌, ◌≤◌, length, take, drop, slice_index_or, List, [], ◌∷◌, ℤ, pos, negsuc, ◌-ℤ◌, ◌*ℤ◌, ◌≤ℤ◌, ◌<ℤ◌, refl, sym, ap, ◌∙◌, arith}
 use Rattle.std.specs.Prelude.{int_le, int_lt}
 use Rattle.std.specs.List.{list_all}
 use Rattle.std.specs.Ordering.{int_eq}
-use Rattle.std.proofs.lemmas.Bool.{and_left, and_right, and_parts, or_cases, cases_Bool, false≢true, false_from_ne_true}
+use Rattle.std.proofs.lemmas.Bool.{and_parts, or_cases, false≢true}
 use Rattle.std.proofs.lemmas.Int.{ints, by_lt_z, clamps}
 use Rattle.std.proofs.lemmas.List.{take_rest}
 use Rattle.tb_geom.specs.declared.point.Point.{Point}
@@ -20,17 +20,16 @@ use Rattle.shape_strips.specs.Lines.{line_holds}
 use Rattle.shape_strips.specs.Runs.{run_holds}
 use Rattle.shape_strips.proofs.BandLemmas.{passes_above, passes_column, passes_left, passes_row}
 use Rattle.shape_strips.proofs.Products.{times_le}
-use Rattle.shape_strips.proofs.RangeLemmas.{coordinate_from, coordinate_high, coordinate_low, in_range_from, sides_in}
+use Rattle.shape_strips.proofs.RangeLemmas.{coordinate_high, coordinate_low, in_range_from, sides_in}
 use Rattle.shape_strips.proofs.RunLemmas.{between_before, between_past}
 use Rattle.pixel_rows.specs.declared.columns.Columns.{Columns}
 use Rattle.pixel_rows.specs.declared.combination.Combination.TheVariants.{Union}
 use Rattle.pixel_rows.specs.Columns.{has_column, is_edge}
 use Rattle.shape_region.specs.Polygons.{odd_edges, polygon_holds, single_point, some_line}
 use Rattle.pixel_rows.specs.Bounds.{AreBounds}
-use Rattle.pixel_rows.proofs.BoxLemmas.{both_bounds, from_false}
+use Rattle.pixel_rows.proofs.BoxLemmas.{both_bounds}
 use Rattle.pixel_rows.proofs.ColumnLemmas.{over}
 use Rattle.shape_region.proofs.PolygonLemmas.{edge_past, edges_by, AreAll}
-use Rattle.pixel_rows.proofs.RowLemmas.{between_same}
 
 -- ---- where an edge turns a row
 

@@ -62,10 +62,13 @@ fn long_turns(above: &[i32], row: &[i32]) -> LongTurns
     points
 }
 
-/// Adds columns, for which there is room.
+/// Adds columns, which are few, and for which there is room.
+#[inline(always)]
 fn push_all(points: &mut LongTurns, columns: &[i32])
     requires { length points.old.items + length columns.now ≤ 66 }
     ensures { points.new.items ≡ points.old.items ++ columns.now }
 {
-    points.try_extend_from_slice(columns).unwrap();
+    for &column in columns {
+        points.push(column);
+    }
 }

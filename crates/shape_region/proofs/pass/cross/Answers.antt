@@ -1,4 +1,4 @@
-use Rattle.std.proofs.Common.{◌≡◌, ◌<ℤ◌, ◌≤ℤ◌, pos, negsuc, sym, ap, ◌∙◌, rules, SFits, w32}
+use Rattle.std.proofs.Common.{◌<ℤ◌, ◌≤ℤ◌, sym, ap, ◌∙◌, rules, SFits, w32}
 use Rattle.std.proofs.lemmas.Int.{ints, to_z-of_z}
 use Rattle.region_rows.specs.Edges.{differ, inside}
 use Rattle.shape_region.proofs.PolygonRowLemmas.{first_high, first_low, turned_from, turned_none}

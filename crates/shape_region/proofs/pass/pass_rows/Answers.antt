@@ -43,9 +43,9 @@ loop-v-preserved c =
     let above_is = c.as_slice.ensures.value in
     let row_is = c.as_slice-in-loop-v.ensures.value ∙ sym kept in
     let turned = subst (λ xs. IsPushed c.loop-v.rows.items c.push_long_turns.new.rows.items v (turns xs row)) above_is
-        (subst (λ xs. IsPushed c.loop-v.rows.items c.push_long_turns.new.rows.items v (turns c.as_slice.result.now xs)) row_is pushed) in
+    (subst (λ xs. IsPushed c.loop-v.rows.items c.push_long_turns.new.rows.items v (turns c.as_slice.result.now xs)) row_is pushed) in
     let made = one_made set c.loop-v.rows.items c.push_long_turns.new.rows.items c.loop-v.above.items row v c.loop-v.invariant.made (omega (arith, ints), omega (arith, ints)) is_row pixels turned in
-    simp to_z-of_z (record { low = omega (arith, ints); high = omega (arith, ints); made = made; })
+    simp to_z-of_z (record { low = omega (arith, ints); high = omega (arith, ints); made = made })
 
 pub push_long_turns-requires : goal.push_long_turns-requires
 push_long_turns-requires c =
@@ -60,7 +60,7 @@ push_long_turns-requires c =
 pub push_long_turns-requires-2 : goal.push_long_turns-requires-2
 push_long_turns-requires-2 c =
     let one = c.as_slice-2.ensures.fits in
-    record { above = rw c.as_slice-2.ensures.value c.loop-v.invariant.made.row; row = IsRow-nil; few = omega arith; }
+    record { above = rw c.as_slice-2.ensures.value c.loop-v.invariant.made.row; row = IsRow-nil; few = omega arith }
 
 pub returns-clause-pixels : goal.returns-clause-pixels
 returns-clause-pixels c =

@@ -1,4 +1,4 @@
-use Rattle.std.proofs.Common.{◌≡◌, true, false, pos, negsuc, rules}
+use Rattle.std.proofs.Common.{pos, negsuc, rules}
 use Rattle.std.proofs.lemmas.Int.{to_z-of_z}
 use Rattle.region_rows.specs.Gaps.{IsPlace}
 use Rattle.shape_region.proofs.CrossLemmas.{put_pixels, put_climbs, taken_pixels, taken_climbs}

@@ -1,4 +1,4 @@
-use Rattle.std.proofs.Common.{◌∙◌, pos, sym}
+use Rattle.std.proofs.Common.{◌∙◌, pos}
 use Rattle.shape_region.proofs.PolygonRowLemmas.{closed_by}
 use Rattle.shape_region.proofs.polygon.polygon_region.Goals as goal
 
