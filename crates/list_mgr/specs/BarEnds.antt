@@ -40,7 +40,8 @@ module _ {W : Type 0} {K : W → Type 0} (control_loan : TakenBox W K → Contro
   IsBarPlanned window bar at ls update t planned = (u : WindowManager V H) (m : Controls (TakenBox W K))
       → IsReadyToEnd loan control_loan (bar_of window bar) at ls update t u m → IsBarToEnd window bar u m planned
 
-  -- over any slots over which the windows are whole, and whatever the lists and other layers show, a scroll bar is there no more
+  -- over any slots over which the windows are whole, and whatever the lists and other layers show, a scroll
+  -- bar is there no more
   abbrev pub IsBarGoneOver : List ControlSlot → List ControlSlot → ℕ → Option ℕ → WindowManager V H → Controls (TakenBox W K) → WindowManager V H → Controls (TakenBox W K) → Type 0
   IsBarGoneOver held left window bar t c u d = (others : List ℕ → Part → PixelSet) (o : Opened) (slots : List WindowSlot) (lists : ListsState) → IsWholeManager loan t slots
       → AreWholeControls (desk_of loan t []).windows (controls_state control_loan c held)

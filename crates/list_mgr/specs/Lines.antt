@@ -37,7 +37,8 @@ module _ {W : Type 0} {K : W → Type 0} (control_loan : TakenBox W K → Contro
     others = others;
   }
 
-  -- over any slots over which the windows are whole, and whatever the lists and other layers show, a scroll bar got a setting that a list was made with
+  -- over any slots over which the windows are whole, and whatever the lists and other layers show, a scroll
+  -- bar got a setting that a list was made with
   abbrev pub IsBarSetOver : ℕ → Option ℕ → Setting → WindowManager V H → Controls (TakenBox W K) → WindowManager V H → Controls (TakenBox W K) → Type 0
   IsBarSetOver window bar setting t c u d = (others : List ℕ → Part → PixelSet) (o : Opened) (slots : List WindowSlot) (held : List ControlSlot) (lists : ListsState) → IsWholeManager loan t slots
       → AreWholeControls (desk_of loan t []).windows (controls_state control_loan c held)

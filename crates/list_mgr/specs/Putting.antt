@@ -106,8 +106,8 @@ pub record IsReadyToPut {V : Type 0} {H : V → Type 0} {D : Type 0} (loan : Tak
 
 -- `list_loan` says it of a list's
 module _ {X : Type 0} {L : X → Type 0} (list_loan : TakenBox X L → ListLoan) {V : Type 0} {H : V → Type 0} (loan : TakenBox V H → WindowLoan) where
-  -- over any slots over which the windows are whole, and over these of the lists' stock, whatever the controls that are whole and what other layers show, all
-  -- are whole afterwards, the controls as they were, and together they are such a step of the desk
+  -- over any slots over which the windows are whole, and over these of the lists' stock, whatever the controls that are whole
+  -- and what other layers show, all are whole afterwards, the controls as they were, and together they are such a step of the desk
   abbrev pub LeavesBeside : List ListSlot → List ListSlot → (ListDesk → ListDesk → Type 0)
       → WindowManager V H → Lists (TakenBox X L) → WindowManager V H → Lists (TakenBox X L) → Type 0
   LeavesBeside kept rest step t m u n = (others : List ℕ → Part → PixelSet) (o : Opened) (slots : List WindowSlot) (cs : ControlsState) → IsWholeManager loan t slots

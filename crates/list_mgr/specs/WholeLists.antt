@@ -72,8 +72,8 @@ abbrev pub slots_of : List KeptList → List ℕ
 slots_of ls = map (λ l. l.kept.definition.slot) ls
 
 -- the lists of these windows, between calls: settled, each of another serial that was given before, in a window that is there,
--- and no window has more than it may have; the layers of each window that are lists' are those of its own; and the empty slots of the
--- stock are those of their definitions
+-- and no window has more than it may have; the layers of each window that are lists' are those of its own; and the empty slots
+-- of the stock are those of their definitions
 pub record AreWholeLists (windows : List WindowRecord) (s : ListsState) : Type 0 where
   pub settled : AreSettled s.lists
   pub apart : AreListsApart s.lists
@@ -108,8 +108,8 @@ module _ {X : Type 0} {L : X → Type 0} (list_loan : TakenBox X L → ListLoan)
       others = others;
     }
 
-    -- a call that asks something changes nothing: over any slots over which windows and lists are whole, and whatever the controls and other layers show,
-    -- together they are such a step of the desk
+    -- a call that asks something changes nothing: over any slots over which windows and lists are whole, and whatever the controls and
+    -- other layers show, together they are such a step of the desk
     abbrev pub IsToldOver : (ListDesk → ListDesk → Type 0) → WindowManager V H → Lists (TakenBox X L) → Type 0
     IsToldOver step t m = (others : List ℕ → Part → PixelSet) (o : Opened) (slots : List WindowSlot) (cs : ControlsState) (kept : List ListSlot) → IsWholeManager loan t slots
         → AreWholeLists (desk_of loan t []).windows (lists_state m kept)
