@@ -25,3 +25,4 @@ pub mod Drawn
 pub mod Edited
 pub mod LaysSo
 pub mod LaidSteps
+pub mod PlacedSo
