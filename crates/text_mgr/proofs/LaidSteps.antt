@@ -71,7 +71,7 @@ module _ {V : Type 0} {H : V → Type 0} (loan : TakenBox V H → WindowLoan) wh
         (left.0, left.1, (why others slots, effect answer _ _ (left.2.0, other_rule f others o slots _ same left.2.1)))
     laid_by f call (Err e) u o r n same grows why effect leaves others slots whole b =
         let left = leaves others slots whole b in
-        (left.0, left.1, inr (why others slots, (grows, left.2.0), left.2.1))
+        (left.0, left.1, (inr (why others slots, (grows, left.2.0)), left.2.1))
 
     -- the call shows it, or hides it
     pub shown_by : (shown : Bool) → l.placing ≡ placing_of there.kept → l.shown ≡ shown → (result : Result TextReply Refusal) (u : WindowManager V H) (o r : Opened) (n : Texts)

@@ -1,5 +1,6 @@
 -- A text record that is put elsewhere, as a step.
 use Rattle.std.proofs.Common.{◌≡◌, ℕ, Bool, true, false, not, ◌&&◌, List, [], ◌∷◌, get_or, Option, Some, None, Result, Ok, Err, refl, sym, ap, ◌∙◌, subst}
+use Rattle.std.proofs.lemmas.Bool.{and_parts}
 use Rattle.tb_geom.specs.declared.refusal.Refusal.{Refusal}
 use Rattle.tb_geom.specs.declared.refusal.Refusal.TheVariants.{OutOfRange}
 use Rattle.tb_geom.specs.Points.{PixelSet}
@@ -13,7 +14,7 @@ use Rattle.desk_call.specs.declared.text.PlaceText.{PlaceText}
 use Rattle.desk_call.specs.declared.text.TextCall.TheVariants as asks
 use Rattle.desk_call.specs.declared.text.TextReply.{TextReply}
 use Rattle.text_record.specs.Changes.{placed, shown_as}
-use Rattle.text_record.specs.Placings.{box_of, is_placing}
+use Rattle.text_record.specs.Placings.{box_of, is_near, is_placing, is_sized, is_width}
 use Rattle.window_list.specs.declared.window.Window.{Window}
 use Rattle.window_mgr.specs.declared.manager.WindowManager.{WindowManager}
 use Rattle.window_mgr.specs.DeskStates.{Opened}
@@ -37,10 +38,6 @@ use Rattle.text_mgr.proofs.LaidSteps.{laid_by}
 use Rattle.text_mgr.proofs.NewJudged.{window_is}
 use Rattle.text_mgr.proofs.Places.{it_is, record_there}
 use Rattle.text_mgr.proofs.Steps.{desk_seen, missing_first, other_reasons, refused_by}
-
-both : (a b : Bool) → (a && b) ≡ true → (a ≡ true) × (b ≡ true)
-both true b e = (refl, e)
-both false b e = absurd (cc)
 
 module _ {V : Type 0} {H : V → Type 0} (loan : TakenBox V H → WindowLoan) (p : PlaceText) (t : WindowManager V H) (m : Texts) where
   pub place_missing : (result : Result TextReply Refusal) (e : Refusal) (o : Opened) → result ≡ Err e
@@ -76,10 +73,10 @@ module _ {V : Type 0} {H : V → Type 0} (loan : TakenBox V H → WindowLoan) (p
             let same : x ≡ there = sym (it_is loan p.text t m s is x e) in
             let framed_so : framed ≡ x.kept.framed = sym (ap (λ (z : KeptText). z.kept.framed) same ∙ framed_there) in
             let window : w ≡ v = one_item t.windows.records.items s.window w v is.window.0 lies v_lies in
-            let parts = both (may_stand framed p.place) _ may in
-            let put = (both _ (is_placing framed (placing_of p.place)) parts.0).1 in
-            let tops = both _ _ (both _ _ put).1 in
-            let box = (both _ _ (both _ _ tops.1).1).1 in
+            let parts = and_parts (may_stand framed p.place) _ may in
+            let put = (and_parts _ (is_placing framed (placing_of p.place)) parts.0).1 in
+            let tops = and_parts (is_near (placing_of p.place).top) _ (and_parts (is_near (placing_of p.place).left) _ put).1 in
+            let box = (and_parts (is_sized (placing_of p.place).view) _ (and_parts (is_width (placing_of p.place).width) _ tops.1).1).1 in
             (
               (λ i. is_placing (sym framed_so i) (placing i)) ∙ put,
               (λ i. is_in_range (box_of (sym framed_so i) (placing i).view)) ∙ box,
