@@ -26,3 +26,4 @@ pub mod Edited
 pub mod LaysSo
 pub mod LaidSteps
 pub mod PlacedSo
+pub mod NewSteps
