@@ -121,7 +121,7 @@ module _ {V : Type 0} {H : V → Type 0} (loan : TakenBox V H → WindowLoan) (n
       fits = own_fits;
     }
 
-    own_is : (x : KeptText) → x.serial ≡ k.serial → x.kept.shown ≡ true → x.kept.framed ≡ false → x.kept.view ≡ k.placing.view → IsLayerOf x own
+    pub own_is : (x : KeptText) → x.serial ≡ k.serial → x.kept.shown ≡ true → x.kept.framed ≡ false → x.kept.view ≡ k.placing.view → IsLayerOf x own
     own_is x serial shown framed view =
         let box : box_of x.kept.framed x.kept.view ≡ k.placing.view = (λ i. box_of (framed i) x.kept.view) ∙ view in
         record {
