@@ -27,3 +27,4 @@ pub mod LaysSo
 pub mod LaidSteps
 pub mod PlacedSo
 pub mod NewSteps
+pub mod ToldSteps
