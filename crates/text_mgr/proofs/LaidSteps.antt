@@ -35,7 +35,6 @@ use Rattle.text_mgr.proofs.Places.{named_there, one_there, record_there, text_th
 use Rattle.text_mgr.proofs.Steps.{desk_seen, nothing_missing, other_reasons, refused_by}
 
 module _ {V : Type 0} {H : V → Type 0} (loan : TakenBox V H → WindowLoan) where
-
   module _ (x : TextOf) (t : WindowManager V H) (m : Texts) (s : TextAt) (is : IsSpotOf loan x t m s) (l : Lie) where
     abbrev there : KeptText
     there = (record_there loan x t m s is).item

@@ -76,8 +76,7 @@ module _ {V : Type 0} {H : V → Type 0} (loan : TakenBox V H → WindowLoan) (p
             let parts = and_parts (may_stand framed p.place) _ may in
             let put = (and_parts _ (is_placing framed (placing_of p.place)) parts.0).1 in
             let tops = and_parts (is_near (placing_of p.place).top) _ (and_parts (is_near (placing_of p.place).left) _ put).1 in
-            let box = (and_parts (is_sized (placing_of p.place).view) _ (and_parts (is_width (placing_of p.place).width) _ tops.1).1).1 in
-            (
+            let box = (and_parts (is_sized (placing_of p.place).view) _ (and_parts (is_width (placing_of p.place).width) _ tops.1).1).1 in (
               (λ i. is_placing (sym framed_so i) (placing i)) ∙ put,
               (λ i. is_in_range (box_of (sym framed_so i) (placing i).view)) ∙ box,
               (λ i. is_in_range (moved_rect (box_of (sym framed_so i) (placing i).view) (sym window i).place.h (sym window i).place.v)) ∙ parts.1,

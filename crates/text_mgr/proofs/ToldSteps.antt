@@ -19,7 +19,7 @@ use Rattle.text_mgr.specs.Spots.{IsSpotOf}
 use Rattle.text_mgr.specs.TextDesks.{KeptText}
 use Rattle.text_mgr.specs.CallEdits.{is_outside}
 use Rattle.text_mgr.specs.TextRefusals.{is_line}
-use Rattle.text_mgr.specs.TextSteps.{IsTextStep, line_told, place_told}
+use Rattle.text_mgr.specs.TextSteps.{IsTextStep, line_told}
 use Rattle.text_mgr.specs.WholeTexts.{LeavesTexts}
 use Rattle.text_mgr.proofs.Places.{named_there, record_there}
 use Rattle.text_mgr.proofs.Steps.{other_reasons, refused_by, told, unchanged}

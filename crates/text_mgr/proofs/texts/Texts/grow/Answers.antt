@@ -43,7 +43,7 @@ returns-clause-ok g c =
       metrics = c.metrics_of.result;
       justification = k.justification;
       layer = own _ c.args.new c.args.windows.now c.args.self.now c.args.ticket c.requires.kept c.requires.beside c.requires.ticket c.in_ok-record.record c.at.result.now
-    (c.at.ensures ∙ ap (λ ls. get_or ls.records.items c.args.ticket.window c.at.result.now) c.list.ensures) c.in_ok-shape.shape c.in_ok-shape.ensures;
+          (c.at.ensures ∙ ap (λ ls. get_or ls.records.items c.args.ticket.window c.at.result.now) c.list.ensures) c.in_ok-shape.shape c.in_ok-shape.ensures;
       of_font = (subst (λ f. AreWidthsOf f c.widths_of.result) c.parts.ensures.font c.widths_of.ensures, subst (λ f. AreMetricsOf f c.metrics_of.result) c.parts.ensures.font c.metrics_of.ensures);
       justified = ticket.justification;
       item = ap (λ r. record { serial = k.serial; window = c.args.new.window; kept = r }) made;
@@ -52,17 +52,18 @@ returns-clause-ok g c =
       window = ticket.window;
       placed = ticket.placed;
       is = own_is _ c.args.new c.args.windows.now c.args.self.now c.args.ticket c.requires.kept c.requires.beside c.requires.ticket c.in_ok-record.record c.at.result.now
-    (c.at.ensures ∙ ap (λ ls. get_or ls.records.items c.args.ticket.window c.at.result.now) c.list.ensures) c.in_ok-shape.shape c.in_ok-shape.ensures
+          (c.at.ensures ∙ ap (λ ls. get_or ls.records.items c.args.ticket.window c.at.result.now) c.list.ensures) c.in_ok-shape.shape c.in_ok-shape.ensures
           (record { serial = k.serial; window = c.args.new.window; kept = c.in_ok-record.record }) refl (ap (λ r. r.shown) made) (ap (λ r. r.framed) made) (ap (λ r. r.view) c.in_ok-record.ensures.made);
       last = λ v v_is.
-          let same = one_item t.windows.records.items k.window w v ticket.window.0 lies v_is in
-          (c.len-layer.ensures ∙ ap (λ z. length z.layers.layers) same,
-          ap (λ ls. ls.layers) c.in_ok-relaid.ensures.layers ∙ ap (λ z. insert z.layers.layers c.len-layer.result (own _ c.args.new c.args.windows.now c.args.self.now c.args.ticket c.requires.kept c.requires.beside c.requires.ticket c.in_ok-record.record c.at.result.now
-    (c.at.ensures ∙ ap (λ ls. get_or ls.records.items c.args.ticket.window c.at.result.now) c.list.ensures) c.in_ok-shape.shape c.in_ok-shape.ensures)) same);
+          let same = one_item t.windows.records.items k.window w v ticket.window.0 lies v_is in (
+            c.len-layer.ensures ∙ ap (λ z. length z.layers.layers) same,
+            ap (λ ls. ls.layers) c.in_ok-relaid.ensures.layers ∙ ap (λ z. insert z.layers.layers c.len-layer.result (own _ c.args.new c.args.windows.now c.args.self.now c.args.ticket c.requires.kept c.requires.beside c.requires.ticket c.in_ok-record.record c.at.result.now
+                (c.at.ensures ∙ ap (λ ls. get_or ls.records.items c.args.ticket.window c.at.result.now) c.list.ensures) c.in_ok-shape.shape c.in_ok-shape.ensures)) same,
+          );
       low = new_low _ c.args.new c.args.windows.now c.args.self.now c.args.ticket c.requires.kept c.requires.beside c.requires.ticket c.in_ok-record.record c.at.result.now
-    (c.at.ensures ∙ ap (λ ls. get_or ls.records.items c.args.ticket.window c.at.result.now) c.list.ensures) c.in_ok-shape.shape c.in_ok-shape.ensures c.len-layer.result c.len-layer.ensures c.in_ok-relaid.relaid c.in_ok-relaid.ensures.layers;
+          (c.at.ensures ∙ ap (λ ls. get_or ls.records.items c.args.ticket.window c.at.result.now) c.list.ensures) c.in_ok-shape.shape c.in_ok-shape.ensures c.len-layer.result c.len-layer.ensures c.in_ok-relaid.relaid c.in_ok-relaid.ensures.layers;
       may = may_be_so _ c.args.new c.args.windows.now c.args.self.now c.args.ticket c.requires.kept c.requires.beside c.requires.ticket c.in_ok-record.record c.at.result.now
-    (c.at.ensures ∙ ap (λ ls. get_or ls.records.items c.args.ticket.window c.at.result.now) c.list.ensures) c.in_ok-shape.shape c.in_ok-shape.ensures c.len-layer.result c.len-layer.ensures c.in_ok-relaid.relaid c.in_ok-relaid.ensures.layers c.area.result.now c.area.ensures c.in_ok-relaying.relaying c.in_ok-relaid.ensures.gained c.in_ok-relaying.ensures;
+          (c.at.ensures ∙ ap (λ ls. get_or ls.records.items c.args.ticket.window c.at.result.now) c.list.ensures) c.in_ok-shape.shape c.in_ok-shape.ensures c.len-layer.result c.len-layer.ensures c.in_ok-relaid.relaid c.in_ok-relaid.ensures.layers c.area.result.now c.area.ensures c.in_ok-relaying.relaying c.in_ok-relaid.ensures.gained c.in_ok-relaying.ensures;
       planned = planned_so _ c.args.new c.args.windows.now c.args.self.now c.args.ticket c.requires.kept c.requires.beside c.requires.ticket c.in_ok-record.record c.at.result.now
-    (c.at.ensures ∙ ap (λ ls. get_or ls.records.items c.args.ticket.window c.at.result.now) c.list.ensures) c.in_ok-shape.shape c.in_ok-shape.ensures c.len-layer.result c.len-layer.ensures c.in_ok-relaid.relaid c.in_ok-relaid.ensures.layers c.area.result.now c.area.ensures c.in_ok-relaying.relaying c.in_ok-relaid.ensures.gained c.in_ok-relaying.ensures;
+          (c.at.ensures ∙ ap (λ ls. get_or ls.records.items c.args.ticket.window c.at.result.now) c.list.ensures) c.in_ok-shape.shape c.in_ok-shape.ensures c.len-layer.result c.len-layer.ensures c.in_ok-relaid.relaid c.in_ok-relaid.ensures.layers c.area.result.now c.area.ensures c.in_ok-relaying.relaying c.in_ok-relaid.ensures.gained c.in_ok-relaying.ensures;
     }
