@@ -116,10 +116,14 @@ module _ {V : Type 0} {H : V → Type 0} (loan : TakenBox V H → WindowLoan) wh
       edit_failed result e n err why items next scrap o =
           leaves_same (IsWhereRight (IsTextStep c result)) t t o o m m n items next scrap
           (subst (λ r. LeavesTexts loan (IsWhereRight (IsTextStep c r)) t o m t o m) (sym err)
-          (λ others slots whole beside. (whole, beside, λ right. (
-            ⊎_elim (λ some. inl (reasons others slots ∙ some)) (λ none. inr (reasons others slots ∙ none.0, none.1)) why,
-            unchanged loan others t o slots m,
-          ))))
+          (λ others slots whole beside. (
+            whole,
+            beside,
+            λ right. (
+              ⊎_elim (λ some. inl (reasons others slots ∙ some)) (λ none. inr (reasons others slots ∙ none.0, none.1)) why,
+              unchanged loan others t o slots m,
+            ),
+          )))
 
       -- it was made, and drawn
       pub edit_done : (u : WindowManager V H) (n : Texts) → n.list.items.items ≡ edit_at (with_kept (edited c m.scrap)) s.text m.list.items.items → n.list.next ≡ m.list.next → n.scrap ≡ scrap_after c m.scrap lent

@@ -25,3 +25,6 @@ pub mod Drawn
 pub mod Edited
 pub mod LaysSo
 pub mod LaidSteps
+pub mod PlacedSo
+pub mod NewSteps
+pub mod ToldSteps

@@ -1,4 +1,6 @@
 -- A text record that is made: its layer behind all others of its window, the plan, and the step.
+use Rattle.std.proofs.lemmas.Bool.{and_parts}
+use Rattle.std.specs.Prelude.{pos, int_le}
 use Rattle.std.proofs.Common.{◌≡◌, ℕ, ◌<◌, ◌≤◌, Bool, true, false, List, [], ◌∷◌, ◌++◌, length, get_or, map, Option, Some, refl, sym, ap, ◌∙◌, subst, arith}
 use Rattle.std.specs.Prelude.{All, is_none}
 use Rattle.std.specs.List.{insert, list_any}
@@ -17,7 +19,7 @@ use Rattle.def_iface.specs.WindowMeaning.{WindowLoan}
 use Rattle.def_iface.specs.WindowSlots.{WindowSlot}
 use Rattle.desk_call.specs.declared.text.NewText.{NewText}
 use Rattle.text_record.specs.declared.placing.Placing.{Placing}
-use Rattle.text_record.specs.Placings.{box_of}
+use Rattle.text_record.specs.Placings.{box_of, is_placing}
 use Rattle.text_record.specs.Texts.{Record}
 use Rattle.window_items.specs.Items.{are_before, has_serial, items_of, serial_after}
 use Rattle.window_items.proofs.LawLemmas.{no_others}
@@ -53,7 +55,7 @@ use Rattle.text_mgr.specs.Laying.{IsBoxShape}
 use Rattle.text_mgr.specs.Making.{IsAddition, IsTicket}
 use Rattle.text_mgr.specs.TextDesks.{KeptText, texts_show}
 use Rattle.text_mgr.specs.TextLayers.{AreTextLayersOf, IsLayerOf, with_last}
-use Rattle.text_mgr.specs.TextPlaces.{may_stand_at, placing_of, view_of}
+use Rattle.text_mgr.specs.TextPlaces.{may_stand, may_stand_at, placing_of, view_of}
 use Rattle.text_mgr.specs.TextSteps.{IsTextMade}
 use Rattle.text_mgr.specs.WholeTexts.{AreBeside, AreWholeTexts, LeavesTexts, text_desk, texts_state}
 use Rattle.text_mgr.proofs.NewJudged.{window_is}
@@ -64,6 +66,15 @@ use Rattle.text_mgr.proofs.Reshown.{alone, one_text, set_among}
 use Rattle.text_mgr.proofs.Whole.{whole_pushed}
 
 -- ---- one more layer, planned
+
+-- a ticket's record may stand so
+pub ticket_placing : {V : Type 0} {H : V → Type 0} (n : NewText) (t : WindowManager V H) (m : Texts) (k : Ticket) → IsTicket n t m k → is_placing false k.placing ≡ true
+ticket_placing n t m k ticket =
+    let its = there_is t.windows.records.items k.window ticket.window.0 in
+    let w = its.item in
+    let lies : IsWindowAt t.windows.records.items k.window w = read_is t.windows.records.items k.window w its.there in
+    ap (is_placing false) ticket.placing
+    ∙ (and_parts (int_le (pos 0) n.place.width) (is_placing false (placing_of n.place)) (and_parts (may_stand false n.place) _ (ticket.placed w lies)).0).1
 
 module _ {V : Type 0} {H : V → Type 0} (loan : TakenBox V H → WindowLoan) (n : NewText) (t : WindowManager V H) (m : Texts) (k : Ticket) (kept : IsKept loan t) (beside : AreBeside loan t m)
     (ticket : IsTicket n t m k) (made : Record) (w : Window V H) (lies : IsWindowAt t.windows.records.items k.window w) where
@@ -110,7 +121,7 @@ module _ {V : Type 0} {H : V → Type 0} (loan : TakenBox V H → WindowLoan) (n
       fits = own_fits;
     }
 
-    own_is : (x : KeptText) → x.serial ≡ k.serial → x.kept.shown ≡ true → x.kept.framed ≡ false → x.kept.view ≡ k.placing.view → IsLayerOf x own
+    pub own_is : (x : KeptText) → x.serial ≡ k.serial → x.kept.shown ≡ true → x.kept.framed ≡ false → x.kept.view ≡ k.placing.view → IsLayerOf x own
     own_is x serial shown framed view =
         let box : box_of x.kept.framed x.kept.view ≡ k.placing.view = (λ i. box_of (framed i) x.kept.view) ∙ view in
         record {

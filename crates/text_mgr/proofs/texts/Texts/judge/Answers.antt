@@ -25,17 +25,18 @@ returns-in-Some-next g c =
     let put = allowed (may_stand_at false c.args.new.place c.at.result.now.place) (placing_of c.args.new.place) c.in-Some-placing_at.placing (sym c.placing_at.ensures ∙ c.in-Some-placing_at.is) in
     let few = subst (λ n. n < 64) c.count.ensures c.if-count-lt-MOST_TEXTS.true in
     let justified = sym (simp to_z-of_z at c.justification_of.ensures) ∙ c.in-Some-justification_of.is in (
-        is_given _ c.args.new c.args.windows.now c.args.self.now c.requires c.in-Some.window c.in-Some.ensures c.at.result.now
-    (c.at.ensures ∙ ap (λ ls. get_or ls.records.items c.in-Some.window c.at.result.now) c.list.ensures) put.0
-        c.in-Some-justification_of.justification justified c.in-Some-next.serial c.in-Some-next.is few,
-        record {
-          window = c.in-Some.ensures;
-          placed = λ w w_is. ap (λ v. may_stand_at false c.args.new.place v.place) (one_item c.args.windows.now.windows.records.items c.in-Some.window w c.at.result.now c.in-Some.ensures.0 w_is (c.at.ensures ∙ ap (λ ls. get_or ls.records.items c.in-Some.window c.at.result.now) c.list.ensures)) ∙ put.0;
-          placing = put.1;
-          justification = justified;
-          serial = c.in-Some-next.is;
-          few = few;
-        })
+      is_given _ c.args.new c.args.windows.now c.args.self.now c.requires c.in-Some.window c.in-Some.ensures c.at.result.now
+          (c.at.ensures ∙ ap (λ ls. get_or ls.records.items c.in-Some.window c.at.result.now) c.list.ensures) put.0
+          c.in-Some-justification_of.justification justified c.in-Some-next.serial c.in-Some-next.is few,
+      record {
+        window = c.in-Some.ensures;
+        placed = λ w w_is. ap (λ v. may_stand_at false c.args.new.place v.place) (one_item c.args.windows.now.windows.records.items c.in-Some.window w c.at.result.now c.in-Some.ensures.0 w_is (c.at.ensures ∙ ap (λ ls. get_or ls.records.items c.in-Some.window c.at.result.now) c.list.ensures)) ∙ put.0;
+        placing = put.1;
+        justification = justified;
+        serial = c.in-Some-next.is;
+        few = few;
+      },
+    )
 
 pub returns-in_default-next : goal.returns-in_default-next
 returns-in_default-next g c =
