@@ -15,7 +15,7 @@ extern "C" {
 
 typedef struct desk_session desk_session;
 
-/* What a call gives. Above 0 it is the number of a refusal in docs/SCRIPT.md, 1 to 20, and the desk is as it was before. */
+/* What a call gives. Above 0 it is the number of a refusal in docs/SCRIPT.md, 1 to 21, and the desk is as it was before. */
 enum {
     DESK_OK = 0,
     DESK_ENDED = -1,     /* the program has ended; the session can only be closed */

@@ -196,13 +196,17 @@ named_there d cs s n p joined its =
 
 -- ---- what is shown before and after
 
--- what lists show stays, where the owner is not of this sort
+-- what lists and text records show stays, where the owner is not of this sort
 abbrev pub StayLists : (Owner → Bool) → FullDesk → FullDesk → (others now : List ℕ → Part → PixelSet) → Type 0
 StayLists own d e others now = (s n : ℕ) (p : Point) → IsShownBy d s (part.List n) p → IsShownBy e s (part.List n) p → own (Content s (part.List n)) ≡ false
     → (q : Point) → now d.font (part.List n) q ≡ others d.font (part.List n) q
 
+abbrev pub StayTexts : (Owner → Bool) → FullDesk → FullDesk → (others now : List ℕ → Part → PixelSet) → Type 0
+StayTexts own d e others now = (s n : ℕ) (p : Point) → IsShownBy d s (part.Text n) p → IsShownBy e s (part.Text n) p → own (Content s (part.Text n)) ≡ false
+    → (q : Point) → now d.font (part.Text n) q ≡ others d.font (part.Text n) q
+
 module _ (others now_others : List ℕ → Part → PixelSet) (d e : FullDesk) (cs ds : List ControlRecord) (shows : d.shows ≡ controls_show others cs d.font) (showing : e.shows ≡ controls_show now_others ds e.font) (font : e.font ≡ d.font) (windows : map bare e.windows ≡ map bare d.windows)
-    (was : AreJoined cs d.windows) (are : AreJoined ds e.windows) (own : Owner → Bool) (stay : StayControls own cs ds) (stay_lists : StayLists own d e others now_others) where
+    (was : AreJoined cs d.windows) (are : AreJoined ds e.windows) (own : Owner → Bool) (stay : StayControls own cs ds) (stay_lists : StayLists own d e others now_others) (stay_texts : StayTexts own d e others now_others) where
   module _ (s : ℕ) (of : Part) (p : Point) (its : IsShownBy d s of p) (now : IsShownBy e s of p) where
     same_bare : bare now.window ≡ bare its.window
     same_bare = same_window s d.windows e.windows its.window now.window windows its.found now.found
@@ -223,6 +227,7 @@ module _ (others now_others : List ℕ → Part → PixelSet) (d e : FullDesk) (
   same_bit : (s : ℕ) (of : Part) (p : Point) → IsShownBy d s of p → IsShownBy e s of p → own (Content s of) ≡ false → own_bit (layered_desk d) (Content s of) p ≡ own_bit (layered_desk e) (Content s of) p
   same_bit s part.Picture p its now other = its.bit_is ∙ pictures s part.Picture p its now ∙ sym now.bit_is
   same_bit s (part.List n) p its now other = its.bit_is ∙ shown s (part.List n) p its now (stay_lists s n p its now other (minus p its.window.place)) ∙ sym now.bit_is
+  same_bit s (part.Text n) p its now other = its.bit_is ∙ shown s (part.Text n) p its now (stay_texts s n p its now other (minus p its.window.place)) ∙ sym now.bit_is
   same_bit s (part.Control n) p its now other =
       its.bit_is
       ∙ shown s (part.Control n) p its now (ap (λ o. control_bit d.font o (minus p its.window.place)) (stay s n (named_there d cs s n p was its) (named_there e ds s n p are now) other))

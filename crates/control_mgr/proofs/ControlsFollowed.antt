@@ -185,7 +185,7 @@ module _ (window : ℕ) (before after : ControlsState) (left : IsWindowLeft wind
   right_left others s right shows apart joined missing =
       shown_alike_right (controls_show others after.controls) s right
       (λ p o here e. sym (same_own others others s.desk (desk_showing (controls_show others after.controls) s.desk) before.controls after.controls shows refl refl refl joined (joined_left s.desk.windows missing joined) (λ o. false)
-      (stay_left apart) (λ t n q was now other r. refl) p o right.plain.desk (distinct_showing (controls_show others after.controls) s.desk right.plain.desk) here
+      (stay_left apart) (λ t n q was now other r. refl) (λ t n q was now other r. refl) p o right.plain.desk (distinct_showing (controls_show others after.controls) s.desk right.plain.desk) here
       (owner_showing (controls_show others after.controls) s.desk p ∙ here) e refl))
 
 -- the controls of a window that is no more were taken out: a right state stays right, and whole controls whole, whatever other

@@ -180,7 +180,7 @@ module _ (before after : ControlDesk) (right : IsRightState before.desk.windows)
       sound = record {
         desk = distinct;
         kept = λ p on content afresh taken put redrawn there.
-            same_own before.others before.others d e before.controls.controls after.controls.controls shows (still_shown before after its.laid.elsewhere its.laid.shows) (ap (λ (x : FullDesk). x.font) its.laid.set.desk) windows was are (is_part_afresh its.window its.afresh) its.stay (λ s n q was now other r. refl)
+            same_own before.others before.others d e before.controls.controls after.controls.controls shows (still_shown before after its.laid.elsewhere its.laid.shows) (ap (λ (x : FullDesk). x.font) its.laid.set.desk) windows was are (is_part_afresh its.window its.afresh) its.stay (λ s n q was now other r. refl) (λ s n q was now other r. refl)
             p (owner (layered_desk e) p) right.plain.desk distinct (its_owner p there) refl content afresh;
         right = λ p on taken. absurd (cc);
       }
@@ -199,7 +199,7 @@ module _ (before after : ControlDesk) (right : IsRightState before.desk.windows)
         desk = distinct;
         kept = λ p on content afresh taken put redrawn there.
             same_own before.others before.others d e before.controls.controls after.controls.controls shows (still_shown before after its.others its.shows) (ap (λ (x : FullDesk). x.font) its.redrawn.desk) (ap (λ (x : FullDesk). map bare x.windows) its.redrawn.desk) was are
-            (λ o. same_owner o (Content its.window (part.Control its.control))) its.stay (λ s n q was now other r. refl)
+            (λ o. same_owner o (Content its.window (part.Control its.control))) its.stay (λ s n q was now other r. refl) (λ s n q was now other r. refl)
             p (owner (layered_desk e) p) right.plain.desk distinct (its_owner p there) refl content redrawn;
         right = λ p on taken. absurd (cc);
       }

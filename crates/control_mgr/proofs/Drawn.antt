@@ -75,4 +75,5 @@ module _ {B : Type 0} (meaning : B → ControlLoan) where
   pub others_show : (font : List ℕ) (xs : List (Item (Control B))) (of : Part) (p : Point) → ((n : ℕ) → of ≡ part.Control n → ⊥) → alone (all_seen meaning xs) font of p ≡ false
   others_show font xs part.Picture p none = refl
   others_show font xs (part.List n) p none = refl
+  others_show font xs (part.Text n) p none = refl
   others_show font xs (part.Control n) p none = absurd (none n refl)

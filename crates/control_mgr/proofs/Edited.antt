@@ -74,6 +74,7 @@ AreNoControls ls = All (λ l. is_of Controls l.part ≡ false) ls
 pub no_control : (q : Part) (n : ℕ) → is_of Controls q ≡ false → same_part q (part.Control n) ≡ false
 no_control part.Picture n e = refl
 no_control (part.List m) n e = refl
+no_control (part.Text m) n e = refl
 no_control (part.Control m) n e = absurd (true≢false e)
 
 -- where a control's layer is changed, taken out or put in, those behind the controls stay

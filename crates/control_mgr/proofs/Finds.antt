@@ -78,6 +78,7 @@ found_nowhere s cs Bar p e = refl
 found_nowhere s cs (Frame t) p e = refl
 found_nowhere s cs (Content t part.Picture) p e = refl
 found_nowhere s cs (Content t (part.List n)) p e = refl
+found_nowhere s cs (Content t (part.Text n)) p e = refl
 found_nowhere s cs (Content t (part.Control n)) p e =
     ap (λ b. if b then option_and_then (λ c. found_in c p) (control_of (record { window = s; control = n }) cs) else None) e
 
@@ -89,6 +90,7 @@ found_own s n cs p =
 no_control_there : (s : ℕ) (cs : List ControlRecord) (o : Part) (p : Point) → ((n : ℕ) → o ≡ part.Control n → ⊥) → control_found_by s cs (Content s o) p ≡ None
 no_control_there s cs part.Picture p none = refl
 no_control_there s cs (part.List n) p none = refl
+no_control_there s cs (part.Text n) p none = refl
 no_control_there s cs (part.Control n) p none = absurd (none n refl)
 
 -- the control of this number stands here, or nowhere

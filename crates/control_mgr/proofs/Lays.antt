@@ -84,7 +84,7 @@ one_item (z ∷ zs) (suc i) x y less e f = one_item zs i x y (omega arith) e f
 
 -- ---- layers of which one has another shape
 
-fits_reshaped : (place : Point) (shape : LayerShape) (i : ℕ) (ls : List Layer) → list_all (fits_at place) ls ≡ true → is_in_range (moved_rect shape.bounds place.h place.v) ≡ true
+pub fits_reshaped : (place : Point) (shape : LayerShape) (i : ℕ) (ls : List Layer) → list_all (fits_at place) ls ≡ true → is_in_range (moved_rect shape.bounds place.h place.v) ≡ true
     → list_all (fits_at place) (reshaped shape i ls) ≡ true
 fits_reshaped place shape i [] h new = refl
 fits_reshaped place shape zero (l ∷ ls) h new = let parts = and_parts (fits_at place l) (list_all (fits_at place) ls) h in (λ t. new t && parts.1 t)
@@ -93,7 +93,7 @@ fits_reshaped place shape (suc i) (l ∷ ls) h new =
     let rest = fits_reshaped place shape i ls parts.1 new in (λ t. parts.0 t && rest t)
 
 -- the part at a place of the new layers is that of the old
-same_part_at : (shape : LayerShape) (i : ℕ) (ls new : List Layer) (l : Layer) (afresh : Option Part) → i < length ls → l ≡ get_or ls i l → new ≡ reshaped shape i ls → IsPartAt new (Some i) afresh → afresh ≡ Some l.part
+pub same_part_at : (shape : LayerShape) (i : ℕ) (ls new : List Layer) (l : Layer) (afresh : Option Part) → i < length ls → l ≡ get_or ls i l → new ≡ reshaped shape i ls → IsPartAt new (Some i) afresh → afresh ≡ Some l.part
 same_part_at shape i ls new l afresh low read is part_is =
     let there = there_is (reshaped shape i ls) i (subst (λ n. i < n) (sym (reshaped_length shape i ls)) low) in
     let k : Layer = there.item in

@@ -144,6 +144,7 @@ alone cs = controls_show (λ font. all_white) cs
 same_control : (others : List ℕ → Part → PixelSet) (cs : List ControlRecord) (font : List ℕ) (q : Part) (p : Point) → is_of Controls q ≡ true → alone cs font q p ≡ controls_show others cs font q p
 same_control others cs font part.Picture p e = absurd (false≢true e)
 same_control others cs font (part.List n) p e = absurd (false≢true e)
+same_control others cs font (part.Text n) p e = absurd (false≢true e)
 same_control others cs font (part.Control n) p e = refl
 
 -- where a control is the part that was drawn afresh

@@ -3,9 +3,9 @@ use Rattle.std.specs.Prelude.{◌==◌, if◌then◌else◌, Option, None, Some}
 use Rattle.tb_geom.specs.declared.refusal.Refusal.{Refusal}
 use Rattle.tb_geom.specs.declared.refusal.Refusal.TheVariants.{Busy, NotBusy}
 use Rattle.desk_call.specs.declared.activity.Activity.{Activity}
-use Rattle.desk_call.specs.declared.activity.Activity.TheVariants.{Idle, Updating, Tracking, Pulling, TrackingControl, Dragging, Growing}
+use Rattle.desk_call.specs.declared.activity.Activity.TheVariants.{Idle, Updating, Tracking, Pulling, TrackingControl, Dragging, Growing, Selecting}
 use Rattle.desk_call.specs.declared.activity.Standing.{Standing}
-use Rattle.desk_call.specs.declared.activity.Standing.TheVariants.{Asks, Updates, Tracks, Pulls, TracksControl, Drags, Grows, Changes}
+use Rattle.desk_call.specs.declared.activity.Standing.TheVariants.{Asks, Updates, Tracks, Pulls, TracksControl, Drags, Grows, Selects, Changes}
 use Rattle.desk_call.specs.declared.call.Call.{Call}
 use Rattle.desk_call.specs.declared.call.Call.TheVariants.{Window, Update, Frame, Control, List, Menu, Outline, Event}
 use Rattle.desk_call.specs.declared.control.ControlCall.{ControlCall}
@@ -18,6 +18,8 @@ use Rattle.desk_call.specs.declared.menu.MenuCall.{MenuCall}
 use Rattle.desk_call.specs.declared.menu.MenuCall.TheVariants as menus
 use Rattle.desk_call.specs.declared.outline.OutlineCall.{OutlineCall}
 use Rattle.desk_call.specs.declared.outline.OutlineCall.TheVariants.{StepDrag, EndDrag, StepGrow, EndGrow}
+use Rattle.desk_call.specs.declared.text.TextCall.{TextCall}
+use Rattle.desk_call.specs.declared.text.TextCall.TheVariants as texts
 use Rattle.desk_call.specs.declared.update.UpdateCall.{UpdateCall}
 use Rattle.desk_call.specs.declared.update.UpdateCall.TheVariants.{Draw as DrawLayers, End}
 use Rattle.desk_call.specs.declared.window.WindowCall.{WindowCall}
@@ -77,6 +79,20 @@ outline_standing (StepGrow p) = Grows
 outline_standing (EndGrow p) = Grows
 outline_standing _ = Changes
 
+-- the calls on text records that ask may come at any time; steps and the end of a selection belong to it
+abbrev pub text_standing : TextCall → Standing
+text_standing (texts.Get t) = Asks
+text_standing (texts.Info t) = Asks
+text_standing (texts.Line t) = Asks
+text_standing (texts.PlaceOf t) = Asks
+text_standing (texts.OffsetAt p) = Asks
+text_standing texts.Scrap = Asks
+text_standing (texts.Width bytes) = Asks
+text_standing texts.FontInfo = Asks
+text_standing (texts.Step p) = Selects
+text_standing (texts.End p) = Selects
+text_standing _ = Changes
+
 -- when a call may come; one about events may at any time
 abbrev pub standing_of : Call → Standing
 standing_of (Window call) = window_standing call
@@ -99,4 +115,5 @@ gate (Pulling m) Pulls = None
 gate (TrackingControl c) TracksControl = None
 gate (Dragging d) Drags = None
 gate (Growing g) Grows = None
+gate (Selecting t) Selects = None
 gate activity standing = Some NotBusy

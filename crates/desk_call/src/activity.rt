@@ -2,10 +2,11 @@
 ghost use Rattle.std.specs.Prelude.{◌≡◌, None, MatchResult, Some};
 ghost use Rattle.desk_call.specs.Gates.{gate};
 
-use crate::{ControlOf, SizeLimits};
+use crate::{ControlOf, SizeLimits, TextOf};
 use control_values::ControlPart;
 use def_iface::Size;
 use tb_geom::{Point, Rect, Refusal};
+use text_edits::{Anchor, ClickMode};
 
 /// What is open between its begin and its end. At most one thing is.
 #[derive(Clone, Copy, PartialEq, Eq)]
@@ -24,6 +25,8 @@ pub enum Activity {
     Dragging(DraggedWindow),
     /// The size of this window is being changed.
     Growing(GrownWindow),
+    /// Text of this record is being selected with the mouse.
+    Selecting(SelectedText),
 }
 
 /// A menu that is pulled down.
@@ -46,6 +49,15 @@ pub struct TrackedControl {
     pub part: ControlPart,
     /// Where the mouse button was pressed, in the coordinates of the control's window.
     pub from: Point,
+}
+
+/// A text record in which the mouse selects.
+#[derive(Clone, Copy, Debug, PartialEq, Eq)]
+pub struct SelectedText {
+    pub text: TextOf,
+    pub mode: ClickMode,
+    /// What stays selected.
+    pub anchor: Anchor,
 }
 
 /// A window that is dragged.
@@ -87,6 +99,8 @@ pub enum Standing {
     Drags,
     /// It goes on with the growing of a window or ends it, while one is grown.
     Grows,
+    /// It goes on with a selection or ends it, while one is open.
+    Selects,
     /// It is any other, while nothing is open.
     Changes,
 }
@@ -107,6 +121,7 @@ impl Activity {
             (Activity::TrackingControl(_), Standing::TracksControl) => Ok(()),
             (Activity::Dragging(_), Standing::Drags) => Ok(()),
             (Activity::Growing(_), Standing::Grows) => Ok(()),
+            (Activity::Selecting(_), Standing::Selects) => Ok(()),
             _ => Err(Refusal::NotBusy),
         }
     }

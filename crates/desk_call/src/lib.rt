@@ -14,10 +14,13 @@ mod list;
 mod menu;
 mod nature;
 mod outline;
+mod text;
 mod update;
 mod window;
 
-pub use activity::{Activity, DraggedWindow, GrownWindow, PulledMenu, Standing, TrackedControl};
+pub use activity::{
+    Activity, DraggedWindow, GrownWindow, PulledMenu, SelectedText, Standing, TrackedControl,
+};
 pub use call::{Call, Reply};
 pub use control::{
     ControlCall, ControlInfo, ControlNumber, ControlOf, ControlReply, ControlTitle, FoundControl,
@@ -34,6 +37,10 @@ pub use menu::{
 };
 pub use nature::{Asked, Nature};
 pub use outline::{DragWindow, GrowWindow, OutlineCall, OutlineReply, SizeLimits};
+pub use text::{
+    ClickText, NewText, PlaceText, PointInText, ScrollText, SelectText, TextBytes, TextCall,
+    TextFlag, TextInfo, TextNumber, TextOf, TextPlace, TextReply,
+};
 pub use update::{AreaRef, LayerDraw, LayerKind, UpdateCall, WindowArea};
 pub use window::{
     Drawing, Found, MoveWindow, NewPicture, NewWindow, PictureRef, ScrollPicture, SendBehind,

@@ -19,7 +19,7 @@ pub enum UpdateCall<'a> {
     Draw(LayerDraw),
     /// Ends the update of a window (EndUpdate): what was not drawn is in its update region again.
     End(u64),
-    /// Begins the update of a window, draws its picture, its lists and its controls, and ends it.
+    /// Begins the update of a window, draws its picture, its text records, its lists and its controls, and ends it.
     Serve(u64),
 }
 
@@ -45,10 +45,11 @@ pub struct LayerDraw {
     pub layers: LayerKind,
 }
 
-/// Which layers of a window's content: its picture, its lists or its controls.
+/// Which layers of a window's content: its picture, its text records, its lists or its controls.
 #[derive(Clone, Copy, PartialEq, Eq)]
 pub enum LayerKind {
     Picture,
+    Texts,
     Lists,
     Controls,
 }

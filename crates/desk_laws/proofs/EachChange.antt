@@ -47,7 +47,7 @@ use Rattle.desk_toolbox.specs.Reached.{IsConsistent}
 use Rattle.desk_toolbox.specs.Run.{IsGated, IsLetGo, IsOutlineMade, IsStep, IsWindowMade, replied}
 use Rattle.desk_toolbox.specs.ToolboxStates.{ToolboxState, with_controls, with_lists, with_menus}
 use Rattle.desk_toolbox.proofs.ContentsBeside.{IsRightToolbox}
-use Rattle.desk_toolbox.proofs.ContentsLeft.{right_lists}
+use Rattle.desk_laws.proofs.PartsThere.{alone}
 use Rattle.desk_toolbox.proofs.EachManager.{HoldsOfEach, of_step}
 use Rattle.desk_toolbox.proofs.Outlined.{outline_unchanged}
 use Rattle.desk_toolbox.proofs.Runs.{step_stays_right}
@@ -92,8 +92,8 @@ module _ (before after : ToolboxState) (was : IsRightToolbox before) (are : IsRi
   clicked_changes k x (Some c) answer named (is, done) = selection_change k.list (λ flags. clicked_cell flags (keys_of (nat_abs k.modifiers)) c) before after was.right was.contents done
 
   list_changes : (call : ListCall) (answer : ListReply) → IsListEffect call answer (with_lists before) (with_lists after) → ChangesBy (change_of_list call before after) before after
-  list_changes (lists.New n) answer (serial, is, done) = list_made_changes n serial before after (right_lists before was) (right_lists after are) done
-  list_changes (lists.Dispose l) answer done = list_gone_changes l (with_lists before) (with_lists after) (right_lists before was) (right_lists after are) done.1
+  list_changes (lists.New n) answer (serial, is, done) = list_made_changes n serial before after (alone before was) (alone after are) done
+  list_changes (lists.Dispose l) answer done = list_gone_changes l (with_lists before) (with_lists after) (alone before was) (alone after are) done.1
   list_changes (lists.AddRows n) answer done = lines_change n.list (with_rows_more n.count n.at) (rows_more_edit n.count n.at) before after was.right are.right done.1
   list_changes (lists.AddColumns n) answer done = lines_change n.list (with_columns_more n.count n.at) (columns_more_edit n.count n.at) before after was.right are.right done.1
   list_changes (lists.DeleteRows n) answer done = lines_change n.list (with_rows_fewer n.count n.at) (rows_fewer_edit n.count n.at) before after was.right are.right done.1
@@ -141,7 +141,7 @@ frame_so call (Err e) before after step was are = nothing before after was are s
 
 control_so : (call : ControlCall) (answer : Result ControlReply Refusal) (before after : ToolboxState) → IsControlStep call answer (with_controls before) (with_controls after) → ChangesSo (calls.Control call) (replied reply.Control answer) before after
 control_so call (Ok answer) before after step was are = control_changes call answer before after was.right are.right
-    (λ c done. hidden_changes c (with_lists before) (with_lists after) (right_lists before was) (right_lists after are) done) step.1
+    (λ c done. hidden_changes c (with_lists before) (with_lists after) (alone before was) (alone after are) done) step.1
 control_so call (Err e) before after step was are = nothing before after was are step.1.desk.windows
 
 list_so : (call : ListCall) (answer : Result ListReply Refusal) (before after : ToolboxState) → IsListStep call answer (with_lists before) (with_lists after) → ChangesSo (calls.List call) (replied reply.List answer) before after

@@ -16,7 +16,7 @@ use Rattle.bit_map.specs.Patterns.{pattern_bit, gray}
 use Rattle.desk_call.specs.Outlines.{outline_of}
 use Rattle.tb_geom.specs.declared.rect.Rect.{Rect}
 use Rattle.desk_call.specs.declared.activity.Activity.{Activity}
-use Rattle.desk_call.specs.declared.activity.Activity.TheVariants.{Idle, Updating, Tracking, Pulling, TrackingControl, Dragging, Growing}
+use Rattle.desk_call.specs.declared.activity.Activity.TheVariants.{Idle, Updating, Tracking, Pulling, TrackingControl, Dragging, Growing, Selecting}
 use Rattle.desk_call.specs.declared.activity.Standing.TheVariants.{Asks}
 use Rattle.desk_call.specs.declared.call.Call.{Call}
 use Rattle.desk_call.specs.declared.call.Call.TheVariants.{Window}
@@ -107,6 +107,7 @@ module _ (s : ToolboxState) (p : Point) where
   none_beside_menu (TrackingControl c) inside = refl
   none_beside_menu (Dragging d) inside = absurd (false≢true inside)
   none_beside_menu (Growing g) inside = absurd (false≢true inside)
+  none_beside_menu (Selecting k) inside = absurd (false≢true inside)
 
   -- what is shown, where these are the lines of the outline
   abbrev along : List Rect → Bool
@@ -133,6 +134,7 @@ module _ (s : ToolboxState) (p : Point) where
   none_beside_outline (TrackingControl c) on = refl
   none_beside_outline (Dragging d) on = refl
   none_beside_outline (Growing g) on = refl
+  none_beside_outline (Selecting k) on = refl
 
   -- what is shown below the outline, where this menu is pulled down
   abbrev below : Option Pulled → Bool
@@ -157,6 +159,7 @@ asks_may_come (Tracking s) = refl
 asks_may_come (TrackingControl c) = refl
 asks_may_come (Dragging d) = refl
 asks_may_come (Growing g) = refl
+asks_may_come (Selecting k) = refl
 asks_may_come (Pulling m) = refl
 
 covered_is_told : (covered : Bool) (p : Point) (own : Result WindowReply Refusal) (before after : ToolboxState) → covered ≡ true → IsWindowTold covered (Find p) own before after → (own ≡ Ok found_menu) × IsToolboxUnchanged before after

@@ -21,15 +21,16 @@ use Rattle.control_mgr.proofs.Places as control_places
 use Rattle.list_mgr.specs.ListDesks.{IsListDeskUnchanged, KeptList, ListDesk, ListsState, with_controls}
 use Rattle.list_mgr.specs.ListSteps.{IsBarGone, IsBarGoneIf, IsListDisposed, IsListGone}
 use Rattle.list_mgr.proofs.ListsBars.{bar_gone_keeps}
-use Rattle.list_mgr.proofs.ListsKept.{IsRightLists}
 use Rattle.list_mgr.proofs.ListsLaid.{gone_keeps}
 use Rattle.list_mgr.proofs.Places as places
 use Rattle.desk_laws.specs.Changes.{is_bar, is_bar_of, is_list}
 use Rattle.desk_laws.proofs.GoneParts.{IsAway, IsBarAway, away_removed, control_removed, gone_removed, list_behind_controls, list_removed, list_removed_behind, no_bar, no_list, no_part, not_found_away}
 use Rattle.desk_laws.proofs.JoinedChanges.{AreOthersKept, gone_then, kept_through}
 use Rattle.desk_laws.proofs.MadeLists.{LaidAgain, is_part, owners_laid, same_screen}
-use Rattle.desk_laws.proofs.PartsThere.{first_list, part_of}
+use Rattle.desk_laws.proofs.PartsThere.{first_list, IsRightAlone, part_of}
 use Rattle.desk_laws.proofs.WindowChanges.{unchanged_changes}
+use Rattle.desk_toolbox.proofs.KnownLayers.{same_others_known}
+use Rattle.list_mgr.proofs.ListsBeside.{bar_gone, list_gone}
 
 -- ---- the steps
 
@@ -47,16 +48,16 @@ kept_wider these wider a b less its = record {
   kept = record { screen = its.kept.screen; owners = λ p on other. its.kept.owners p on (less _ other) };
 }
 
-unchanged_away : (these : Owner → Bool) (a b : ListDesk) → IsRightLists a → IsListDeskUnchanged a b → IsTakenAway these a b
+unchanged_away : (these : Owner → Bool) (a b : ListDesk) → IsRightAlone a → IsListDeskUnchanged a b → IsTakenAway these a b
 unchanged_away these a b was same = record {
-  changed = unchanged_changes a.desk.windows b.desk.windows was.desk.right same.desk.windows;
+  changed = unchanged_changes a.desk.windows b.desk.windows was.right.desk.right same.desk.windows;
   kept = record {
     screen = λ p i. on_screen (layered_desk (sym same.desk.windows.desk i)) p;
     owners = λ p on other i. owner (layered_desk (sym same.desk.windows.desk i)) p;
   };
 }
 
-list_away : (l : ListOf) (x : KeptList) (a b : ListDesk) → IsRightLists a → IsRightLists b → IsListGone l x a b → IsTakenAway (is_list l) a b
+list_away : (l : ListOf) (x : KeptList) (a b : ListDesk) → IsRightAlone a → IsRightAlone b → IsListGone l x a b → IsTakenAway (is_list l) a b
 list_away l x a b was are gone = record {
   changed = gone.laid.set.pixels;
   kept = record {
@@ -80,7 +81,7 @@ list_away l x a b was are gone = record {
         (λ other. ap (Content s) (list_removed_behind s x.window (part.List x.serial) q (first_list (items_of s a.lists.lists) q) (first_list (items_of s (remove a.lists.lists gone.at)) q)
         (λ away. list_removed x s q gone.at a.lists.lists gone.there away) (items_of s a.controls.controls) other))
 
-control_away : (c : ControlOf) (a b : ListDesk) → IsRightLists a → IsRightLists b → b.lists ≡ a.lists → IsControlDisposed c (with_controls a) (with_controls b) → IsTakenAway (is_bar c.window (Some c.control)) a b
+control_away : (c : ControlOf) (a b : ListDesk) → IsRightAlone a → IsRightAlone b → b.lists ≡ a.lists → IsControlDisposed c (with_controls a) (with_controls b) → IsTakenAway (is_bar c.window (Some c.control)) a b
 control_away c a b was are same gone = record {
   changed = gone.laid.set.pixels;
   kept = record {
@@ -106,13 +107,13 @@ control_away c a b was are same gone = record {
         (λ i. ((sym gone.controls i).controls, (sym same i).lists, names.0 i, names.1 i))
         (λ other. ap (Content s) (control_removed x s q (first_list (items_of s a.lists.lists) q) gone.at a.controls.controls gone.there other))
 
-control_gone : (c : ControlOf) (a b : ListDesk) → IsRightLists a → IsControlDisposed c (with_controls a) (with_controls b) → IsAway c.window c.control b.controls.controls
+control_gone : (c : ControlOf) (a b : ListDesk) → IsRightAlone a → IsControlDisposed c (with_controls a) (with_controls b) → IsAway c.window c.control b.controls.controls
 control_gone c a b was gone =
     let names = control_places.found_names c.window c.control gone.at a.controls.controls gone.control gone.found gone.there in
     none_in_window c.control c.window b.controls.controls
     (ap (λ (s : ControlsState). list_any (has_serial c.control) s.controls) gone.controls
     ∙ ap (λ n. list_any (has_serial n) (remove a.controls.controls gone.at)) (sym names.1)
-    ∙ gone_removed gone.at a.controls.controls gone.control was.desk.whole.apart gone.there)
+    ∙ gone_removed gone.at a.controls.controls gone.control was.right.desk.whole.apart gone.there)
 
 -- a bar, if there was one, was taken away, and is there no more; what was away stays so
 record IsBarTaken (window : ℕ) (o : Option ℕ) (a b : ListDesk) : Type 0 where
@@ -121,7 +122,7 @@ record IsBarTaken (window : ℕ) (o : Option ℕ) (a b : ListDesk) : Type 0 wher
   stays : (n : ℕ) → IsAway window n a.controls.controls → IsAway window n b.controls.controls
   lists : b.lists ≡ a.lists
 
-bar_if_taken : (window n : ℕ) (o : Option ℕ) (a b : ListDesk) → IsRightLists a → IsRightLists b → index_of (record { window = window; control = n }) a.controls.controls ≡ o
+bar_if_taken : (window n : ℕ) (o : Option ℕ) (a b : ListDesk) → IsRightAlone a → IsRightAlone b → index_of (record { window = window; control = n }) a.controls.controls ≡ o
     → IsBarGoneIf (is_none o) (record { window = window; control = n }) a b → IsBarTaken window (Some n) a b
 bar_if_taken window n None a b was are none same = record {
   taken = unchanged_away (is_bar window (Some n)) a b was same;
@@ -130,13 +131,13 @@ bar_if_taken window n None a b was are none same = record {
   lists = same.lists;
 }
 bar_if_taken window n (Some at) a b was are some done = record {
-  taken = control_away (record { window = window; control = n }) a b was are done.1 done.0.1.1;
+  taken = control_away (record { window = window; control = n }) a b was are done.1.lists done.0.1.1;
   away = control_gone (record { window = window; control = n }) a b was done.0.1.1;
   stays = λ k away. ap (λ (s : ControlsState). list_any (has_serial k) (items_of window s.controls)) done.0.1.1.controls ∙ away_removed window k done.0.1.1.at a.controls.controls away;
-  lists = done.1;
+  lists = done.1.lists;
 }
 
-bar_taken : (window : ℕ) (o : Option ℕ) (a b : ListDesk) → IsRightLists a → IsRightLists b → IsBarGone window o a b → IsBarTaken window o a b
+bar_taken : (window : ℕ) (o : Option ℕ) (a b : ListDesk) → IsRightAlone a → IsRightAlone b → IsBarGone window o a b → IsBarTaken window o a b
 bar_taken window None a b was are same = record {
   taken = unchanged_away (is_bar window None) a b was same;
   away = tt;
@@ -156,11 +157,11 @@ neither false false e = (refl, refl)
 neither true b e = absurd (false≢true (sym e))
 neither false true e = absurd (false≢true (sym e))
 
-pub list_gone_changes : (l : ListOf) (before after : ListDesk) → IsRightLists before → IsRightLists after → IsListDisposed l before after → Changes no_change before after
+pub list_gone_changes : (l : ListOf) (before after : ListDesk) → IsRightAlone before → IsRightAlone after → IsListDisposed l before after → Changes no_change before after
 list_gone_changes l before after was are (x, first, mid, gone, vertical, horizontal) =
     gone_then these (state before) (state first) (state after) a.kept (kept_through these (layered_desk first.desk.windows.desk) (layered_desk mid.desk.windows.desk) (layered_desk after.desk.windows.desk) b.kept c.kept) none a.changed
-    (gone_then these (state first) (state mid) (state after) b.kept c.kept none b.changed c.changed are.desk.right.plain)
-    are.desk.right.plain
+    (gone_then these (state first) (state mid) (state after) b.kept c.kept none b.changed c.changed are.right.desk.right.plain)
+    are.right.desk.right.plain
   where
     state : ListDesk → State
     state d = layered_state d.desk.windows
@@ -168,11 +169,17 @@ list_gone_changes l before after was are (x, first, mid, gone, vertical, horizon
     these : Owner → Bool
     these o = is_list l o || is_bar_of l.window x o
 
-    one : IsRightLists first
-    one = gone_keeps before first was l x gone
+    one : IsRightAlone first
+    one = record {
+      right = gone_keeps before first was.right l x gone;
+      known = same_others_known before.desk.windows.desk.windows first.desk.windows.desk.windows (list_gone before first was.right l x gone) was.known;
+    }
 
-    two : IsRightLists mid
-    two = bar_gone_keeps first mid one l.window x.kept.vertical vertical
+    two : IsRightAlone mid
+    two = record {
+      right = bar_gone_keeps first mid one.right l.window x.kept.vertical vertical;
+      known = same_others_known first.desk.windows.desk.windows mid.desk.windows.desk.windows (bar_gone first mid one.right l.window x.kept.vertical vertical) one.known;
+    }
 
     v : IsBarTaken l.window x.kept.vertical first mid
     v = bar_taken l.window x.kept.vertical first mid one two vertical
@@ -196,7 +203,7 @@ list_gone_changes l before after was are (x, first, mid, gone, vertical, horizon
         let names = places.found_names l.window l.list gone.at before.lists.lists x gone.found gone.there in
         ap (λ (s : ListsState). list_any (has_serial l.list) s.lists) (h.lists ∙ v.lists ∙ gone.lists)
         ∙ ap (λ n. list_any (has_serial n) (remove before.lists.lists gone.at)) (sym names.1)
-        ∙ gone_removed gone.at before.lists.lists x was.lists.apart gone.there
+        ∙ gone_removed gone.at before.lists.lists x was.right.lists.apart gone.there
 
     either_none : (p q r : Bool) → p ≡ false → q ≡ false → r ≡ false → (p || (q || r)) ≡ false
     either_none p q r e f g = λ i. e i || (f i || g i)

@@ -22,11 +22,10 @@ use Rattle.control_mgr.specs.ControlSteps.{IsControlLaid}
 use Rattle.control_mgr.specs.Fields.{with_shown}
 use Rattle.control_mgr.proofs.Places.{found_names}
 use Rattle.list_mgr.specs.ListDesks.{ListDesk, with_controls}
-use Rattle.list_mgr.proofs.ListsKept.{IsRightLists}
 use Rattle.desk_laws.proofs.GoneParts.{another, no_control_behind, no_part}
 use Rattle.desk_laws.proofs.JoinedChanges.{drawing}
 use Rattle.desk_laws.proofs.MadeLists.{owners_laid}
-use Rattle.desk_laws.proofs.PartsThere.{control_has, first_control, first_list, part_of}
+use Rattle.desk_laws.proofs.PartsThere.{control_has, first_control, first_list, IsRightAlone, part_of}
 
 -- where owners are drawn afresh that own no pixel, nothing is drawn
 drawing_none : (these : Owner → Bool) (before after : State) → ((p : Point) → on_screen after.desk p ≡ true → these (owner after.desk p) ≡ false) → IsChanged (drawing these) before after → IsChanged no_change before after
@@ -78,7 +77,7 @@ hidden_has_none n s q behind (c ∷ cs) hidden other =
     by_window true rest = by_serial (has_serial n c) (control_has c q) refl refl rest
     by_window false rest = rest
 
-pub hidden_changes : (c : ControlOf) (before after : ListDesk) → IsRightLists before → IsRightLists after → IsControlLaid c (with_shown false) (with_controls before) (with_controls after)
+pub hidden_changes : (c : ControlOf) (before after : ListDesk) → IsRightAlone before → IsRightAlone after → IsControlLaid c (with_shown false) (with_controls before) (with_controls after)
     → IsChanged no_change (layered_state before.desk.windows) (layered_state after.desk.windows)
 hidden_changes c before after was are done =
     drawing_none (λ o. same_owner o (Content c.window (part.Control c.control))) (layered_state before.desk.windows) (layered_state after.desk.windows) none done.laid.set.pixels
@@ -88,7 +87,7 @@ hidden_changes c before after was are done =
 
     hidden : All (IsHidden c.control) after.controls.controls
     hidden = subst (All (IsHidden c.control)) (sym (ap (λ (s : ControlsState). s.controls) done.changed.state ∙ done.changed.changed.controls))
-        (edited_hidden c.control _ (λ y. refl) done.changed.at before.controls.controls x was.desk.whole.apart done.changed.changed.there (found_names c.window c.control done.changed.at before.controls.controls x done.changed.found done.changed.changed.there).1)
+        (edited_hidden c.control _ (λ y. refl) done.changed.at before.controls.controls x was.right.desk.whole.apart done.changed.changed.there (found_names c.window c.control done.changed.at before.controls.controls x done.changed.found done.changed.changed.there).1)
 
     plain : (o : Owner) → is_content o ≡ false → same_owner o (Content c.window (part.Control c.control)) ≡ false
     plain Desktop e = refl

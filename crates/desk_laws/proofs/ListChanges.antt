@@ -201,7 +201,7 @@ bar_left window (Some n) setting before after done =
 
 bar_keeps_lists : (window : ℕ) (o : Option ℕ) (setting : Setting) (before after : ListDesk) → IsBarSet window o setting before after → after.lists ≡ before.lists
 bar_keeps_lists window None setting before after same = same.lists
-bar_keeps_lists window (Some n) setting before after done = done.2
+bar_keeps_lists window (Some n) setting before after done = done.2.lists
 
 neither : (a b : Bool) → (a || b) ≡ false → (a ≡ false) × (b ≡ false)
 neither false false e = (refl, refl)

@@ -25,12 +25,13 @@ use Rattle.list_mgr.specs.ListDesks.{IsListDeskUnchanged, KeptList, ListDesk, Li
 use Rattle.list_mgr.specs.ListDesks as lists
 use Rattle.list_mgr.specs.ListSteps.{IsBarMade, IsListMade, IsListPut, horizontal_bar_of, new_list, vertical_bar_of}
 use Rattle.list_mgr.proofs.ListsBars.{bar_made_keeps, bar_made_lists}
-use Rattle.list_mgr.proofs.ListsKept.{IsRightLists}
 use Rattle.desk_toolbox.specs.ToolboxStates.{ToolboxState, with_lists}
 use Rattle.desk_laws.specs.Changes.{is_bar, is_bar_of, is_list, list_made}
 use Rattle.desk_laws.proofs.JoinedChanges.{AreOthersSame, drawing, drawn_then}
-use Rattle.desk_laws.proofs.PartsThere.{AreJoined, alike_laid, control_has, first_control, first_list, list_has, part_of, related_owners}
+use Rattle.desk_laws.proofs.PartsThere.{alike_laid, AreJoined, control_has, first_control, first_list, IsRightAlone, list_has, part_of, related_owners}
 use Rattle.desk_laws.proofs.WindowChanges.{unchanged_changes}
+use Rattle.desk_toolbox.proofs.KnownLayers.{same_others_known}
+use Rattle.list_mgr.proofs.ListsBeside.{bar_made}
 
 -- ---- the parts of other controls and lists
 
@@ -119,11 +120,11 @@ pub record AreLaidAgain (d e : FullDesk) : Type 0 where
 pub same_screen : (d e : FullDesk) → AreLaidAgain d e → (p : Point) → on_screen (layered_desk d) p ≡ on_screen (layered_desk e) p
 same_screen d e again p = sym (ap (λ (x : FullDesk). on_screen (layered_desk x) p) again.rest)
 
-pub joined_of : (s : ListDesk) → IsRightLists s → AreJoined s.controls.controls s.lists.lists s.desk.windows.desk.windows
-joined_of s its = record { controls = its.desk.whole.joined; lists = its.lists.joined }
+pub joined_of : (s : ListDesk) → IsRightAlone s → AreJoined s.controls.controls s.lists.lists s.desk.windows.desk.windows
+joined_of s its = record { controls = its.right.desk.whole.joined; lists = its.right.lists.joined; known = its.known }
 
 -- a relation of owners, by how the parts of controls and lists are related
-pub owners_laid : (R : Owner → Owner → Type 0) → ((o : Owner) → is_content o ≡ false → R o o) → (d e : ListDesk) → IsRightLists d → IsRightLists e → AreLaidAgain d.desk.windows.desk e.desk.windows.desk
+pub owners_laid : (R : Owner → Owner → Type 0) → ((o : Owner) → is_content o ≡ false → R o o) → (d e : ListDesk) → IsRightAlone d → IsRightAlone e → AreLaidAgain d.desk.windows.desk e.desk.windows.desk
     → ((s : ℕ) (q : Point) → R (Content s (part_of d.controls.controls d.lists.lists s q)) (Content s (part_of e.controls.controls e.lists.lists s q)))
     → (p : Point) → R (owner (layered_desk d.desk.windows.desk) p) (owner (layered_desk e.desk.windows.desk) p)
 owners_laid R itself d e was are again related p =
@@ -157,9 +158,9 @@ record IsBarDrawn (window : ℕ) (serial : Option ℕ) (a b : ListDesk) : Type 0
   changed : Changes (drawing (is_bar window serial)) a b
   others : AreOthersSame (is_bar window serial) (layered_desk a.desk.windows.desk) (layered_desk b.desk.windows.desk)
 
-bar_drawn : (wanted : Bool) (n : NewControl) (serial : Option ℕ) (a b : ListDesk) → IsRightLists a → IsRightLists b → IsBarMade wanted n serial a b → IsBarDrawn n.window serial a b
+bar_drawn : (wanted : Bool) (n : NewControl) (serial : Option ℕ) (a b : ListDesk) → IsRightAlone a → IsRightAlone b → IsBarMade wanted n serial a b → IsBarDrawn n.window serial a b
 bar_drawn false n serial a b was are (none, same) = subst (λ o. IsBarDrawn n.window o a b) (sym none) (record {
-  changed = unchanged_changes a.desk.windows b.desk.windows was.desk.right same.desk.windows;
+  changed = unchanged_changes a.desk.windows b.desk.windows was.right.desk.right same.desk.windows;
   others = unchanged_others (is_bar n.window None) a b same;
 })
 bar_drawn true n serial a b was are ((c, is, step), same) = subst (λ o. IsBarDrawn n.window o a b) (sym is) (record {
@@ -190,11 +191,11 @@ bar_drawn true n serial a b was are ((c, is, step), same) = subst (λ o. IsBarDr
 
     pushed : (s : ℕ) (q : Point) → is_bar n.window (Some c) (Content s (part_of b.controls.controls b.lists.lists s q)) ≡ false → Content s (part_of a.controls.controls a.lists.lists s q) ≡ Content s (part_of b.controls.controls b.lists.lists s q)
     pushed s q = subst (λ (x : List ControlRecord × List KeptList × ℕ). is_bar n.window (Some x.2) (Content s (part_of x.0 x.1 s q)) ≡ false → Content s (part_of a.controls.controls a.lists.lists s q) ≡ Content s (part_of x.0 x.1 s q))
-        (λ i. (sym done.controls i, (sym same i).lists, sym number i))
+        (λ i. (sym done.controls i, (sym same.lists i).lists, sym number i))
         (λ other. ap (Content s) (control_pushed one s q (first_list (items_of s a.lists.lists) q) a.controls.controls other))
 
 -- the list was put behind the others and drawn, and the other owners are what they were
-put_others : (n : NewList) (serial : ℕ) (vertical horizontal : Option ℕ) (a b : ListDesk) → IsRightLists a → IsRightLists b → IsListPut n serial vertical horizontal a b
+put_others : (n : NewList) (serial : ℕ) (vertical horizontal : Option ℕ) (a b : ListDesk) → IsRightAlone a → IsRightAlone b → IsListPut n serial vertical horizontal a b
     → AreOthersSame (is_list (record { window = n.window; list = serial })) (layered_desk a.desk.windows.desk) (layered_desk b.desk.windows.desk)
 put_others n serial vertical horizontal a b was are put = record {
   screen = same_screen a.desk.windows.desk b.desk.windows.desk again;
@@ -251,28 +252,34 @@ both_bars window vertical horizontal l a b c d first second right changed others
     neither true y e = absurd (false≢true (sym e))
     neither false true e = absurd (false≢true (sym e))
 
-pub list_made_changes : (n : NewList) (serial : ℕ) (before after : ToolboxState) → IsRightLists (with_lists before) → IsRightLists (with_lists after) → IsListMade n serial (with_lists before) (with_lists after)
+pub list_made_changes : (n : NewList) (serial : ℕ) (before after : ToolboxState) → IsRightAlone (with_lists before) → IsRightAlone (with_lists after) → IsListMade n serial (with_lists before) (with_lists after)
     → IsChanged (list_made n.window before after) (layered_state before.desk.windows) (layered_state after.desk.windows)
 list_made_changes n serial before after was are (first, mid, vertical, horizontal, bar, other, put) =
     subst (λ c. IsChanged c (layered_state before.desk.windows) (layered_state after.desk.windows)) (sym change_is)
     (both_bars n.window vertical horizontal (record { window = n.window; list = serial }) (with_lists before) first mid (with_lists after)
-    (bar_drawn n.vertical_bar (vertical_bar_of n) vertical (with_lists before) first was one bar) (bar_drawn n.horizontal_bar (horizontal_bar_of n) horizontal first mid one two other) are.desk.right
+    (bar_drawn n.vertical_bar (vertical_bar_of n) vertical (with_lists before) first was one bar) (bar_drawn n.horizontal_bar (horizontal_bar_of n) horizontal first mid one two other) are.right.desk.right
     put.laid.set.pixels (put_others n serial vertical horizontal mid (with_lists after) two are put))
   where
-    one : IsRightLists first
-    one = bar_made_keeps (with_lists before) first was n.vertical_bar (vertical_bar_of n) vertical bar
+    one : IsRightAlone first
+    one = record {
+      right = bar_made_keeps (with_lists before) first was.right n.vertical_bar (vertical_bar_of n) vertical bar;
+      known = same_others_known before.desk.windows.desk.windows first.desk.windows.desk.windows (bar_made (with_lists before) first was.right n.vertical_bar (vertical_bar_of n) vertical bar) was.known;
+    }
 
-    two : IsRightLists mid
-    two = bar_made_keeps first mid one n.horizontal_bar (horizontal_bar_of n) horizontal other
+    two : IsRightAlone mid
+    two = record {
+      right = bar_made_keeps first mid one.right n.horizontal_bar (horizontal_bar_of n) horizontal other;
+      known = same_others_known first.desk.windows.desk.windows mid.desk.windows.desk.windows (bar_made first mid one.right n.horizontal_bar (horizontal_bar_of n) horizontal other) one.known;
+    }
 
     made : KeptList
     made = new_list n serial put.flags vertical horizontal (record { definition = put.begun; slot = put.loan.slot })
 
     next : before.lists.next ≡ Some serial
-    next = sym (ap (λ (s : ListsState). s.next) (bar_made_lists first mid one n.horizontal_bar (horizontal_bar_of n) horizontal other ∙ bar_made_lists (with_lists before) first was n.vertical_bar (vertical_bar_of n) vertical bar)) ∙ put.serials
+    next = sym (ap (λ (s : ListsState). s.next) (bar_made_lists first mid one.right n.horizontal_bar (horizontal_bar_of n) horizontal other ∙ bar_made_lists (with_lists before) first was.right n.vertical_bar (vertical_bar_of n) vertical bar)) ∙ put.serials
 
     found : lists.with_serial serial after.lists.lists ≡ Some made
-    found = with_there serial (length mid.lists.lists) after.lists.lists made are.lists.apart (ap (λ ls. slice_get ls (length mid.lists.lists)) put.lists ∙ last_there mid.lists.lists made) (same_number serial)
+    found = with_there serial (length mid.lists.lists) after.lists.lists made are.right.lists.apart (ap (λ ls. slice_get ls (length mid.lists.lists)) put.lists ∙ last_there mid.lists.lists made) (same_number serial)
 
     change_is : list_made n.window before after ≡ drawing (λ o. is_list (record { window = n.window; list = serial }) o || is_bar_of n.window made o)
     change_is =

@@ -32,6 +32,7 @@ use Rattle.window_mgr.specs.Updating.{IsRefreshed, is_of_kind}
 use Rattle.window_update.specs.UpdateSteps.{IsUpdateStep}
 use Rattle.window_update.proofs.AnyOrder.{AreDrawnSince, drawn_more, drawn_stay}
 use Rattle.window_frame.specs.Followers.{IsCaughtUpBy}
+use Rattle.window_paint.specs.White.{all_white}
 use Rattle.control_mgr.specs.ControlDesks.{ControlsState, ShowsControls, controls_show}
 use Rattle.control_mgr.specs.ControlSteps.{IsControlStep}
 use Rattle.list_mgr.specs.ListDesks.{ListsState, lists_show}
@@ -87,12 +88,12 @@ asking_leaves_lists call before after e left = left
 
 -- where the windows show the controls and the lists, they still do so once a call asked
 shown_still : (before after : ToolboxState) (middle : FullState) → ShowsControls (with_controls before) → after.controls ≡ before.controls → after.lists ≡ before.lists
-    → after.desk.windows ≡ record middle { desk = record middle.desk { shows = controls_show (lists_show after.lists.lists) after.controls.controls middle.desk.font } }
+    → after.desk.windows ≡ record middle { desk = record middle.desk { shows = controls_show (lists_show (λ font. all_white) after.lists.lists) after.controls.controls middle.desk.font } }
     → IsUnchanged before.desk.windows middle → IsUnchanged before.desk.windows after.desk.windows
 shown_still before after middle shows controls lists is same =
-    let look : FullDesk → FullDesk = λ d. record d { shows = controls_show (lists_show after.lists.lists) after.controls.controls d.font } in
+    let look : FullDesk → FullDesk = λ d. record d { shows = controls_show (lists_show (λ font. all_white) after.lists.lists) after.controls.controls d.font } in
     let shown : look before.desk.windows.desk ≡ before.desk.windows.desk =
-    λ i. record before.desk.windows.desk { shows = (ap (λ (x : ControlsState × ListsState). controls_show (lists_show x.1.lists) x.0.controls before.desk.windows.desk.font) (λ j. (controls j, lists j)) ∙ sym shows) i } in
+    λ i. record before.desk.windows.desk { shows = (ap (λ (x : ControlsState × ListsState). controls_show (lists_show (λ font. all_white) x.1.lists) x.0.controls before.desk.windows.desk.font) (λ j. (controls j, lists j)) ∙ sym shows) i } in
     record {
       desk = ap (λ (s : FullState). s.desk) is ∙ ap look same.desk ∙ shown;
       stale = λ p on. ap (λ (s : FullState). s.stale p) is ∙ same.stale p on;

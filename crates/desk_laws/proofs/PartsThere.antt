@@ -1,5 +1,5 @@
 -- Whose the pixels of a window's content are, by its controls and its lists, and desks whose owners are related.
-use Rattle.std.proofs.Common.{◌≡◌, ℕ, Bool, true, false, not, ◌&&◌, if◌then◌else◌, List, [], ◌∷◌, map, refl, sym, ap, ◌∙◌, subst}
+use Rattle.std.proofs.Common.{◌≡◌, ℕ, Bool, true, false, not, ◌&&◌, ◌||◌, if◌then◌else◌, List, [], ◌∷◌, map, refl, sym, ap, ◌∙◌, subst}
 use Rattle.std.specs.Prelude.{All, int_lt}
 use Rattle.std.specs.List.{AllZip}
 use Rattle.std.proofs.lemmas.List.Elements.{All-head, All-tail}
@@ -15,7 +15,7 @@ use Rattle.window_list.specs.declared.layer.Layer.{Layer}
 use Rattle.window_list.specs.Holders.{part_at}
 use Rattle.window_items.specs.Items.{items_of}
 use Rattle.list_view.specs.Views.{view_rect}
-use Rattle.desk_call.specs.declared.update.LayerKind.TheVariants.{Controls}
+use Rattle.desk_call.specs.declared.update.LayerKind.TheVariants.{Controls, Lists}
 use Rattle.window_paint.specs.Kinds.{is_of}
 use Rattle.vis_update.specs.Records.{Look, WindowRecord, layered_window}
 use Rattle.vis_update.proofs.LayerOwners.{first_owner, owner_first}
@@ -23,8 +23,14 @@ use Rattle.window_mgr.specs.FullDesk.{FullDesk, layered_desk, look_of}
 use Rattle.control_mgr.specs.ControlDesks.{ControlRecord}
 use Rattle.control_mgr.specs.ControlSteps.{AreLayersOf, behind_controls}
 use Rattle.control_mgr.proofs.ControlBits.{bare}
-use Rattle.list_mgr.specs.ListDesks.{KeptList}
-use Rattle.list_mgr.specs.ListSteps.{AreListLayers, IsLayerOf}
+use Rattle.list_mgr.specs.ListDesks.{KeptList, ListDesk}
+use Rattle.list_mgr.specs.ListSteps.{AreListLayers, IsLayerOf, layers_of_lists}
+use Rattle.list_mgr.proofs.ListedLayers.{control_no_list}
+use Rattle.list_mgr.proofs.ListsKept.{IsRightLists}
+use Rattle.desk_toolbox.specs.KnownLayers.{AreKnown, AreLayersKnown, is_known}
+use Rattle.desk_toolbox.specs.ToolboxStates.{ToolboxState, with_lists}
+use Rattle.desk_toolbox.proofs.ContentsBeside.{IsRightToolbox}
+use Rattle.desk_toolbox.proofs.ContentsLeft.{right_lists}
 
 -- ---- the part at a point
 
@@ -70,10 +76,23 @@ of_controls (c ∷ cs) (k ∷ ks) its p =
     (λ i. if its.0.shown i && its.0.region p i then its.0.part i else of_controls cs ks its.1 p i)
     ∙ ap (λ x. if control_has c p then part.Control c.serial else first_control cs p (part_at x p)) (sym behind)
 
+-- where there are no layers but controls' and lists', the lists' lie behind the controls
+lists_behind : (ks : List Layer) → AreKnown ks → behind_controls ks ≡ layers_of_lists ks
+lists_behind [] known = refl
+lists_behind (k ∷ ks) known = by_test (is_of Controls k.part) refl (lists_behind ks (All-tail (λ (x : Layer). is_known x ≡ true) k ks known))
+  where
+    by_test : (b : Bool) → is_of Controls k.part ≡ b → behind_controls ks ≡ layers_of_lists ks
+        → (if not b then k ∷ behind_controls ks else behind_controls ks) ≡ (if is_of Lists k.part then k ∷ layers_of_lists ks else layers_of_lists ks)
+    by_test true is rest = rest ∙ sym (ap (λ c. if c then k ∷ layers_of_lists ks else layers_of_lists ks) (control_no_list k.part is))
+    by_test false is rest =
+        let its : is_of Lists k.part ≡ true = ap (λ b. b || is_of Lists k.part) (sym is) ∙ All-head (λ (x : Layer). is_known x ≡ true) k ks known in
+        ap (λ xs. k ∷ xs) rest ∙ sym (ap (λ c. if c then k ∷ layers_of_lists ks else layers_of_lists ks) its)
+
 -- the part of a window's layers at a point
-pub part_there : (cs : List ControlRecord) (ls : List KeptList) (s : ℕ) (ks : List Layer) → AreLayersOf (items_of s cs) ks → AreListLayers (items_of s ls) ks → (p : Point) → part_at ks p ≡ part_of cs ls s p
-part_there cs ls s ks controls lists p =
-    of_controls (items_of s cs) ks controls p ∙ ap (first_control (items_of s cs) p) (of_lists (items_of s ls) (behind_controls ks) lists p)
+pub part_there : (cs : List ControlRecord) (ls : List KeptList) (s : ℕ) (ks : List Layer) → AreLayersOf (items_of s cs) ks → AreListLayers (items_of s ls) ks → AreKnown ks → (p : Point) → part_at ks p ≡ part_of cs ls s p
+part_there cs ls s ks controls lists known p =
+    of_controls (items_of s cs) ks controls p
+    ∙ ap (first_control (items_of s cs) p) (ap (λ x. part_at x p) (lists_behind ks known) ∙ of_lists (items_of s ls) (layers_of_lists ks) lists p)
 
 -- ---- owners that are related
 
@@ -120,10 +139,19 @@ related_owners R itself d e p rows alike =
 
 -- ---- windows with other controls or lists
 
--- the layers of each window are its controls and its lists
+-- the layers of each window are its controls and its lists, and it has no others
 pub record AreJoined (cs : List ControlRecord) (ls : List KeptList) (ws : List WindowRecord) : Type 0 where
   pub controls : All (λ w. AreLayersOf (items_of w.serial cs) w.layers) ws
   pub lists : All (λ w. AreListLayers (items_of w.serial ls) w.layers) ws
+  pub known : AreLayersKnown ws
+
+-- a right desk with lists whose windows have no layers but controls' and lists'
+pub record IsRightAlone (d : ListDesk) : Type 0 where
+  pub right : IsRightLists d
+  pub known : AreLayersKnown d.desk.windows.desk.windows
+
+pub alone : (s : ToolboxState) → IsRightToolbox s → IsRightAlone (with_lists s)
+alone s is = record { right = right_lists s is; known = is.contents.known }
 
 module _ (R : Owner → Owner → Type 0) (itself : (o : Owner) → is_content o ≡ false → R o o) (look other : Look) (p : Point) (cs ds : List ControlRecord) (ls ks : List KeptList)
     (related : (s : ℕ) (q : Point) → R (Content s (part_of cs ls s q)) (Content s (part_of ds ks s q))) where
@@ -139,8 +167,8 @@ module _ (R : Owner → Owner → Type 0) (itself : (o : Owner) → is_content o
       part = subst (λ (x : Part × Owner). R (Content w.serial x.0) x.1) (λ i. (sym first i, second i)) (related w.serial (minus p w.place));
     },
     alike_laid ws vs rest
-        (record { controls = All-tail (λ (x : WindowRecord). AreLayersOf (items_of x.serial cs) x.layers) w ws was.controls; lists = All-tail (λ (x : WindowRecord). AreListLayers (items_of x.serial ls) x.layers) w ws was.lists })
-        (record { controls = All-tail (λ (x : WindowRecord). AreLayersOf (items_of x.serial ds) x.layers) v vs are.controls; lists = All-tail (λ (x : WindowRecord). AreListLayers (items_of x.serial ks) x.layers) v vs are.lists }),
+        (record { controls = All-tail (λ (x : WindowRecord). AreLayersOf (items_of x.serial cs) x.layers) w ws was.controls; lists = All-tail (λ (x : WindowRecord). AreListLayers (items_of x.serial ls) x.layers) w ws was.lists; known = All-tail (λ (x : WindowRecord). AreKnown x.layers) w ws was.known })
+        (record { controls = All-tail (λ (x : WindowRecord). AreLayersOf (items_of x.serial ds) x.layers) v vs are.controls; lists = All-tail (λ (x : WindowRecord). AreListLayers (items_of x.serial ks) x.layers) v vs are.lists; known = All-tail (λ (x : WindowRecord). AreKnown x.layers) v vs are.known }),
   )
     where
       one : bare v ≡ bare w
@@ -150,9 +178,9 @@ module _ (R : Owner → Owner → Type 0) (itself : (o : Owner) → is_content o
       rest = cc
 
       first : part_at w.layers (minus p w.place) ≡ part_of cs ls w.serial (minus p w.place)
-      first = part_there cs ls w.serial w.layers (All-head (λ (x : WindowRecord). AreLayersOf (items_of x.serial cs) x.layers) w ws was.controls) (All-head (λ (x : WindowRecord). AreListLayers (items_of x.serial ls) x.layers) w ws was.lists) (minus p w.place)
+      first = part_there cs ls w.serial w.layers (All-head (λ (x : WindowRecord). AreLayersOf (items_of x.serial cs) x.layers) w ws was.controls) (All-head (λ (x : WindowRecord). AreListLayers (items_of x.serial ls) x.layers) w ws was.lists) (All-head (λ (x : WindowRecord). AreKnown x.layers) w ws was.known) (minus p w.place)
 
       second : Content w.serial (part_of ds ks w.serial (minus p w.place)) ≡ Content v.serial (part_at v.layers (minus p v.place))
       second =
           ap (λ (x : WindowRecord). Content x.serial (part_of ds ks x.serial (minus p x.place))) (sym one)
-          ∙ ap (Content v.serial) (sym (part_there ds ks v.serial v.layers (All-head (λ (x : WindowRecord). AreLayersOf (items_of x.serial ds) x.layers) v vs are.controls) (All-head (λ (x : WindowRecord). AreListLayers (items_of x.serial ks) x.layers) v vs are.lists) (minus p v.place)))
+          ∙ ap (Content v.serial) (sym (part_there ds ks v.serial v.layers (All-head (λ (x : WindowRecord). AreLayersOf (items_of x.serial ds) x.layers) v vs are.controls) (All-head (λ (x : WindowRecord). AreListLayers (items_of x.serial ks) x.layers) v vs are.lists) (All-head (λ (x : WindowRecord). AreKnown x.layers) v vs are.known) (minus p v.place)))

@@ -31,6 +31,6 @@ IsDrawnIn window kind (call ∷ calls) (answer ∷ answers) =
     ((call ≡ Update (drawing window kind)) × (answer ≡ done)) ⊎ IsDrawnIn window kind calls answers
 IsDrawnIn window kind _ _ = ⊥
 
--- they drew its picture, its lists and its controls, in whichever order, each once or more
+-- they drew its picture, its text records, its lists and its controls, in whichever order, each once or more
 abbrev pub IsAllDrawn : ℕ → List Call → List (Result Reply Refusal) → Type 0
 IsAllDrawn window calls answers = (kind : LayerKind) → IsDrawnIn window kind calls answers

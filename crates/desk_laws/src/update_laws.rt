@@ -24,9 +24,9 @@ ghost use Rattle.desk_laws.specs.Regions.{IsInRegion, IsOfContent};
 ghost use Rattle.desk_toolbox.specs.Run.{IsRunOfCalls, IsStep};
 ghost use Rattle.desk_toolbox.specs.ToolboxStates.{ToolboxState};
 
-/// A window's update is served where it was begun, its picture, its lists and its controls were drawn, in whichever order and
-/// whatever else was called meanwhile, and it was ended: its update region is empty then, and those of the other windows are as
-/// they were at the begin.
+/// A window's update is served where it was begun, its picture, its text records, its lists and its controls were drawn, in
+/// whichever order and whatever else was called meanwhile, and it was ended: its update region is empty then, and those of the
+/// other windows are as they were at the begin.
 #[tactic(auto, using(crate::proofs::ServedRuns::drawn_update_is_served, crate::proofs::ServedRuns::drawn_update_leaves_nothing, crate::proofs::ServedRuns::drawn_update_leaves_others))]
 pub fn an_update_whose_layers_were_drawn_is_served()
     ensures served { (window : ℕ) (first last : ToolboxState) (calls : List Call)

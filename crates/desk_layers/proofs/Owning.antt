@@ -16,6 +16,7 @@ pub same_part-self : (a : Part) → same_part a a ≡ true
 same_part-self part.Picture = refl
 same_part-self (part.Control a) = same_number a
 same_part-self (part.List a) = same_number a
+same_part-self (part.Text a) = same_number a
 
 pub same_part-true : (a b : Part) → same_part a b ≡ true → a ≡ b
 same_part-true part.Picture part.Picture e = refl
@@ -27,6 +28,13 @@ same_part-true (part.Control a) (part.List b) e = cc
 same_part-true (part.List a) part.Picture e = cc
 same_part-true (part.List a) (part.Control b) e = cc
 same_part-true (part.List a) (part.List b) e = ap part.List (eqb-true a b e)
+same_part-true part.Picture (part.Text b) e = cc
+same_part-true (part.Control a) (part.Text b) e = cc
+same_part-true (part.List a) (part.Text b) e = cc
+same_part-true (part.Text a) part.Picture e = cc
+same_part-true (part.Text a) (part.Control b) e = cc
+same_part-true (part.Text a) (part.List b) e = cc
+same_part-true (part.Text a) (part.Text b) e = ap part.Text (eqb-true a b e)
 
 -- owners that test as the same are the same
 pub same_owner-true : (o q : Owner) → same_owner o q ≡ true → o ≡ q

@@ -54,11 +54,12 @@ abbrev pub window_of : ℕ → List LayeredWindow → Option LayeredWindow
 window_of s [] = None
 window_of s (w ∷ ws) = if w.serial == s then Some w else window_of s ws
 
--- the parts are one: both the picture, or controls or lists of one serial
+-- the parts are one: both the picture, or controls, lists or text records of one serial
 abbrev pub same_part : Part → Part → Bool
 same_part part.Picture part.Picture = true
 same_part (part.Control a) (part.Control b) = a == b
 same_part (part.List a) (part.List b) = a == b
+same_part (part.Text a) (part.Text b) = a == b
 same_part _ _ = false
 
 -- the layer that is this part

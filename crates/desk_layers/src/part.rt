@@ -2,7 +2,7 @@
 ghost use Rattle.std.specs.Prelude.{◌≡◌};
 ghost use Rattle.desk_layers.specs.Desk.{same_part};
 
-/// A layer of a window's content: its picture, or a control or a list by its serial.
+/// A layer of a window's content: its picture, or a control, a list or a text record by its serial.
 #[derive(Clone, Copy, Debug, PartialEq, Eq)]
 pub enum Part {
     /// The window's picture.
@@ -11,10 +11,12 @@ pub enum Part {
     Control(u64),
     /// The list of this serial, a number that no other list of the desk has.
     List(u64),
+    /// The text record of this serial, a number that no other text record of the desk has.
+    Text(u64),
 }
 
 impl Part {
-    /// Whether both are the picture, or controls of one serial, or lists of one serial.
+    /// Whether both are the picture, or controls, lists or text records of one serial.
     pub fn is(self, other: Part) -> bool
         ensures { result ≡ same_part self other }
     {
@@ -22,6 +24,7 @@ impl Part {
             (Part::Picture, Part::Picture) => true,
             (Part::Control(serial), Part::Control(of_other)) => serial == of_other,
             (Part::List(serial), Part::List(of_other)) => serial == of_other,
+            (Part::Text(serial), Part::Text(of_other)) => serial == of_other,
             _ => false,
         }
     }

@@ -8,6 +8,7 @@ use Rattle.desk_layers.specs.declared.part.Part.{Part}
 use Rattle.desk_layers.specs.Change as plain
 use Rattle.def_iface.specs.ControlMeaning.{ControlLoan}
 use Rattle.def_iface.specs.ListMeaning.{ListLoan}
+use Rattle.window_paint.specs.White.{all_white}
 use Rattle.control_mgr.specs.Seen.{all_seen}
 use Rattle.control_mgr.specs.ControlDesks.{controls_show}
 use Rattle.control_mgr.specs.WholeControls.{records_of}
@@ -49,7 +50,7 @@ module _ {V : Type 0} {H : V → Type 0} (loan : TakenBox V H → WindowLoan) {W
   has_just_begun t stocks full empty idle events none bare next no_lists next_list =
       let windows = ap (λ (d : FullDesk). d.windows) empty.desk in
       record {
-        right = right_bare (controls_show (lists_show (lists.records_of list_loan t.lists)) (records_of control_loan t.controls)) (state_of loan t.windows stocks.windows) windows empty.right;
+        right = right_bare (controls_show (lists_show (λ font. all_white) (lists.records_of list_loan t.lists)) (records_of control_loan t.controls)) (state_of loan t.windows stocks.windows) windows empty.right;
         windows = windows;
         stock = full.windows;
         active = ap (λ (d : FullDesk). d.active) empty.desk;

@@ -26,6 +26,7 @@ use Rattle.window_frame.specs.Followers.Flag.{Highlighting, Zooming}
 use Rattle.window_frame.specs.FrameSteps.{IsFrameStep, with_flag, with_title, with_tracked}
 use Rattle.window_frame.proofs.FrameKeeps.{frame_keeps}
 use Rattle.window_frame.proofs.ToldSteps.{HoldsOfFrames, of_caught_up, of_frame}
+use Rattle.window_paint.specs.White.{all_white}
 use Rattle.control_mgr.specs.ControlDesks.{ControlRecord, ControlsState, controls_show}
 use Rattle.control_mgr.specs.ControlSteps.{AreLayersOf}
 use Rattle.control_mgr.specs.WholeControls.{AreWholeControls}
@@ -39,6 +40,8 @@ use Rattle.desk_toolbox.specs.ToolboxStates.{ToolboxState, with_menus}
 use Rattle.desk_toolbox.proofs.Bonds.{Bond, Every, every_all, all_every, every_changed}
 use Rattle.desk_toolbox.proofs.StepCounts.{frame_counts}
 use Rattle.desk_toolbox.proofs.Totals.{copies, counted_is_found, either_class, found_counts}
+use Rattle.desk_toolbox.specs.KnownLayers.{AreLayersKnown}
+use Rattle.desk_toolbox.proofs.KnownLayers.{known_to}
 
 -- a right state whose controls and lists are whole and shown
 pub record IsRightToolbox (s : ToolboxState) : Type 0 where
@@ -51,7 +54,8 @@ pub still : (before after : ToolboxState) → after.desk.windows.desk ≡ before
 still before after desk controls lists was = record {
   controls = subst (λ (x : FullDesk × ControlsState). AreWholeControls x.0.windows x.1) (λ i. (sym desk i, sym controls i)) was.controls;
   lists = subst (λ (x : FullDesk × ListsState). AreWholeLists x.0.windows x.1) (λ i. (sym desk i, sym lists i)) was.lists;
-  shown = subst (λ (x : FullDesk × ControlsState × ListsState). x.0.shows ≡ controls_show (lists_show x.2.lists) x.1.controls x.0.font) (λ i. (sym desk i, sym controls i, sym lists i)) was.shown;
+  known = subst (λ (d : FullDesk). AreLayersKnown d.windows) (sym desk) was.known;
+  shown = subst (λ (x : FullDesk × ControlsState × ListsState). x.0.shows ≡ controls_show (lists_show (λ font. all_white) x.2.lists) x.1.controls x.0.font) (λ i. (sym desk i, sym controls i, sym lists i)) was.shown;
 }
 
 -- ---- the same controls, beside other windows
@@ -159,8 +163,8 @@ module _ (B : Bond) where
 
 -- the same controls and lists, shown in the same font
 shown_on : (before after : ToolboxState) → after.desk.windows.desk.shows ≡ before.desk.windows.desk.shows → after.desk.windows.desk.font ≡ before.desk.windows.desk.font → after.controls ≡ before.controls → after.lists ≡ before.lists → AreContentsRight before
-    → after.desk.windows.desk.shows ≡ controls_show (lists_show after.lists.lists) after.controls.controls after.desk.windows.desk.font
-shown_on before after shows font controls lists was = shows ∙ was.shown ∙ (λ i. controls_show (lists_show (sym lists i).lists) (sym controls i).controls (sym font i))
+    → after.desk.windows.desk.shows ≡ controls_show (lists_show (λ font. all_white) after.lists.lists) after.controls.controls after.desk.windows.desk.font
+shown_on before after shows font controls lists was = shows ∙ was.shown ∙ (λ i. controls_show (lists_show (λ font. all_white) (sym lists i).lists) (sym controls i).controls (sym font i))
 
 pub frames_leave : (call : FrameCall) (answer : Result FrameReply Refusal) (before after : DeskState) (s : ControlsState) → IsFrameStep call answer before after → AreWholeControls before.windows.desk.windows s → AreWholeControls after.windows.desk.windows s
 frames_leave call answer before after s step whole =
@@ -186,10 +190,22 @@ updates_leave_lists call answer before after s step whole = subst (λ (d : FullD
 pub menus_leave_lists : (call : MenuCall) (answer : Result MenuReply Refusal) (before after : MenuDesk) (s : ListsState) → IsMenuStep call answer before after → AreWholeLists before.desk.windows.desk.windows s → AreWholeLists after.desk.windows.desk.windows s
 menus_leave_lists call answer before after s step whole = subst (λ ws. AreWholeLists ws s) (sym (menu_keeps (λ d. d.windows) (λ d titles. refl) call answer before after step)) whole
 
+-- windows whose layers are controls' and lists' alone have no others
+pub frames_leave_known : (call : FrameCall) (answer : Result FrameReply Refusal) (before after : DeskState) → IsFrameStep call answer before after → AreLayersKnown before.windows.desk.windows → AreLayersKnown after.windows.desk.windows
+frames_leave_known call answer before after step none =
+    every_all known_to after.windows.desk.windows (frame_holds known_to call answer before after step (all_every known_to before.windows.desk.windows none))
+
+pub updates_leave_known : (call : UpdateCall) (answer : Result WindowReply Refusal) (before after : DeskState) → IsUpdateStep call answer before after → AreLayersKnown before.windows.desk.windows → AreLayersKnown after.windows.desk.windows
+updates_leave_known call answer before after step none = subst (λ (d : FullDesk). AreLayersKnown d.windows) (sym (update_keeps_desk call answer before after step)) none
+
+pub menus_leave_known : (call : MenuCall) (answer : Result MenuReply Refusal) (before after : MenuDesk) → IsMenuStep call answer before after → AreLayersKnown before.desk.windows.desk.windows → AreLayersKnown after.desk.windows.desk.windows
+menus_leave_known call answer before after step none = subst AreLayersKnown (sym (menu_keeps (λ d. d.windows) (λ d titles. refl) call answer before after step)) none
+
 pub beside_frames : (call : FrameCall) (answer : Result FrameReply Refusal) (before after : ToolboxState) → IsFrameStep call answer before.desk after.desk → after.controls ≡ before.controls → after.lists ≡ before.lists → AreContentsRight before → AreContentsRight after
 beside_frames call answer before after step controls lists was = record {
   controls = subst (AreWholeControls after.desk.windows.desk.windows) (sym controls) (frames_leave call answer before.desk after.desk before.controls step was.controls);
   lists = subst (AreWholeLists after.desk.windows.desk.windows) (sym lists) (frames_leave_lists call answer before.desk after.desk before.lists step was.lists);
+  known = frames_leave_known call answer before.desk after.desk step was.known;
   shown = shown_on before after (frame_keeps (λ d. d.shows) (λ d ws. refl) call answer before.desk after.desk step)
       (frame_keeps (λ d. d.font) (λ d ws. refl) call answer before.desk after.desk step) controls lists was;
 }
@@ -198,6 +214,7 @@ pub beside_menus : (call : MenuCall) (answer : Result MenuReply Refusal) (before
 beside_menus call answer before after step controls lists was = record {
   controls = subst (AreWholeControls after.desk.windows.desk.windows) (sym controls) (menus_leave call answer (with_menus before) (with_menus after) before.controls step was.controls);
   lists = subst (AreWholeLists after.desk.windows.desk.windows) (sym lists) (menus_leave_lists call answer (with_menus before) (with_menus after) before.lists step was.lists);
+  known = menus_leave_known call answer (with_menus before) (with_menus after) step was.known;
   shown = shown_on before after (menu_keeps (λ d. d.shows) (λ d titles. refl) call answer (with_menus before) (with_menus after) step)
       (menu_keeps (λ d. d.font) (λ d titles. refl) call answer (with_menus before) (with_menus after) step) controls lists was;
 }

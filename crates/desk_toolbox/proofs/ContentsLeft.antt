@@ -24,6 +24,7 @@ use Rattle.window_mgr.specs.FullDesk.{FullDesk, FullState, IsGiven, IsRightState
 use Rattle.window_mgr.specs.Placings.{Placing, sized, zoomed}
 use Rattle.window_mgr.specs.Refused.{is_missing}
 use Rattle.window_frame.specs.Followers.{IsCaughtUpBy}
+use Rattle.window_paint.specs.White.{all_white}
 use Rattle.control_mgr.specs.ControlClosing.{IsWindowLeft}
 use Rattle.control_mgr.specs.ControlDesks.{ControlRecord, ControlsState, controls_show}
 use Rattle.control_mgr.specs.ControlSteps.{AreLayersOf, IsControlStep}
@@ -43,11 +44,13 @@ use Rattle.desk_toolbox.specs.Activations.{to_dispose}
 use Rattle.desk_toolbox.specs.Reached.{AreContentsRight}
 use Rattle.desk_toolbox.specs.Run.{AreControlsLeft, AreListsLeft, IsWindowAnswer, IsWindowAnswered, shown_with}
 use Rattle.desk_toolbox.specs.ToolboxStates.{ToolboxState, with_controls, with_lists}
-use Rattle.desk_toolbox.proofs.Bonds.{Bond, Every, HoldsOn, every_all, done_holds}
+use Rattle.desk_toolbox.proofs.Bonds.{Bond, Every, HoldsOn, every_all, done_holds, all_every}
 use Rattle.desk_toolbox.proofs.ContentsBeside.{IsRightToolbox, caught_up_holds, joined_every, joined_to, listed_every, listed_to, no_lists_of_missing, none_of_missing}
 use Rattle.desk_toolbox.proofs.KeptDesks.{told_keeps}
 use Rattle.desk_toolbox.proofs.StepCounts.{AreNumbered, HasLess, Recount, told_recounts, disposed_is_gone, right_is_numbered}
 use Rattle.desk_toolbox.proofs.Totals.{copies, counted_is_found, either_class, found_counts, serial_of_counted}
+use Rattle.desk_toolbox.specs.KnownLayers.{AreLayersKnown, is_known}
+use Rattle.desk_toolbox.proofs.KnownLayers.{control_leaves_known, list_leaves_known, known_to}
 
 -- ---- the windows after a call on them
 
@@ -122,11 +125,14 @@ module _ (call : WindowCall) (answer : WindowReply) (before : ToolboxState) (mid
       (λ n f next. subst (λ own. AreListLayers own []) (sym (no_lists_of_missing n ls ws was.lists.somewhere (next_is_new before.desk.windows.desk n numbered next))) tt)
       (listed_every before.lists ws was.lists)
 
-  shows : told.desk.shows ≡ controls_show (lists_show ls) cs told.desk.font
+  known_told : Every known_to told.desk.windows
+  known_told = holds known_to (λ n f next. All-nil (λ (k : Layer). is_known k ≡ true)) (all_every known_to ws was.known)
+
+  shows : told.desk.shows ≡ controls_show (lists_show (λ font. all_white) ls) cs told.desk.font
   shows =
       told_keeps (λ d. d.shows) (λ d vs active next stock. refl) call (Ok answer) before.desk middle told answered caught
       ∙ was.shown
-      ∙ ap (controls_show (lists_show ls) cs) (sym (told_keeps (λ d. d.font) (λ d vs active next stock. refl) call (Ok answer) before.desk middle told answered caught))
+      ∙ ap (controls_show (lists_show (λ font. all_white) ls) cs) (sym (told_keeps (λ d. d.font) (λ d vs active next stock. refl) call (Ok answer) before.desk middle told answered caught))
 
   -- no window is gone
   module _ (none : to_dispose call ≡ None) (after : ToolboxState) (shown : after.desk.windows ≡ shown_with after.controls.controls after.lists.lists told)
@@ -163,7 +169,8 @@ module _ (call : WindowCall) (answer : WindowReply) (before : ToolboxState) (mid
     kept_contents = record {
       controls = subst (λ (x : FullState × ControlsState). AreWholeControls x.0.desk.windows x.1) (λ i. (sym same i, sym left i)) whole;
       lists = subst (λ (x : FullState × ListsState). AreWholeLists x.0.desk.windows x.1) (λ i. (sym same i, sym ended i)) whole_lists;
-      shown = subst (λ (x : FullState × ControlsState × ListsState). x.0.desk.shows ≡ controls_show (lists_show x.2.lists) x.1.controls x.0.desk.font) (λ i. (sym same i, sym left i, sym ended i)) shows;
+      known = subst (λ (s : FullState). AreLayersKnown s.desk.windows) (sym same) (every_all known_to told.desk.windows known_told);
+      shown = subst (λ (x : FullState × ControlsState × ListsState). x.0.desk.shows ≡ controls_show (lists_show (λ font. all_white) x.2.lists) x.1.controls x.0.desk.font) (λ i. (sym same i, sym left i, sym ended i)) shows;
     }
 
     kept_right : IsRightState told → IsRightToolbox after
@@ -213,15 +220,16 @@ module _ (call : WindowCall) (answer : WindowReply) (before : ToolboxState) (mid
     gone_contents = record {
       controls = subst (λ (s : FullState). AreWholeControls s.desk.windows after.controls) (sym shown) left_controls;
       lists = subst (λ (s : FullState). AreWholeLists s.desk.windows after.lists) (sym shown) left_lists;
-      shown = ap (λ (s : FullState). s.desk.shows) shown ∙ ap (controls_show (lists_show after.lists.lists) after.controls.controls) (sym (ap (λ (s : FullState). s.desk.font) shown));
+      known = subst (λ (s : FullState). AreLayersKnown s.desk.windows) (sym shown) (every_all known_to told.desk.windows known_told);
+      shown = ap (λ (s : FullState). s.desk.shows) shown ∙ ap (controls_show (lists_show (λ font. all_white) after.lists.lists) after.controls.controls) (sym (ap (λ (s : FullState). s.desk.font) shown));
     }
 
     gone_right : IsRightState told → IsRightToolbox after
     gone_right right =
-        let first = followed_right (lists_show ls) d told before.controls after.controls right shows was.controls.settled was.controls.apart was.controls.given was.controls.few joined_all others missing left in
+        let first = followed_right (lists_show (λ font. all_white) ls) d told before.controls after.controls right shows was.controls.settled was.controls.apart was.controls.given was.controls.few joined_all others missing left in
         record {
           right = subst IsRightState (sym shown)
-              (lists.right_left d before.lists after.lists ended (shown_with after.controls.controls ls told) after.controls.controls first.0 refl left_controls.joined was.lists.apart listed_all missing);
+              (lists.right_left d before.lists after.lists ended (λ font. all_white) (shown_with after.controls.controls ls told) after.controls.controls first.0 refl left_controls.joined was.lists.apart listed_all missing);
           contents = gone_contents;
         }
 
@@ -248,11 +256,15 @@ made_stays_right call answer before middle told after was answered caught shown 
 pub right_lists : (s : ToolboxState) → IsRightToolbox s → IsRightLists (with_lists s)
 right_lists s was = record { desk = record { right = was.right; shows = was.contents.shown; whole = was.contents.controls }; lists = was.contents.lists }
 
-right_toolbox : (s : ToolboxState) → IsRightLists (with_lists s) → IsRightToolbox s
-right_toolbox s its = record { right = its.desk.right; contents = record { controls = its.desk.whole; lists = its.lists; shown = its.desk.shows } }
+right_toolbox : (s : ToolboxState) → IsRightLists (with_lists s) → AreLayersKnown s.desk.windows.desk.windows → IsRightToolbox s
+right_toolbox s its none = record { right = its.desk.right; contents = record { controls = its.desk.whole; lists = its.lists; known = none; shown = its.desk.shows } }
 
 pub list_stays_right : (call : ListCall) (answer : Result ListReply Refusal) (before after : ToolboxState) → IsRightToolbox before → IsListStep call answer (with_lists before) (with_lists after) → IsRightToolbox after
-list_stays_right call answer before after was step = right_toolbox after (list_keeps (with_lists before) (with_lists after) (right_lists before was) call answer step)
+list_stays_right call answer before after was step =
+    right_toolbox after (list_keeps (with_lists before) (with_lists after) (right_lists before was) call answer step)
+    (list_leaves_known call answer (with_lists before) (with_lists after) (right_lists before was) step was.contents.known)
 
 pub control_stays_right : (call : ControlCall) (answer : Result ControlReply Refusal) (before after : ToolboxState) → IsRightToolbox before → IsControlStep call answer (with_controls before) (with_controls after) → after.lists ≡ before.lists → IsRightToolbox after
-control_stays_right call answer before after was step same = right_toolbox after (step_keeps (with_lists before) (with_lists after) (right_lists before was) call answer step same)
+control_stays_right call answer before after was step same =
+    right_toolbox after (step_keeps (with_lists before) (with_lists after) (right_lists before was) call answer step same)
+    (control_leaves_known call answer (with_controls before) (with_controls after) was.right.plain.desk was.contents.controls.apart step was.contents.known)

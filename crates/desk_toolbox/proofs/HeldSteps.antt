@@ -7,7 +7,7 @@ use Rattle.tb_geom.specs.declared.refusal.Refusal.{Refusal}
 use Rattle.menu_list.specs.Lists.{is_in_bar, menu_index, without_highlight}
 use Rattle.menu_list.specs.MenuEdits.{menus_after}
 use Rattle.desk_call.specs.declared.activity.Activity.{Activity}
-use Rattle.desk_call.specs.declared.activity.Activity.TheVariants.{Idle, Updating, Tracking, Pulling, TrackingControl, Dragging, Growing}
+use Rattle.desk_call.specs.declared.activity.Activity.TheVariants.{Idle, Updating, Tracking, Pulling, TrackingControl, Dragging, Growing, Selecting}
 use Rattle.desk_call.specs.declared.activity.PulledMenu.{PulledMenu}
 use Rattle.desk_call.specs.declared.call.Call.{Call}
 use Rattle.desk_call.specs.declared.call.Reply.{Reply}
@@ -77,6 +77,7 @@ moved_held (Tracking s) p answer before after there wrong h = absurd wrong
 moved_held (TrackingControl c) p answer before after there wrong h = absurd wrong
 moved_held (Dragging d) p answer before after there wrong h = absurd wrong
 moved_held (Growing g) p answer before after there wrong h = absurd wrong
+moved_held (Selecting k) p answer before after there wrong h = absurd wrong
 
 -- the title stays highlighted, or none is
 put_away_title : (o was : Option ℕ) (choice : Option Choice) (ls : List MenuRecord) → o ≡ (if is_none choice then None else was) → IfSome was (λ h. Shows h ls) → IfSome o (λ h. Shows h ls)
@@ -97,6 +98,7 @@ released_held (Tracking s) p choice before after wrong h = absurd wrong
 released_held (TrackingControl c) p choice before after wrong h = absurd wrong
 released_held (Dragging d) p choice before after wrong h = absurd wrong
 released_held (Growing g) p choice before after wrong h = absurd wrong
+released_held (Selecting k) p choice before after wrong h = absurd wrong
 
 -- a menu that is gone loses its highlighting
 gone_title : (at : ℕ) (ls : List MenuRecord) (l : MenuRecord) (was : Option ℕ) → slice_get ls at ≡ Some l → IfSome was (λ h. Shows h ls) → IfSome (without_highlight l.menu.id was) (λ h. Shows h (remove ls at))

@@ -2,6 +2,7 @@
 pub mod UpdatedDesks
 pub mod KeptDesks
 pub mod Bonds
+pub mod KnownLayers
 pub mod ContentsBeside
 pub mod ContentsLeft
 pub mod Sides

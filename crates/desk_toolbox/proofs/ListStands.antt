@@ -33,6 +33,7 @@ use Rattle.desk_toolbox.proofs.Told.{ArePosted}
 use Rattle.desk_toolbox.proofs.Totals.{Classing, Has, Ordinary, Present, counted, counting, either_class, has_when, of_class, total}
 use Rattle.desk_toolbox.proofs.Tracked.{misled}
 use Rattle.desk_toolbox.proofs.TrackedControls.{bare_informed, bare_total, informed_bare, none_used_at, none_whole}
+use Rattle.desk_toolbox.specs.KnownLayers.{AreKnown, AreLayersKnown}
 
 -- a call that comes then asks, or nothing is open
 pub list_comes_then : (call : ListCall) (answer : ListReply) (before after : ListDesk) → gate before.desk.activity (list_standing call) ≡ None → IsListEffect call answer before after
@@ -108,10 +109,15 @@ no_lists_whole windows s bare none next full = record {
   stocked = subst (λ own. AreStocked (λ (d : ListDefinition). d.stage) (slots_of own) s.stock) (sym none) (λ k. none_used_at (λ (d : ListDefinition). d.stage) s.stock k full);
 }
 
+-- nor have they other layers
+pub none_known : (windows : List WindowRecord) → windows ≡ [] → AreLayersKnown windows
+none_known windows bare = subst AreLayersKnown (sym bare) (All-nil (λ (w : WindowRecord). AreKnown w.layers))
+
 -- no controls and no lists
 pub begun_contents : (s : ToolboxState) → IsJustBegun s → AreContentsRight s
 begun_contents s begun = record {
   controls = none_whole s.desk.windows.desk.windows s.controls begun.windows begun.controls begun.next_control begun.held;
   lists = no_lists_whole s.desk.windows.desk.windows s.lists begun.windows begun.lists begun.next_list begun.listed;
+  known = none_known s.desk.windows.desk.windows begun.windows;
   shown = begun.shown;
 }

@@ -7,7 +7,7 @@ use Rattle.tb_geom.specs.declared.refusal.Refusal.{Refusal}
 use Rattle.def_iface.specs.MenuMeaning.{MenuDefinition, MenuLoan}
 use Rattle.def_iface.specs.Slots.{IsTaken, holding}
 use Rattle.desk_call.specs.declared.activity.Activity.{Activity}
-use Rattle.desk_call.specs.declared.activity.Activity.TheVariants.{Idle, Updating, Tracking, Pulling, TrackingControl, Dragging, Growing}
+use Rattle.desk_call.specs.declared.activity.Activity.TheVariants.{Idle, Updating, Tracking, Pulling, TrackingControl, Dragging, Growing, Selecting}
 use Rattle.desk_call.specs.declared.activity.PulledMenu.{PulledMenu}
 use Rattle.desk_call.specs.declared.call.Call.{Call}
 use Rattle.desk_call.specs.declared.call.Reply.{Reply}
@@ -68,6 +68,7 @@ moved_keeps (Tracking s) p answer before after wrong = absurd wrong
 moved_keeps (TrackingControl c) p answer before after wrong = absurd wrong
 moved_keeps (Dragging d) p answer before after wrong = absurd wrong
 moved_keeps (Growing g) p answer before after wrong = absurd wrong
+moved_keeps (Selecting k) p answer before after wrong = absurd wrong
 
 released_keeps : (a : Activity) (p : Point) (choice : Option Choice) (before after : MenuDesk) → IsMenuReleased a p choice before after → KeepsKinds before after
 released_keeps (Pulling m) p choice before after (is, away) = shown_keeps _ _ before after away.shown
@@ -77,6 +78,7 @@ released_keeps (Tracking s) p choice before after wrong = absurd wrong
 released_keeps (TrackingControl c) p choice before after wrong = absurd wrong
 released_keeps (Dragging d) p choice before after wrong = absurd wrong
 released_keeps (Growing g) p choice before after wrong = absurd wrong
+released_keeps (Selecting k) p choice before after wrong = absurd wrong
 
 disposed_keeps : (at : Option ℕ) (before after : MenuDesk) → IsDisposedAt at before after → KeepsKinds before after
 disposed_keeps None before after wrong = absurd wrong

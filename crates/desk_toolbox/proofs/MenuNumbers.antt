@@ -14,7 +14,7 @@ use Rattle.menu_record.specs.declared.menu.Menu.{Menu}
 use Rattle.menu_list.specs.Editing.{with_item_checked, with_item_text, with_items_of}
 use Rattle.menu_list.specs.Lists.{edit_at, has_number, menu_index, menu_with, moved_before, put_before, with_inserted, with_menu}
 use Rattle.desk_call.specs.declared.activity.Activity.{Activity}
-use Rattle.desk_call.specs.declared.activity.Activity.TheVariants.{Idle, Updating, Tracking, Pulling, TrackingControl, Dragging, Growing}
+use Rattle.desk_call.specs.declared.activity.Activity.TheVariants.{Idle, Updating, Tracking, Pulling, TrackingControl, Dragging, Growing, Selecting}
 use Rattle.desk_call.specs.declared.activity.PulledMenu.{PulledMenu}
 use Rattle.desk_call.specs.declared.menu.Choice.{Choice}
 use Rattle.desk_call.specs.declared.menu.MenuCall.{MenuCall}
@@ -171,6 +171,7 @@ moved_keeps (Tracking s) p answer before after wrong = absurd wrong
 moved_keeps (TrackingControl c) p answer before after wrong = absurd wrong
 moved_keeps (Dragging d) p answer before after wrong = absurd wrong
 moved_keeps (Growing g) p answer before after wrong = absurd wrong
+moved_keeps (Selecting k) p answer before after wrong = absurd wrong
 
 released_keeps : (a : Activity) (p : Point) (choice : Option Choice) (before after : MenuDesk) → IsMenuReleased a p choice before after → KeepsApart before after
 released_keeps (Pulling m) p choice before after (is, away) was =
@@ -181,6 +182,7 @@ released_keeps (Tracking s) p choice before after wrong was = absurd wrong
 released_keeps (TrackingControl c) p choice before after wrong was = absurd wrong
 released_keeps (Dragging d) p choice before after wrong was = absurd wrong
 released_keeps (Growing g) p choice before after wrong was = absurd wrong
+released_keeps (Selecting k) p choice before after wrong was = absurd wrong
 
 disposed_keeps : (at : Option ℕ) (before after : MenuDesk) → IsDisposedAt at before after → KeepsApart before after
 disposed_keeps None before after wrong was = absurd wrong

@@ -3,7 +3,7 @@ use Rattle.std.proofs.Common.{◌≡◌, ◌⊎◌, ⊎_elim, inl, inr, ℕ, Lis
 use Rattle.tb_geom.specs.declared.point.Point.{Point}
 use Rattle.tb_geom.specs.declared.refusal.Refusal.{Refusal}
 use Rattle.desk_call.specs.declared.activity.Activity.{Activity}
-use Rattle.desk_call.specs.declared.activity.Activity.TheVariants.{Idle, Updating, Tracking, Pulling, TrackingControl, Dragging, Growing}
+use Rattle.desk_call.specs.declared.activity.Activity.TheVariants.{Idle, Updating, Tracking, Pulling, TrackingControl, Dragging, Growing, Selecting}
 use Rattle.desk_call.specs.declared.activity.PulledMenu.{PulledMenu}
 use Rattle.desk_call.specs.declared.activity.Standing.TheVariants.{Pulls}
 use Rattle.desk_call.specs.declared.menu.Choice.{Choice}
@@ -46,6 +46,7 @@ pulling_now (Tracking s) e = absurd (cc)
 pulling_now (TrackingControl c) e = absurd (cc)
 pulling_now (Dragging d) e = absurd (cc)
 pulling_now (Growing g) e = absurd (cc)
+pulling_now (Selecting k) e = absurd (cc)
 pulling_now (Pulling m) e = inr (m, refl)
 
 -- a call about menus comes only then
@@ -71,6 +72,7 @@ moved_opens (Tracking s) p answer before after wrong = absurd wrong
 moved_opens (TrackingControl c) p answer before after wrong = absurd wrong
 moved_opens (Dragging d) p answer before after wrong = absurd wrong
 moved_opens (Growing g) p answer before after wrong = absurd wrong
+moved_opens (Selecting k) p answer before after wrong = absurd wrong
 
 released_opens : (a : Activity) (p : Point) (choice : Option Choice) (before after : MenuDesk) → IsMenuReleased a p choice before after → OpensNoWindow after.desk.activity
 released_opens (Pulling m) p choice before after (is, away) = inl away.activity
@@ -80,6 +82,7 @@ released_opens (Tracking s) p choice before after wrong = absurd wrong
 released_opens (TrackingControl c) p choice before after wrong = absurd wrong
 released_opens (Dragging d) p choice before after wrong = absurd wrong
 released_opens (Growing g) p choice before after wrong = absurd wrong
+released_opens (Selecting k) p choice before after wrong = absurd wrong
 
 disposed_opens : (at : Option ℕ) (before after : MenuDesk) → IsDisposedAt at before after → OpensNoWindow before.desk.activity → OpensNoWindow after.desk.activity
 disposed_opens None before after wrong was = absurd wrong

@@ -20,7 +20,7 @@ use Rattle.overlay.specs.Outlines.{IsOutlined, outline_holds, outlined}
 use Rattle.bit_map.specs.Modes.{xor_bit}
 use Rattle.bit_map.specs.Patterns.{pattern_bit, gray}
 use Rattle.desk_call.specs.declared.activity.Activity.{Activity}
-use Rattle.desk_call.specs.declared.activity.Activity.TheVariants.{Idle, Updating, Tracking, Pulling, TrackingControl, Dragging, Growing}
+use Rattle.desk_call.specs.declared.activity.Activity.TheVariants.{Idle, Updating, Tracking, Pulling, TrackingControl, Dragging, Growing, Selecting}
 use Rattle.desk_call.specs.declared.activity.Standing.TheVariants.{Changes}
 use Rattle.desk_call.specs.declared.frame.FrameCall.{FrameCall}
 use Rattle.desk_call.specs.declared.frame.FrameCall.TheVariants.{SetTitle, Hilite, TrackGoAway, StepGoAway, EndGoAway}
@@ -70,6 +70,7 @@ covers_or_not Idle = inl tt
 covers_or_not (Updating s) = inl tt
 covers_or_not (Tracking s) = inl tt
 covers_or_not (TrackingControl c) = inl tt
+covers_or_not (Selecting k) = inl tt
 covers_or_not (Dragging d) = inr refl
 covers_or_not (Growing g) = inr refl
 covers_or_not (Pulling m) = inr refl
@@ -80,6 +81,7 @@ update_comes_then call Idle may = tt
 update_comes_then call (Updating s) may = tt
 update_comes_then call (Tracking s) may = tt
 update_comes_then call (TrackingControl c) may = tt
+update_comes_then call (Selecting k) may = tt
 update_comes_then (update.Invalidate m) (Pulling p) may = absurd (cc)
 update_comes_then (update.Validate m) (Pulling p) may = absurd (cc)
 update_comes_then (update.Begin s) (Pulling p) may = absurd (cc)
@@ -104,6 +106,7 @@ frame_comes_then call Idle may = tt
 frame_comes_then call (Updating s) may = tt
 frame_comes_then call (Tracking s) may = tt
 frame_comes_then call (TrackingControl c) may = tt
+frame_comes_then call (Selecting k) may = tt
 frame_comes_then (SetTitle n) (Pulling p) may = absurd (cc)
 frame_comes_then (Hilite h) (Pulling p) may = absurd (cc)
 frame_comes_then (TrackGoAway g) (Pulling p) may = absurd (cc)
@@ -211,6 +214,7 @@ module _ {V : Type 0} {H : V → Type 0} (loan : TakenBox V H → WindowLoan) {W
     placed_none (Updating s) none = tt
     placed_none (Tracking s) none = tt
     placed_none (TrackingControl c) none = tt
+    placed_none (Selecting k) none = tt
     placed_none (Dragging d) none = absurd none
     placed_none (Growing g) none = absurd none
 
@@ -220,6 +224,7 @@ module _ {V : Type 0} {H : V → Type 0} (loan : TakenBox V H → WindowLoan) {W
     front_none (Updating s) none = (tt, tt, tt)
     front_none (Tracking s) none = (tt, tt, tt)
     front_none (TrackingControl c) none = (tt, tt, tt)
+    front_none (Selecting k) none = (tt, tt, tt)
     front_none (Dragging d) none = absurd none
     front_none (Growing g) none = absurd none
 
@@ -278,6 +283,7 @@ module _ {V : Type 0} {H : V → Type 0} (loan : TakenBox V H → WindowLoan) {W
       outline_stays (Updating s) shown = tt
       outline_stays (Tracking s) shown = tt
       outline_stays (TrackingControl c) shown = tt
+      outline_stays (Selecting k) shown = tt
       outline_stays (Dragging d) shown = lines_stay d.outline shown
       outline_stays (Growing g) shown = lines_stay g.outline shown
 
@@ -294,6 +300,7 @@ module _ {V : Type 0} {H : V → Type 0} (loan : TakenBox V H → WindowLoan) {W
       menu_stays (Updating s) shown = tt
       menu_stays (Tracking s) shown = tt
       menu_stays (TrackingControl c) shown = tt
+      menu_stays (Selecting k) shown = tt
       menu_stays (Dragging d) shown = tt
       menu_stays (Growing g) shown = tt
 

@@ -6,7 +6,7 @@ use Rattle.desk_call.specs.Outlines.{are_limits}
 use Rattle.tb_geom.specs.declared.refusal.Refusal.{Refusal}
 use Rattle.tb_geom.specs.declared.refusal.Refusal.TheVariants.{NoSuchWindow, OutOfRange}
 use Rattle.desk_call.specs.declared.activity.Activity.{Activity}
-use Rattle.desk_call.specs.declared.activity.Activity.TheVariants.{Idle, Updating, Tracking, Pulling, TrackingControl, Dragging, Growing}
+use Rattle.desk_call.specs.declared.activity.Activity.TheVariants.{Idle, Updating, Tracking, Pulling, TrackingControl, Dragging, Growing, Selecting}
 use Rattle.desk_call.specs.declared.activity.Standing.TheVariants.{Drags, Grows}
 use Rattle.desk_call.specs.declared.outline.OutlineCall.{OutlineCall}
 use Rattle.desk_call.specs.declared.outline.OutlineCall.TheVariants.{Drag, StepDrag, EndDrag, Grow, StepGrow, EndGrow}
@@ -47,6 +47,7 @@ drags_now Idle may = tt
 drags_now (Updating s) may = absurd (cc)
 drags_now (Tracking s) may = absurd (cc)
 drags_now (TrackingControl c) may = absurd (cc)
+drags_now (Selecting k) may = absurd (cc)
 drags_now (Pulling m) may = absurd (cc)
 drags_now (Dragging d) may = tt
 drags_now (Growing g) may = tt
@@ -56,6 +57,7 @@ grows_now Idle may = tt
 grows_now (Updating s) may = absurd (cc)
 grows_now (Tracking s) may = absurd (cc)
 grows_now (TrackingControl c) may = absurd (cc)
+grows_now (Selecting k) may = absurd (cc)
 grows_now (Pulling m) may = absurd (cc)
 grows_now (Dragging d) may = tt
 grows_now (Growing g) may = tt
@@ -80,6 +82,7 @@ outlining_after (StepDrag p) (Growing g) desk was = tt
 outlining_after (StepDrag p) (Updating s) desk was = absurd was
 outlining_after (StepDrag p) (Tracking s) desk was = absurd was
 outlining_after (StepDrag p) (TrackingControl c) desk was = absurd was
+outlining_after (StepDrag p) (Selecting k) desk was = absurd was
 outlining_after (StepDrag p) (Pulling m) desk was = absurd was
 outlining_after (EndDrag p) a desk was = tt
 outlining_after (Grow g) a desk was = dragged_or_not (begins (Grow g) desk) a (Growing _) was tt
@@ -89,6 +92,7 @@ outlining_after (StepGrow p) (Growing g) desk was = tt
 outlining_after (StepGrow p) (Updating s) desk was = absurd was
 outlining_after (StepGrow p) (Tracking s) desk was = absurd was
 outlining_after (StepGrow p) (TrackingControl c) desk was = absurd was
+outlining_after (StepGrow p) (Selecting k) desk was = absurd was
 outlining_after (StepGrow p) (Pulling m) desk was = absurd was
 outlining_after (EndGrow p) a desk was = tt
 
@@ -103,6 +107,7 @@ outlining_tracks_none (Growing g) cs is = tt
 outlining_tracks_none (Updating s) cs is = absurd is
 outlining_tracks_none (Tracking s) cs is = absurd is
 outlining_tracks_none (TrackingControl c) cs is = absurd is
+outlining_tracks_none (Selecting k) cs is = absurd is
 outlining_tracks_none (Pulling m) cs is = absurd is
 
 outlining_misleads_none : (a : Activity) (ws : List WindowRecord) → IsOutlining a → total (misled a) ws ≡ total (misled Idle) ws
@@ -112,6 +117,7 @@ outlining_misleads_none (Growing g) ws is = refl
 outlining_misleads_none (Updating s) ws is = absurd is
 outlining_misleads_none (Tracking s) ws is = absurd is
 outlining_misleads_none (TrackingControl c) ws is = absurd is
+outlining_misleads_none (Selecting k) ws is = absurd is
 outlining_misleads_none (Pulling m) ws is = absurd is
 
 outlining_pulls_none : (a : Activity) → IsOutlining a → PullsNone a
@@ -121,6 +127,7 @@ outlining_pulls_none (Growing g) is = tt
 outlining_pulls_none (Updating s) is = absurd is
 outlining_pulls_none (Tracking s) is = absurd is
 outlining_pulls_none (TrackingControl c) is = absurd is
+outlining_pulls_none (Selecting k) is = absurd is
 outlining_pulls_none (Pulling m) is = absurd is
 
 -- ---- the window of what is open
@@ -142,6 +149,7 @@ outline_opens (StepDrag p) (Growing g) desk may was = was
 outline_opens (StepDrag p) (Updating s) desk may was = was
 outline_opens (StepDrag p) (Tracking s) desk may was = was
 outline_opens (StepDrag p) (TrackingControl c) desk may was = was
+outline_opens (StepDrag p) (Selecting k) desk may was = was
 outline_opens (StepDrag p) (Pulling m) desk may was = was
 outline_opens (EndDrag p) a desk may was = tt
 outline_opens (Grow g) a desk may was =
@@ -152,6 +160,7 @@ outline_opens (StepGrow p) (Growing g) desk may was = was
 outline_opens (StepGrow p) (Updating s) desk may was = was
 outline_opens (StepGrow p) (Tracking s) desk may was = was
 outline_opens (StepGrow p) (TrackingControl c) desk may was = was
+outline_opens (StepGrow p) (Selecting k) desk may was = was
 outline_opens (StepGrow p) (Pulling m) desk may was = was
 outline_opens (EndGrow p) a desk may was = tt
 

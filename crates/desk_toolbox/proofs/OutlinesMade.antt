@@ -9,7 +9,7 @@ use Rattle.def_iface.specs.MenuMeaning.{MenuLoan}
 use Rattle.def_iface.specs.WindowMeaning.{WindowLoan}
 use Rattle.def_iface.specs.WindowSlots.{WindowSlot}
 use Rattle.desk_call.specs.declared.activity.Activity.{Activity}
-use Rattle.desk_call.specs.declared.activity.Activity.TheVariants.{Idle, Updating, Tracking, Pulling, TrackingControl, Dragging, Growing}
+use Rattle.desk_call.specs.declared.activity.Activity.TheVariants.{Idle, Updating, Tracking, Pulling, TrackingControl, Dragging, Growing, Selecting}
 use Rattle.desk_call.specs.declared.activity.Standing.TheVariants.{Drags}
 use Rattle.desk_call.specs.declared.outline.OutlineCall.{OutlineCall}
 use Rattle.desk_call.specs.declared.outline.OutlineCall.TheVariants.{Drag, StepDrag, EndDrag, Grow, StepGrow, EndGrow}
@@ -55,6 +55,7 @@ outlining_updates_none (Growing g) is = tt
 outlining_updates_none (Updating s) is = absurd is
 outlining_updates_none (Tracking s) is = absurd is
 outlining_updates_none (TrackingControl c) is = absurd is
+outlining_updates_none (Selecting k) is = absurd is
 outlining_updates_none (Pulling m) is = absurd is
 
 pub outlined_updates : {V : Type 0} {H : V → Type 0} (loan : TakenBox V H → WindowLoan) (t : WindowManager V H) (u : Updates) (a b : Activity) → IsOutlining b → IsWholeUpdates loan a t u → IsWholeUpdates loan b t u
@@ -71,6 +72,7 @@ outlining_places_none (Growing g) is = tt
 outlining_places_none (Updating s) is = absurd is
 outlining_places_none (Tracking s) is = absurd is
 outlining_places_none (TrackingControl c) is = absurd is
+outlining_places_none (Selecting k) is = absurd is
 outlining_places_none (Pulling m) is = absurd is
 
 pub outlined_menus : {W : Type 0} {K : W → Type 0} (menu_loan : TakenBox W K → MenuLoan) (m : Menus W K) (slots : List MenuSlot) (a b : Activity) → IsOutlining b → IsWholeMenus menu_loan a m slots → IsWholeMenus menu_loan b m slots
@@ -90,6 +92,7 @@ outlining_shows_none menu_loan t m front (Growing g) is = tt
 outlining_shows_none menu_loan t m front (Updating s) is = absurd is
 outlining_shows_none menu_loan t m front (Tracking s) is = absurd is
 outlining_shows_none menu_loan t m front (TrackingControl c) is = absurd is
+outlining_shows_none menu_loan t m front (Selecting k) is = absurd is
 outlining_shows_none menu_loan t m front (Pulling p) is = absurd is
 
 -- ---- the window that was dragged is let go

@@ -2,7 +2,7 @@
 use Rattle.std.proofs.Common.{◌≡◌, List, sym, subst}
 use Rattle.std.specs.Prelude.{All}
 use Rattle.desk_call.specs.declared.activity.Activity.{Activity}
-use Rattle.desk_call.specs.declared.activity.Activity.TheVariants.{Idle, Updating, Tracking, Pulling, TrackingControl, Dragging, Growing}
+use Rattle.desk_call.specs.declared.activity.Activity.TheVariants.{Idle, Updating, Tracking, Pulling, TrackingControl, Dragging, Growing, Selecting}
 use Rattle.menu_mgr.specs.MenuDesks.{MenuRecord, MenusState}
 use Rattle.desk_toolbox.specs.Reached.{IsLit, IsPulledThere}
 use Rattle.desk_toolbox.proofs.MenusBeside.{CoversNone}
@@ -23,6 +23,7 @@ pulls_none Idle none = tt
 pulls_none (Updating s) none = tt
 pulls_none (Tracking s) none = tt
 pulls_none (TrackingControl c) none = tt
+pulls_none (Selecting k) none = tt
 pulls_none (Dragging d) none = absurd none
 pulls_none (Growing g) none = absurd none
 
@@ -32,6 +33,7 @@ no_pull Idle menus none lit = record { pulled = tt; lit = lit }
 no_pull (Updating s) menus none lit = record { pulled = tt; lit = lit }
 no_pull (Tracking s) menus none lit = record { pulled = tt; lit = lit }
 no_pull (TrackingControl c) menus none lit = record { pulled = tt; lit = lit }
+no_pull (Selecting k) menus none lit = record { pulled = tt; lit = lit }
 no_pull (Dragging d) menus none lit = record { pulled = tt; lit = lit }
 no_pull (Growing g) menus none lit = record { pulled = tt; lit = lit }
 
@@ -41,6 +43,7 @@ none_is_lit Idle ls none lit = lit
 none_is_lit (Updating s) ls none lit = lit
 none_is_lit (Tracking s) ls none lit = lit
 none_is_lit (TrackingControl c) ls none lit = lit
+none_is_lit (Selecting k) ls none lit = lit
 none_is_lit (Dragging d) ls none lit = lit
 none_is_lit (Growing g) ls none lit = lit
 

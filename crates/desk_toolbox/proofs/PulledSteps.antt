@@ -11,7 +11,7 @@ use Rattle.desk_ground.specs.declared.bar.TitleHit.{TitleHit}
 use Rattle.desk_ground.specs.Bars.{title_at, title_box, title_width}
 use Rattle.menu_list.specs.Lists.{has_number, in_bar, is_in_bar, menu_index, menu_with, title_of, titles_of}
 use Rattle.desk_call.specs.declared.activity.Activity.{Activity}
-use Rattle.desk_call.specs.declared.activity.Activity.TheVariants.{Idle, Updating, Tracking, Pulling, TrackingControl, Dragging, Growing}
+use Rattle.desk_call.specs.declared.activity.Activity.TheVariants.{Idle, Updating, Tracking, Pulling, TrackingControl, Dragging, Growing, Selecting}
 use Rattle.desk_call.specs.declared.activity.PulledMenu.{PulledMenu}
 use Rattle.desk_call.specs.declared.menu.Choice.{Choice}
 use Rattle.desk_call.specs.declared.menu.MenuCall.{MenuCall}
@@ -116,6 +116,7 @@ moved_right (Tracking s) p answer before after bar apart was wrong = absurd wron
 moved_right (TrackingControl c) p answer before after bar apart was wrong = absurd wrong
 moved_right (Dragging d) p answer before after bar apart was wrong = absurd wrong
 moved_right (Growing g) p answer before after bar apart was wrong = absurd wrong
+moved_right (Selecting k) p answer before after bar apart was wrong = absurd wrong
 
 released_right : (a : Activity) (p : Point) (choice : Option Choice) (before after : MenuDesk) → AreMenusApart before.menus.menus → IsPullRight a before.menus → IsMenuReleased a p choice before after → EndsRight after
 released_right (Pulling m) p choice before after apart was (is, away) =
@@ -128,6 +129,7 @@ released_right (Tracking s) p choice before after apart was wrong = absurd wrong
 released_right (TrackingControl c) p choice before after apart was wrong = absurd wrong
 released_right (Dragging d) p choice before after apart was wrong = absurd wrong
 released_right (Growing g) p choice before after apart was wrong = absurd wrong
+released_right (Selecting k) p choice before after apart was wrong = absurd wrong
 
 -- nothing is open, and the definitions of these menus go by that no item is highlighted
 idle_right : (before after : MenuDesk) → before.desk.activity ≡ Idle → after.desk.activity ≡ before.desk.activity → All (IsLit Idle) after.menus.menus → EndsRight after

@@ -5,7 +5,7 @@ use Rattle.std.specs.Option.{option_map}
 use Rattle.tb_geom.specs.declared.refusal.Refusal.{Refusal}
 use Rattle.tb_geom.specs.Points.{PixelSet}
 use Rattle.desk_call.specs.declared.activity.Activity.{Activity}
-use Rattle.desk_call.specs.declared.activity.Activity.TheVariants.{Idle, Updating, Tracking, Pulling, TrackingControl, Dragging, Growing}
+use Rattle.desk_call.specs.declared.activity.Activity.TheVariants.{Idle, Updating, Tracking, Pulling, TrackingControl, Dragging, Growing, Selecting}
 use Rattle.desk_call.specs.declared.activity.Standing.{Standing}
 use Rattle.desk_call.specs.declared.activity.Standing.TheVariants.{Asks, Changes}
 use Rattle.desk_call.specs.declared.event.EventCall.{EventCall}
@@ -179,6 +179,7 @@ idle_now (Tracking s) e = absurd (cc)
 idle_now (TrackingControl c) e = absurd (cc)
 idle_now (Dragging d) e = absurd (cc)
 idle_now (Growing g) e = absurd (cc)
+idle_now (Selecting k) e = absurd (cc)
 idle_now (Pulling m) e = absurd (cc)
 
 -- no window is disposed of while something of it is open

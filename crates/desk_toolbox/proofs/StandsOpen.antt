@@ -7,7 +7,7 @@ use Rattle.tb_geom.specs.declared.refusal.Refusal.TheVariants.{NoSuchWindow, Out
 use Rattle.tb_geom.specs.Rects.{in_plane}
 use Rattle.def_iface.specs.WindowNews.{WindowNews, told_title, told_highlighted, told_tracked}
 use Rattle.desk_call.specs.declared.activity.Activity.{Activity}
-use Rattle.desk_call.specs.declared.activity.Activity.TheVariants.{Idle, Updating, Tracking, Pulling, TrackingControl, Dragging, Growing}
+use Rattle.desk_call.specs.declared.activity.Activity.TheVariants.{Idle, Updating, Tracking, Pulling, TrackingControl, Dragging, Growing, Selecting}
 use Rattle.desk_call.specs.declared.activity.Standing.TheVariants.{Updates}
 use Rattle.desk_call.specs.declared.frame.FrameCall.{FrameCall}
 use Rattle.desk_call.specs.declared.frame.FrameCall.TheVariants.{SetTitle, Hilite, TrackGoAway, StepGoAway, EndGoAway}
@@ -74,6 +74,7 @@ ended (Tracking t) s ws e none = absurd (cc)
 ended (TrackingControl c) s ws e none = absurd (cc)
 ended (Dragging d) s ws e none = absurd (cc)
 ended (Growing g) s ws e none = absurd (cc)
+ended (Selecting k) s ws e none = absurd (cc)
 ended (Pulling m) s ws e none = absurd (cc)
 
 update_misleads_none : (call : UpdateCall) (before after : DeskState) → gate before.activity (update_standing call) ≡ None → IsUpdateEffect call before after → total (misled before.activity) before.windows.desk.windows ≡ 0 → total (misled after.activity) before.windows.desk.windows ≡ 0

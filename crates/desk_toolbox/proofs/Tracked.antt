@@ -6,7 +6,7 @@ use Rattle.std.proofs.lemmas.List.Elements.{All-nil, All-cons, All-head, All-tai
 use Rattle.std.specs.Prelude.{All}
 use Rattle.def_iface.specs.WindowNews.{told_tracked}
 use Rattle.desk_call.specs.declared.activity.Activity.{Activity}
-use Rattle.desk_call.specs.declared.activity.Activity.TheVariants.{Idle, Updating, Tracking, Pulling, TrackingControl, Dragging, Growing}
+use Rattle.desk_call.specs.declared.activity.Activity.TheVariants.{Idle, Updating, Tracking, Pulling, TrackingControl, Dragging, Growing, Selecting}
 use Rattle.vis_update.specs.Records.{WindowRecord}
 use Rattle.window_mgr.specs.Arrange.{changed}
 use Rattle.window_mgr.specs.Effects.{Effect}
@@ -26,6 +26,7 @@ tracks n (Tracking s) = s == n
 tracks n (TrackingControl c) = false
 tracks n (Dragging d) = false
 tracks n (Growing g) = false
+tracks n (Selecting k) = false
 tracks n (Pulling m) = false
 
 -- windows whose definitions heard wrongly that it is
@@ -51,6 +52,7 @@ this_is_tracked n (Tracking s) e = ap Tracking (eqb-true s n e)
 this_is_tracked n (TrackingControl c) e = absurd (cc)
 this_is_tracked n (Dragging d) e = absurd (cc)
 this_is_tracked n (Growing g) e = absurd (cc)
+this_is_tracked n (Selecting k) e = absurd (cc)
 
 not_misled : (activity : Activity) (n : ℕ) (tracked : Bool) → (tracked ≡ true → activity ≡ Tracking n) → misled_by activity n tracked ≡ 0
 not_misled activity n true h = ap (λ (b : Bool). if b then 0 else 1) (tracks_this n activity (h refl))

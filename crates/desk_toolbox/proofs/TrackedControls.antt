@@ -15,7 +15,7 @@ use Rattle.def_iface.specs.ControlMeaning.{ControlDefinition}
 use Rattle.def_iface.specs.Slots.{IsFull, SlotOf}
 use Rattle.def_iface.specs.Stocks.{IsControlFull}
 use Rattle.desk_call.specs.declared.activity.Activity.{Activity}
-use Rattle.desk_call.specs.declared.activity.Activity.TheVariants.{Idle, Updating, Tracking, Pulling, TrackingControl, Dragging, Growing}
+use Rattle.desk_call.specs.declared.activity.Activity.TheVariants.{Idle, Updating, Tracking, Pulling, TrackingControl, Dragging, Growing, Selecting}
 use Rattle.desk_call.specs.declared.activity.Standing.TheVariants.{TracksControl}
 use Rattle.desk_call.specs.declared.activity.TrackedControl.{TrackedControl}
 use Rattle.desk_call.specs.declared.control.ControlCall.{ControlCall}
@@ -159,6 +159,7 @@ module _ (before after : ControlDesk) where
   stepped_there (Pulling m) p answer is was wrong = absurd wrong
   stepped_there (Dragging d) p answer is was wrong = absurd wrong
   stepped_there (Growing g) p answer is was wrong = absurd wrong
+  stepped_there (Selecting k) p answer is was wrong = absurd wrong
 
   released_there : (a : Activity) (p : Point) (answer : Option ControlPart) → IsControlReleased a p answer before after → IsTrackable after.desk.activity after.controls.controls
   released_there (TrackingControl k) p answer (told, opens, anew) = subst (λ a. IsTrackable a after.controls.controls) (sym opens.activity) tt
@@ -168,6 +169,7 @@ module _ (before after : ControlDesk) where
   released_there (Pulling m) p answer wrong = absurd wrong
   released_there (Dragging d) p answer wrong = absurd wrong
   released_there (Growing g) p answer wrong = absurd wrong
+  released_there (Selecting k) p answer wrong = absurd wrong
 
   -- nothing was open, and is not
   idle_still : before.desk.activity ≡ Idle → after.desk.activity ≡ before.desk.activity → IsTrackable after.desk.activity after.controls.controls
@@ -215,6 +217,7 @@ tracking_now (TrackingControl k) e = inr (k, refl)
 tracking_now (Pulling m) e = absurd (cc)
 tracking_now (Dragging d) e = absurd (cc)
 tracking_now (Growing g) e = absurd (cc)
+tracking_now (Selecting k) e = absurd (cc)
 
 -- a call that comes then asks, or no more is open
 pub comes_then : (call : ControlCall) (answer : ControlReply) (before after : ControlDesk) → gate before.desk.activity (control_standing call) ≡ None → IsControlEffect call answer before after → IsControlDeskUnchanged before after ⊎ AtMostControl before.desk.activity

@@ -10,7 +10,7 @@ use Rattle.def_iface.specs.WindowMeaning.{WindowLoan}
 use Rattle.desk_layers.specs.Owner.{owner}
 use Rattle.def_iface.specs.WindowSlots.{WindowSlot}
 use Rattle.desk_call.specs.declared.activity.Activity.{Activity}
-use Rattle.desk_call.specs.declared.activity.Activity.TheVariants.{Idle, Updating, Tracking, Pulling, TrackingControl, Dragging, Growing}
+use Rattle.desk_call.specs.declared.activity.Activity.TheVariants.{Idle, Updating, Tracking, Pulling, TrackingControl, Dragging, Growing, Selecting}
 use Rattle.desk_call.specs.declared.activity.PulledMenu.{PulledMenu}
 use Rattle.desk_call.specs.declared.frame.FrameCall.{FrameCall}
 use Rattle.desk_call.specs.declared.frame.FrameCall.TheVariants.{SetTitle, Hilite, TrackGoAway, StepGoAway, EndGoAway}
@@ -62,6 +62,7 @@ updates_or_not (Tracking s) = inl tt
 updates_or_not (TrackingControl c) = inl tt
 updates_or_not (Dragging d) = inl tt
 updates_or_not (Growing g) = inl tt
+updates_or_not (Selecting k) = inl tt
 updates_or_not (Pulling m) = inl tt
 
 -- a call about frames or menus never comes while an update is open
@@ -71,6 +72,7 @@ frame_comes_apart call (Tracking s) may = tt
 frame_comes_apart call (TrackingControl c) may = tt
 frame_comes_apart call (Dragging d) may = tt
 frame_comes_apart call (Growing g) may = tt
+frame_comes_apart call (Selecting k) may = tt
 frame_comes_apart call (Pulling m) may = tt
 frame_comes_apart (SetTitle n) (Updating s) may = absurd (cc)
 frame_comes_apart (Hilite h) (Updating s) may = absurd (cc)
@@ -84,6 +86,7 @@ menu_comes_apart call (Tracking s) may = tt
 menu_comes_apart call (TrackingControl c) may = tt
 menu_comes_apart call (Dragging d) may = tt
 menu_comes_apart call (Growing g) may = tt
+menu_comes_apart call (Selecting k) may = tt
 menu_comes_apart call (Pulling m) may = tt
 menu_comes_apart (menus.Move p) (Updating s) may = absurd (cc)
 menu_comes_apart (menus.Up p) (Updating s) may = absurd (cc)
@@ -130,6 +133,7 @@ moved_updates_none (Tracking s) p answer before after wrong = absurd wrong
 moved_updates_none (TrackingControl c) p answer before after wrong = absurd wrong
 moved_updates_none (Dragging d) p answer before after wrong = absurd wrong
 moved_updates_none (Growing g) p answer before after wrong = absurd wrong
+moved_updates_none (Selecting k) p answer before after wrong = absurd wrong
 
 released_updates_none : (a : Activity) (p : Point) (choice : Option Choice) (before after : MenuDesk) → IsMenuReleased a p choice before after → UpdatesNone after.desk.activity
 released_updates_none (Pulling m) p choice before after (is, away) = subst UpdatesNone (sym away.activity) tt
@@ -139,6 +143,7 @@ released_updates_none (Tracking s) p choice before after wrong = absurd wrong
 released_updates_none (TrackingControl c) p choice before after wrong = absurd wrong
 released_updates_none (Dragging d) p choice before after wrong = absurd wrong
 released_updates_none (Growing g) p choice before after wrong = absurd wrong
+released_updates_none (Selecting k) p choice before after wrong = absurd wrong
 
 menu_effect_updates_none : (call : MenuCall) (answer : MenuReply) (before after : MenuDesk) → IsMenuEffect call answer before after → UpdatesNone before.desk.activity → UpdatesNone after.desk.activity
 menu_effect_updates_none (menus.New n) answer before after (is, made) was = subst UpdatesNone (sym made.activity.activity) was

@@ -2,6 +2,7 @@
 -- runs of steps, what holds of each state that a run reaches, and what a call writes on the screen at the most.
 pub mod EventSteps
 pub mod ToolboxStates
+pub mod KnownLayers
 pub mod Fronts
 pub mod FrontMaps
 pub mod WholeToolbox

@@ -9,7 +9,7 @@ use Rattle.def_iface.specs.WindowSlots.{IsFull}
 use Rattle.def_iface.specs.Stocks.{IsMenuFull, IsControlFull, IsListFull}
 use Rattle.event_queue.specs.Events.{is_posted}
 use Rattle.desk_call.specs.declared.activity.Activity.{Activity}
-use Rattle.desk_call.specs.declared.activity.Activity.TheVariants.{Idle, Updating, Tracking, Pulling, TrackingControl, Dragging, Growing}
+use Rattle.desk_call.specs.declared.activity.Activity.TheVariants.{Idle, Updating, Tracking, Pulling, TrackingControl, Dragging, Growing, Selecting}
 use Rattle.vis_update.specs.Records.{WindowRecord, news_of}
 use Rattle.window_mgr.specs.FullDesk.{FullDesk, IsRightState}
 use Rattle.window_mgr.specs.Refused.{is_missing}
@@ -25,13 +25,15 @@ use Rattle.menu_mgr.specs.WholeMenus.{AreMenusStocked}
 use Rattle.desk_toolbox.specs.Classes.{AreClassed, IsOrdinary}
 use Rattle.desk_toolbox.specs.EventSteps.{first_events}
 use Rattle.desk_toolbox.specs.ToolboxStates.{ToolboxState, with_controls}
+use Rattle.desk_toolbox.specs.KnownLayers.{AreLayersKnown}
 
 -- no window is meant, or one of these
 abbrev pub IsThere : Option ℕ → List WindowRecord → Type 0
 IsThere None windows = Unit {0}
 IsThere (Some s) windows = is_missing s windows ≡ false
 
--- the window whose update is open, of which the go-away box or a control is tracked, or that is dragged or grown
+-- the window whose update is open, of which the go-away box or a control is tracked, that is dragged or grown, or in whose text
+-- the mouse selects
 abbrev pub open_window : Activity → Option ℕ
 open_window Idle = None
 open_window (Updating s) = Some s
@@ -40,6 +42,7 @@ open_window (Pulling m) = None
 open_window (TrackingControl k) = Some k.control.window
 open_window (Dragging d) = Some d.window
 open_window (Growing g) = Some g.window
+open_window (Selecting k) = Some k.text.window
 
 -- where the window's definition heard last that the go-away box is tracked, it is
 abbrev pub IsTrackedIfHeard : Activity → WindowRecord → Type 0
@@ -83,10 +86,11 @@ IsPulledThere _ menus = Unit {0}
 abbrev pub IsTitleInBar : MenusState → Type 0
 IsTitleInBar menus = IfSome menus.highlighted (λ id. is_in_bar (pos id) menus.menus ≡ true)
 
--- the controls and the lists of a state are whole beside its windows, which show them
+-- the controls and the lists of a state are whole beside its windows, which show them, and have no other layers
 pub record AreContentsRight (s : ToolboxState) : Type 0 where
   pub controls : AreWholeControls s.desk.windows.desk.windows s.controls
   pub lists : AreWholeLists s.desk.windows.desk.windows s.lists
+  pub known : AreLayersKnown s.desk.windows.desk.windows
   pub shown : ShowsControls (with_controls s)
 
 -- a right state, in which the active window and the one last told active are ordinary windows of the desk, that of what is open

@@ -53,6 +53,7 @@ use Rattle.window_frame.specs.Followers.{IsCaughtUpBy}
 use Rattle.window_frame.specs.FrameSteps.{IsFrameStep}
 use Rattle.window_outline.specs.Outlining.{let_go_of}
 use Rattle.window_outline.specs.OutlineSteps.{IsOutlineStep}
+use Rattle.window_paint.specs.White.{all_white}
 use Rattle.control_mgr.specs.ControlClosing.{IsWindowLeft}
 use Rattle.control_mgr.specs.ControlDesks.{ControlRecord, ControlsState, controls_show}
 use Rattle.control_mgr.specs.ControlRefusals.{control_form_refusals}
@@ -107,7 +108,7 @@ AreListsLeft _ before after = after ≡ before
 
 -- the windows, showing these controls and lists
 abbrev pub shown_with : List ControlRecord → List KeptList → FullState → FullState
-shown_with cs ls s = state_showing (controls_show (lists_show ls) cs) s
+shown_with cs ls s = state_showing (controls_show (lists_show (λ font. all_white) ls) cs) s
 
 -- a call on windows that was done: then definitions were told how their windows stand, and a window that is gone is forgotten,
 -- with its controls and its lists

@@ -1,6 +1,7 @@
 -- The state of a Toolbox.
 use Rattle.std.specs.Prelude.{◌≡◌}
 use Rattle.window_mgr.specs.DeskStates.{DeskState, IsDeskUnchanged}
+use Rattle.window_paint.specs.White.{all_white}
 use Rattle.control_mgr.specs.ControlDesks.{ControlDesk, ControlsState}
 use Rattle.list_mgr.specs.ListDesks.{ListDesk, ListsState}
 use Rattle.list_mgr.specs.ListDesks as lists
@@ -19,9 +20,9 @@ pub record ToolboxState : Type 0 where
 abbrev pub with_menus : ToolboxState → MenuDesk
 with_menus s = record { desk = s.desk; menus = s.menus }
 
--- the desk with its controls and its lists
+-- the desk with its controls and its lists, beside which its windows have no layers but their pictures
 abbrev pub with_lists : ToolboxState → ListDesk
-with_lists s = record { desk = s.desk; controls = s.controls; lists = s.lists }
+with_lists s = record { desk = s.desk; controls = s.controls; lists = s.lists; others = λ font. all_white }
 
 -- the desk with its controls, beside which its lists lie
 abbrev pub with_controls : ToolboxState → ControlDesk

@@ -13,6 +13,7 @@ use Rattle.window_mgr.specs.Records.{desk_of, state_of, state_showing}
 use Rattle.window_mgr.specs.Whole.{IsSettled, IsWholeManager}
 use Rattle.window_mgr.specs.DeskStates.{desk_with}
 use Rattle.window_update.specs.WholeUpdates.{IsWholeUpdates, opened}
+use Rattle.window_paint.specs.White.{all_white}
 use Rattle.control_mgr.specs.ControlDesks.{controls_show}
 use Rattle.control_mgr.specs.Settled.{AreSettled}
 use Rattle.control_mgr.specs.WholeControls.{AreWholeControls, IsTrackable, controls_state, records_of}
@@ -23,6 +24,7 @@ use Rattle.menu_mgr.specs.WholeMenus.{AreLive, IsPlaced, IsWholeMenus, menus_of,
 use Rattle.desk_toolbox.specs.declared.toolbox.Toolbox.{Toolbox}
 use Rattle.desk_toolbox.specs.FrontMaps.{IsFrontRight}
 use Rattle.desk_toolbox.specs.ToolboxStates.{ToolboxState}
+use Rattle.desk_toolbox.specs.KnownLayers.{AreLayersKnown}
 
 -- `loan` says what a window's definition that was taken means, `menu_loan` what a menu's, `control_loan` what a control's, and
 -- `list_loan` what a list's
@@ -37,11 +39,12 @@ module _ {V : Type 0} {H : V → Type 0} (loan : TakenBox V H → WindowLoan) {W
     pub menus : IsWholeMenus menu_loan t.activity t.menus stocks.menus
     pub front : IsFrontRight menu_loan t.activity t.windows t.menus t.front
     pub lists : AreWholeLists (desk_of loan t.windows []).windows (lists_state list_loan t.lists stocks.lists)
+    pub known : AreLayersKnown (desk_of loan t.windows []).windows
 
   -- its state: what its windows show of controls and lists is what these show
   abbrev pub toolbox_state : Toolbox V U W X H J K L → AllSlots → ToolboxState
   toolbox_state t stocks = record {
-    desk = desk_with (opened t.activity t.updates) (state_showing (controls_show (lists_show (lists.records_of list_loan t.lists)) (records_of control_loan t.controls)) (state_of loan t.windows stocks.windows));
+    desk = desk_with (opened t.activity t.updates) (state_showing (controls_show (lists_show (λ font. all_white) (lists.records_of list_loan t.lists)) (records_of control_loan t.controls)) (state_of loan t.windows stocks.windows));
     controls = controls_state control_loan t.controls stocks.controls;
     lists = lists_state list_loan t.lists stocks.lists;
     menus = menus_state menu_loan t.menus stocks.menus;

@@ -1,7 +1,8 @@
 -- The kinds of items: their types, their names, and what their layers are.
-use Rattle.std.specs.Prelude.{ℕ, Bool, true, false, List, codes, Option, None, Some}
+use Rattle.std.specs.Prelude.{ℕ, pos, ◌+ℤ◌, ◌-ℤ◌, Bool, true, false, List, codes, Option, None, Some}
 use Rattle.std.specs.Bool.{beq}
 use Rattle.std.specs.Option.{option_map_or}
+use Rattle.tb_geom.specs.declared.rect.Rect.{Rect}
 use Rattle.dialog_items.specs.declared.item.LayerSort.{LayerSort}
 use Rattle.dialog_items.specs.declared.item.LayerSort.TheVariants.{Control, Text}
 use Rattle.dialog_items.specs.declared.kind.ItemKind.{ItemKind}
@@ -63,3 +64,19 @@ is_default_kind _ = false
 abbrev pub is_button_kind : ItemKind → Bool
 is_button_kind Button = true
 is_button_kind _ = false
+
+-- a rectangle with 4 pixels more at each side, and with 4 less
+abbrev pub ring_around : Rect → Rect
+ring_around r = record { left = r.left -ℤ pos 4; top = r.top -ℤ pos 4; right = r.right +ℤ pos 4; bottom = r.bottom +ℤ pos 4 }
+
+abbrev pub within_ring : Rect → Rect
+within_ring r = record { left = r.left +ℤ pos 4; top = r.top +ℤ pos 4; right = r.right -ℤ pos 4; bottom = r.bottom -ℤ pos 4 }
+
+-- the rectangle of an item's layer by the item's, and the other way: around a default button is a ring
+abbrev pub layer_rect : ItemKind → Rect → Rect
+layer_rect Default r = ring_around r
+layer_rect _ r = r
+
+abbrev pub item_rect : ItemKind → Rect → Rect
+item_rect Default r = within_ring r
+item_rect _ r = r

@@ -204,7 +204,7 @@ impl DialogItems {
             },
         );
         if self.edited == number {
-            self.edited = 0;
+            self.stop_editing();
         }
     }
 }

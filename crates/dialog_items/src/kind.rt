@@ -1,8 +1,10 @@
 //! The kinds of items.
-ghost use Rattle.std.specs.Prelude.{◌≡◌, IfNone, IfSome};
-ghost use Rattle.dialog_items.specs.Kinds.{has_sort, kind_name, kind_type, sort_of};
+ghost use Rattle.std.specs.Prelude.{◌≡◌, ◌+ℤ◌, ◌-ℤ◌, pos, true, IfNone, IfSome};
+ghost use Rattle.tb_geom.specs.Rects.{is_coordinate, is_in_range};
+ghost use Rattle.dialog_items.specs.Kinds.{has_sort, kind_name, kind_type, sort_of, item_rect, layer_rect, ring_around, within_ring};
 
 use crate::item::LayerSort;
+use tb_geom::Rect;
 
 /// What an item is (*Inside Macintosh* I, "The Dialog Manager", "Item Types").
 #[derive(Clone, Copy, Debug, PartialEq, Eq)]
@@ -88,6 +90,30 @@ impl ItemKind {
         }
     }
 
+    /// The rectangle of the layer of an item of this kind by the item's own: that of a default button has room for a ring of 4
+    /// pixels around it.
+    pub fn layer_rect(self, rect: Rect) -> Rect
+        requires { is_in_range rect ≡ true }
+        ensures { result ≡ layer_rect self rect }
+    {
+        match self {
+            ItemKind::Default => ring_around(rect),
+            _ => rect,
+        }
+    }
+
+    /// The rectangle of an item of this kind by that of its layer, as it is computed: the right of a default button may lie
+    /// left of its left.
+    pub fn item_rect(self, layer: Rect) -> Rect
+        requires { is_in_range layer ≡ true }
+        ensures { result ≡ item_rect self layer }
+    {
+        match self {
+            ItemKind::Default => within_ring(layer),
+            _ => layer,
+        }
+    }
+
     /// Whether its layer is of this sort.
     pub(crate) fn has_sort(self, sort: LayerSort) -> bool
         ensures { result ≡ has_sort sort self }
@@ -98,5 +124,47 @@ impl ItemKind {
             ItemKind::User => false,
             _ => !sort.is_text(),
         }
+    }
+}
+
+/// The number 4 below a coordinate.
+fn less_ring(x: i32) -> i32
+    requires { is_coordinate x ≡ true }
+    ensures { result ≡ x -ℤ pos 4 }
+{
+    x - 4
+}
+
+/// The number 4 above a coordinate.
+fn more_ring(x: i32) -> i32
+    requires { is_coordinate x ≡ true }
+    ensures { result ≡ x +ℤ pos 4 }
+{
+    x + 4
+}
+
+/// The rectangle with 4 more pixels at each side.
+fn ring_around(rect: Rect) -> Rect
+    requires { is_in_range rect ≡ true }
+    ensures { result ≡ ring_around rect }
+{
+    Rect {
+        left: less_ring(rect.left),
+        top: less_ring(rect.top),
+        right: more_ring(rect.right),
+        bottom: more_ring(rect.bottom),
+    }
+}
+
+/// The rectangle with 4 pixels less at each side.
+fn within_ring(rect: Rect) -> Rect
+    requires { is_in_range rect ≡ true }
+    ensures { result ≡ within_ring rect }
+{
+    Rect {
+        left: more_ring(rect.left),
+        top: more_ring(rect.top),
+        right: less_ring(rect.right),
+        bottom: less_ring(rect.bottom),
     }
 }

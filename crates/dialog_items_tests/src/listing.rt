@@ -81,6 +81,16 @@ fn a_window_has_64_items(rt: HostRuntime) -> Result<(), Fail> {
 }
 
 #[test]
+fn a_default_button_has_a_ring(rt: HostRuntime) -> Result<(), Fail> {
+    let layer = ItemKind::Default.layer_rect(PLACE);
+    assert!(rt; layer.left == -3 && layer.top == -2 && layer.right == 7 && layer.bottom == 8);
+    let back = ItemKind::Default.item_rect(PLACE);
+    assert!(rt; back.left == 5 && back.right == -1);
+    assert_eq!(rt; ItemKind::Icon.layer_rect(PLACE).right, 3);
+    Ok(())
+}
+
+#[test]
 fn types_and_names_are_those_of_the_dialog_manager(rt: HostRuntime) -> Result<(), Fail> {
     let names: [&[u8]; 8] = [
         b"button", b"check", b"radio", b"default", b"icon", b"static", b"edit", b"user",

@@ -67,6 +67,7 @@ fn plain_window(serial: u64, h: i32, v: i32) -> PlainWindow {
             no_layer(Part::Control(1)),
             no_layer(Part::Control(2)),
             no_layer(Part::List(1)),
+            no_layer(Part::Text(1)),
         ],
     }
 }

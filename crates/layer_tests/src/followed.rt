@@ -21,18 +21,21 @@ const SLIDER: Part = Part::Control(2);
 
 const NAMES: Part = Part::List(1);
 
+const NOTES: Part = Part::Text(1);
+
 /// All layers, from back to front.
-const ALL: &[Kind] = &[Kind::Picture, Kind::Lists, Kind::Controls];
+const ALL: &[Kind] = &[Kind::Picture, Kind::Texts, Kind::Lists, Kind::Controls];
 
 /// Over the upper left corner of the content, beyond its left side, and over the list.
 const CORNER: Rect = rect!(-2, 1, 4, 6);
 
-/// The first steps of each row: window 1 with a picture, two controls and a list, which lie over one another and past the
-/// sides of the content, all drawn.
-const BEGIN: [Step; 6] = [
+/// The first steps of each row: window 1 with a picture, two controls, a list and a text record, which lie over one another and
+/// past the sides of the content, all drawn.
+const BEGIN: [Step; 7] = [
     Step::Replace(1, Painting::Slanted, point!(1, 1)),
     Step::Update(1, ALL),
     Step::Put(1, NAMES, true, rect!(2, 3, 14, 7)),
+    Step::Put(1, NOTES, true, rect!(1, -2, 7, 9)),
     Step::Put(1, BUTTON, true, CORNER),
     Step::Put(1, SLIDER, true, rect!(3, 5, 8, 12)),
     Step::Update(2, ALL),
@@ -81,6 +84,8 @@ fn layers_change(rt: HostRuntime) -> Result<(), Fail> {
         Step::Update(1, &[Kind::Lists]),
         Step::Put(1, SLIDER, true, rect!(6, -3, 9, 5)),
         Step::TakeOut(1, NAMES),
+        Step::Put(1, NOTES, false, rect!(1, -2, 7, 9)),
+        Step::Put(1, NOTES, true, rect!(4, 1, 12, 4)),
         Step::Put(1, SLIDER, false, rect!(6, -3, 9, 5)),
         Step::Move(1, point!(-2, 5)),
         Step::Put(1, SLIDER, true, rect!(0, 0, 9, 5)),
@@ -183,6 +188,27 @@ fn updates_draw_layer_by_layer(rt: HostRuntime) -> Result<(), Fail> {
         Step::Move(2, point!(12, 1)),
         Step::Serve(1),
         Step::Serve(2),
+    ];
+    assert!(rt; follow(rt.alloc(), &steps)?);
+    Ok(())
+}
+
+#[test]
+fn updates_draw_text_records(rt: HostRuntime) -> Result<(), Fail> {
+    let steps = [
+        Step::Front(1),
+        Step::Hide(1),
+        Step::Show(1),
+        Step::Update(1, &[Kind::Texts, Kind::Picture, Kind::Lists]),
+        Step::Update(1, &[Kind::Controls]),
+        Step::Hide(1),
+        Step::Show(1),
+        Step::Update(1, &[Kind::Controls, Kind::Texts, Kind::Picture]),
+        Step::Hide(1),
+        Step::Show(1),
+        Step::Update(1, &[Kind::Lists, Kind::Texts, Kind::Controls]),
+        Step::TakeOut(1, NOTES),
+        Step::Update(1, ALL),
     ];
     assert!(rt; follow(rt.alloc(), &steps)?);
     Ok(())

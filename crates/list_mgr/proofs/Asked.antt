@@ -44,8 +44,8 @@ module _ {V : Type 0} {H : V → Type 0} (loan : TakenBox V H → WindowLoan) {X
 
     pub data_told : is_cell x.kept.cells c.cell ≡ true → (answer : ListReply) → IsDataOf (content_of x.kept.cells c.cell).bytes answer → IsToldOver list_loan loan (IsListStep (asks.GetCell c) (Ok answer)) t m
     data_told has answer are =
-        told loan list_loan (asks.GetCell c) answer t m (λ o slots cs kept. cell_there loan list_loan c.list t m s is c.cell its there has)
-        (λ o slots cs kept. ((its, list_named loan list_loan c.list t m s is its there, are), unchanged loan list_loan t o slots cs m kept))
+        told loan list_loan (asks.GetCell c) answer t m (λ others o slots cs kept. cell_there loan list_loan c.list t m s is c.cell its there has)
+        (λ others o slots cs kept. ((its, list_named loan list_loan c.list t m s is its there, are), unchanged loan list_loan t others o slots cs m kept))
 
   module _ (c : CellText) (s : ListAt) (x : Item (ListRecord (TakenBox X L))) (is : IsSpotOf loan list_loan c.cell.list t m s) (read : x ≡ get_or m.list.items.items s.list x) where
     search_there : slice_get (records_of list_loan m) s.list ≡ Some (seen list_loan x)
@@ -55,5 +55,5 @@ module _ {V : Type 0} {H : V → Type 0} (loan : TakenBox V H → WindowLoan) {X
         → IsToldOver list_loan loan (IsListStep (asks.Search c) (Ok (reply.Cell found))) t m
     search_told free found same =
         told loan list_loan (asks.Search c) (reply.Cell found) t m
-        (λ o slots cs kept. its_reasons loan list_loan c.cell.list t m s is (λ l. search_refusals l.kept.cells c.cell.cell (length c.text)) (seen list_loan x) search_there ∙ free)
-        (λ o slots cs kept. (ap reply.Cell same ∙ sym (told_is c.cell.list s x is read (λ l. reply.Cell (first_from (λ y. bytes_eq y.bytes c.text) l.kept.cells c.cell.cell))), unchanged loan list_loan t o slots cs m kept))
+        (λ others o slots cs kept. its_reasons loan list_loan c.cell.list t m s is (λ l. search_refusals l.kept.cells c.cell.cell (length c.text)) (seen list_loan x) search_there ∙ free)
+        (λ others o slots cs kept. (ap reply.Cell same ∙ sym (told_is c.cell.list s x is read (λ l. reply.Cell (first_from (λ y. bytes_eq y.bytes c.text) l.kept.cells c.cell.cell))), unchanged loan list_loan t others o slots cs m kept))

@@ -124,7 +124,7 @@ module _ {V : Type 0} {H : V → Type 0} (loan : TakenBox V H → WindowLoan) {W
     pub lists_with_bar : {X : Type 0} {L : X → Type 0} (list_loan : TakenBox X L → ListLoan) (n : NewList) (m : Lists (TakenBox X L)) → AreBeside list_loan loan u m → AreBeside list_loan loan v m
     lists_with_bar list_loan n m beside = record {
       slots = beside.slots;
-      whole = (bar_done loan list_loan control_loan n 0 new a.ticket.serial u v idle_now ready.laid.has.kept.slots c e before left m beside.slots (bar_step before left taken idle_now) ready.laid.has.kept.whole
+      whole = (bar_done loan list_loan control_loan n 0 new a.ticket.serial u v (λ font q p. false) idle_now ready.laid.has.kept.slots c e before left m beside.slots (bar_step before left taken idle_now) ready.laid.has.kept.whole
           (subst (AreWholeControls (desk_of loan u []).windows) same_state whole) beside.whole).lists;
     }
       where

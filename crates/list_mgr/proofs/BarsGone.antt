@@ -64,7 +64,8 @@ module _ (c : ControlOf) (before after : ListDesk) (whole : AreWholeControls bef
       begun = ap (λ (x : ControlDesk). x.desk.begun) ended;
     };
     controls = ap (λ (x : ControlDesk). x.controls) ended;
-    lists = same;
+    lists = same.lists;
+    others = same.others;
   }
   gone_at (Some at) found ended = ((may_end ended.at ended.found ended.control ended.there, (refl, ended)), same)
 
@@ -111,12 +112,12 @@ module _ {W : Type 0} {K : W → Type 0} (control_loan : TakenBox W K → Contro
 
     pub bar_gone : (t u : WindowManager V H) (m k : Controls (TakenBox W K)) (held left : List ControlSlot)
         → ((o : Opened) → LeavesOver control_loan loan held left (IsEndedIfThere c) t o m u o k) → IsBarGoneOver control_loan loan held left window bar t m u k
-    bar_gone t u m k held left ended o slots lists whole controls =
-        let done = ended o (lists_show lists.lists) slots whole controls in (
+    bar_gone t u m k held left ended others o slots lists whole controls =
+        let done = ended o (lists_show others lists.lists) slots whole controls in (
           done.0,
           done.1,
-          subst (λ b. IsBarGone window b (desk_beside control_loan loan t o slots m held lists) (desk_beside control_loan loan u o slots k left lists)) (sym is)
-              (gone_then c (desk_beside control_loan loan t o slots m held lists) (desk_beside control_loan loan u o slots k left lists) controls refl done.2),
+          subst (λ b. IsBarGone window b (desk_beside control_loan loan t others o slots m held lists) (desk_beside control_loan loan u others o slots k left lists)) (sym is)
+              (gone_then c (desk_beside control_loan loan t others o slots m held lists) (desk_beside control_loan loan u others o slots k left lists) controls (record { lists = refl; others = refl }) done.2),
         )
 
   module _ (window : ℕ) (bar : Option ℕ) (none : bar ≡ None) where
@@ -124,13 +125,14 @@ module _ {W : Type 0} {K : W → Type 0} (control_loan : TakenBox W K → Contro
     none_planned at ls update t = subst (λ b. IsBarPlanned control_loan loan window b at ls update t None) (sym none) (λ u m ready. refl)
 
     pub none_gone : (t : WindowManager V H) (m : Controls (TakenBox W K)) (held : List ControlSlot) → IsBarGoneOver control_loan loan held held window bar t m t m
-    none_gone t m held o slots lists whole controls = (
+    none_gone t m held others o slots lists whole controls = (
       whole,
       controls,
-      subst (λ b. IsBarGone window b (desk_beside control_loan loan t o slots m held lists) (desk_beside control_loan loan t o slots m held lists)) (sym none) (record {
+      subst (λ b. IsBarGone window b (desk_beside control_loan loan t others o slots m held lists) (desk_beside control_loan loan t others o slots m held lists)) (sym none) (record {
         desk = record { windows = record { desk = refl; stale = λ p on. refl; image = λ p on. refl }; activity = refl; begun = refl };
         controls = refl;
         lists = refl;
+        others = refl;
       }),
     )
 
@@ -142,7 +144,7 @@ module _ {W : Type 0} {K : W → Type 0} (control_loan : TakenBox W K → Contro
   module _ (held left : List ControlSlot) (window : ℕ) (bar : Option ℕ) (t u : WindowManager V H) (m k : Controls (TakenBox W K)) (gone : IsBarGoneOver control_loan loan held left window bar t m u k)
       (kept : IsKept loan t) (whole : AreWholeControls (desk_of loan t []).windows (controls_state control_loan m held)) where
     pub kept_gone : IsKept loan u
-    kept_gone = record { slots = kept.slots; whole = (gone (record { activity = Idle; begun = λ p. false }) kept.slots (record { lists = []; next = None; stock = [] }) kept.whole whole).0 }
+    kept_gone = record { slots = kept.slots; whole = (gone (λ font q p. false) (record { activity = Idle; begun = λ p. false }) kept.slots (record { lists = []; next = None; stock = [] }) kept.whole whole).0 }
 
     pub controls_gone : AreWholeControls (desk_of loan u []).windows (controls_state control_loan k left)
-    controls_gone = (gone (record { activity = Idle; begun = λ p. false }) kept.slots (record { lists = []; next = None; stock = [] }) kept.whole whole).1
+    controls_gone = (gone (λ font q p. false) (record { activity = Idle; begun = λ p. false }) kept.slots (record { lists = []; next = None; stock = [] }) kept.whole whole).1

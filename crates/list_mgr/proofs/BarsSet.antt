@@ -39,12 +39,12 @@ module _ {W : Type 0} {K : W → Type 0} (control_loan : TakenBox W K → Contro
   pub bar_set : (window : ℕ) (bar : Option ℕ) (n : ℕ) (setting : Setting) (t u : WindowManager V H) (c d : Controls (TakenBox W K)) → bar ≡ Some n
       → ((o r : Opened) → LeavesControls control_loan loan (IsSettingGiven (record { window = window; control = n }) setting) t o c u r d)
       → IsBarSetOver control_loan loan window bar setting t c u d
-  bar_set window bar n setting t u c d is leaves o slots held lists whole controls =
-      let left = leaves o o held (lists_show lists.lists) slots whole controls in (
+  bar_set window bar n setting t u c d is leaves others o slots held lists whole controls =
+      let left = leaves o o held (lists_show others lists.lists) slots whole controls in (
         left.0,
         left.1,
-        subst (λ b. IsBarGiven window b setting (desk_beside control_loan loan t o slots c held lists) (desk_beside control_loan loan u o slots d held lists)) (sym is)
-            (record { windows = left.2.windows; set = λ right. (left.2.put right, record { activity = refl; begun = refl }, refl) }),
+        subst (λ b. IsBarGiven window b setting (desk_beside control_loan loan t others o slots c held lists) (desk_beside control_loan loan u others o slots d held lists)) (sym is)
+            (record { windows = left.2.windows; set = λ right. (left.2.put right, record { activity = refl; begun = refl }, record { lists = refl; others = refl }) }),
       )
 
   -- both bars of a list
@@ -52,12 +52,12 @@ module _ {W : Type 0} {K : W → Type 0} (control_loan : TakenBox W K → Contro
       (window : ℕ) (named : window ≡ l.window) (down across : Setting) (down_is : down ≡ vertical_setting x.kept.cells.rows x.kept.view) (across_is : across ≡ horizontal_setting x.kept.cells.columns x.kept.view) where
     pub bars_set : (t u v : WindowManager V H) (c d e : Controls (TakenBox W K)) → IsBarSetOver control_loan loan window x.kept.vertical down t c u d
         → IsBarSetOver control_loan loan window x.kept.horizontal across u d v e → LeavesLists list_loan loan control_loan (IsWhereRight (AreBarsSet l)) t c m v e m
-    bars_set t u v c d e first second held kept o slots whole controls lists =
-        let once = first o slots held (lists_state list_loan m kept) whole controls in
-        let twice = second o slots held (lists_state list_loan m kept) once.0 once.1 in
-        let before : ListDesk = desk_beside control_loan loan t o slots c held (lists_state list_loan m kept) in
-        let mid : ListDesk = desk_beside control_loan loan u o slots d held (lists_state list_loan m kept) in
-        let after : ListDesk = desk_beside control_loan loan v o slots e held (lists_state list_loan m kept) in
+    bars_set t u v c d e first second held kept others o slots whole controls lists =
+        let once = first others o slots held (lists_state list_loan m kept) whole controls in
+        let twice = second others o slots held (lists_state list_loan m kept) once.0 once.1 in
+        let before : ListDesk = desk_beside control_loan loan t others o slots c held (lists_state list_loan m kept) in
+        let mid : ListDesk = desk_beside control_loan loan u others o slots d held (lists_state list_loan m kept) in
+        let after : ListDesk = desk_beside control_loan loan v others o slots e held (lists_state list_loan m kept) in
         let windows : (desk_of loan v []).windows ≡ (desk_of loan t []).windows = twice.2.windows ∙ once.2.windows in (
           twice.0,
           twice.1,
@@ -78,7 +78,7 @@ module _ {W : Type 0} {K : W → Type 0} (control_loan : TakenBox W K → Contro
   pub kept_then : (window : ℕ) (bar : Option ℕ) (setting : Setting) (t u : WindowManager V H) (c d : Controls (TakenBox W K)) → IsBarSetOver control_loan loan window bar setting t c u d → IsKept loan t → AreControlsBeside control_loan loan t c
       → IsKept loan u × AreControlsBeside control_loan loan u d
   kept_then window bar setting t u c d set kept beside =
-      let left = set (record { activity = Idle; begun = λ p. false }) kept.slots beside.slots (record { lists = []; next = None; stock = [] }) kept.whole beside.whole in
+      let left = set (λ font q p. false) (record { activity = Idle; begun = λ p. false }) kept.slots beside.slots (record { lists = []; next = None; stock = [] }) kept.whole beside.whole in
       (record { slots = kept.slots; whole = left.0 }, record { slots = beside.slots; whole = left.1 })
 
   -- those of a list that stands here, as the code reads it

@@ -53,6 +53,8 @@ use Rattle.window_items.proofs.SerialLemmas.{with_there}
 use Rattle.list_mgr.proofs.Places.{found_names}
 use Rattle.list_mgr.proofs.Steps.{IsTold, list_named, list_there}
 use Rattle.window_items.proofs.EditLemmas.{All-there, edit_alike, edit_nothing, there_edited}
+use Rattle.tb_geom.specs.Points.{PixelSet}
+use Rattle.desk_layers.specs.declared.part.Part.{Part}
 
 pub same_item : (ls : List KeptList) (at : ℕ) (x y : KeptList) → slice_get ls at ≡ Some x → slice_get ls at ≡ Some y → x ≡ y
 same_item ls at x y e f = let both : Some x ≡ Some y = sym e ∙ f in cc
@@ -91,50 +93,51 @@ module _ {V : Type 0} {H : V → Type 0} (loan : TakenBox V H → WindowLoan) {X
   lists_same : (kept : List ListSlot) → lists_state list_loan n kept ≡ lists_state list_loan m kept
   lists_same kept = λ i. record { lists = same i; next = next i; stock = kept }
 
-  pub unchanged_so : (o : Opened) (slots : List WindowSlot) (cs : ControlsState) (kept : List ListSlot)
-      → IsListDeskUnchanged (list_desk list_loan loan t o slots cs m kept) (list_desk list_loan loan t o slots cs n kept)
-  unchanged_so o slots cs kept = record {
+  pub unchanged_so : (others : List ℕ → Part → PixelSet) (o : Opened) (slots : List WindowSlot) (cs : ControlsState) (kept : List ListSlot)
+      → IsListDeskUnchanged (list_desk list_loan loan t others o slots cs m kept) (list_desk list_loan loan t others o slots cs n kept)
+  unchanged_so others o slots cs kept = record {
     desk = record {
-      windows = record { desk = λ i. record (desk_of loan t slots) { shows = controls_show (lists_show (same i)) cs.controls t.font }; stale = λ p on. refl; image = λ p on. refl };
+      windows = record { desk = λ i. record (desk_of loan t slots) { shows = controls_show (lists_show others (same i)) cs.controls t.font }; stale = λ p on. refl; image = λ p on. refl };
       activity = refl;
       begun = refl;
     };
     controls = refl;
     lists = lists_same kept;
+    others = refl;
   }
 
   -- a refused call
   pub refused_over : (call : ListCall) (result : Result ListReply Refusal) (e : Refusal) → result ≡ Err e → IsTold loan list_loan call t m (λ why. first_refusal why ≡ Some e)
       → IsChangedOver list_loan loan (IsListStep call result) t m t n
-  refused_over call result e is why o slots cs kept whole lists = (
+  refused_over call result e is why others o slots cs kept whole lists = (
     whole,
     refl,
     subst (AreWholeLists (desk_of loan t []).windows) (sym (lists_same kept)) lists,
-    subst (λ r. IsListStep call r (list_desk list_loan loan t o slots cs m kept) (list_desk list_loan loan t o slots cs n kept)) (sym is) (inl (why o slots cs kept), unchanged_so o slots cs kept),
+    subst (λ r. IsListStep call r (list_desk list_loan loan t others o slots cs m kept) (list_desk list_loan loan t others o slots cs n kept)) (sym is) (inl (why others o slots cs kept), unchanged_so others o slots cs kept),
   )
 
   -- one for which there was no memory
   pub short_over : (call : ListCall) (result : Result ListReply Refusal) (e : Refusal) → result ≡ Err e → e ≡ NoMemory → ((kept : List ListSlot) → may_list_grow call (lists_state list_loan m kept) ≡ true)
       → IsTold loan list_loan call t m (λ why. first_refusal why ≡ None) → IsChangedOver list_loan loan (IsListStep call result) t m t n
-  short_over call result e is memory grows why o slots cs kept whole lists = (
+  short_over call result e is memory grows why others o slots cs kept whole lists = (
     whole,
     refl,
     subst (AreWholeLists (desk_of loan t []).windows) (sym (lists_same kept)) lists,
-    subst (λ r. IsListStep call r (list_desk list_loan loan t o slots cs m kept) (list_desk list_loan loan t o slots cs n kept)) (sym is)
-        (inr (why o slots cs kept, (grows kept, memory)), unchanged_so o slots cs kept),
+    subst (λ r. IsListStep call r (list_desk list_loan loan t others o slots cs m kept) (list_desk list_loan loan t others o slots cs n kept)) (sym is)
+        (inr (why others o slots cs kept, (grows kept, memory)), unchanged_so others o slots cs kept),
   )
 
   -- so where the screen was right
   pub refused_over_right : (call : ListCall) (result : Result ListReply Refusal) (e : Refusal) → result ≡ Err e → IsTold loan list_loan call t m (λ why. first_refusal why ≡ Some e)
       → IsChangedOver list_loan loan (IsWhereRight (IsListStep call result)) t m t n
-  refused_over_right call result e is why o slots cs kept whole lists =
-      let left = refused_over call result e is why o slots cs kept whole lists in
+  refused_over_right call result e is why others o slots cs kept whole lists =
+      let left = refused_over call result e is why others o slots cs kept whole lists in
       (left.0, left.1, left.2, λ right. left.3)
 
   pub short_over_right : (call : ListCall) (result : Result ListReply Refusal) (e : Refusal) → result ≡ Err e → e ≡ NoMemory → ((kept : List ListSlot) → may_list_grow call (lists_state list_loan m kept) ≡ true)
       → IsTold loan list_loan call t m (λ why. first_refusal why ≡ None) → IsChangedOver list_loan loan (IsWhereRight (IsListStep call result)) t m t n
-  short_over_right call result e is memory grows why o slots cs kept whole lists =
-      let left = short_over call result e is memory grows why o slots cs kept whole lists in
+  short_over_right call result e is memory grows why others o slots cs kept whole lists =
+      let left = short_over call result e is memory grows why others o slots cs kept whole lists in
       (left.0, left.1, left.2, λ right. left.3)
 
 -- ---- a list that was changed
@@ -182,16 +185,16 @@ module _ {V : Type 0} {H : V → Type 0} (loan : TakenBox V H → WindowLoan) {X
         ∙ ap (λ k. holds a.update p || (holds a.visible p && belongs_to (part.List k) w.layers.layers (minus p w.layers.place))) serial,
   )
 
-  pub changed_to : (u : WindowManager V H) (o : Opened) (slots : List WindowSlot) (cs : ControlsState) (kept : List ListSlot)
-      → IsChangedTo l f (list_desk list_loan loan t o slots cs m kept) (list_desk list_loan loan u o slots cs n kept)
-  changed_to u o slots cs kept = record { at = s.list; found = is.list; lists = lists_are kept; beside = record { controls = refl; activity = record { activity = refl; begun = refl } } }
+  pub changed_to : (u : WindowManager V H) (others : List ℕ → Part → PixelSet) (o : Opened) (slots : List WindowSlot) (cs : ControlsState) (kept : List ListSlot)
+      → IsChangedTo l f (list_desk list_loan loan t others o slots cs m kept) (list_desk list_loan loan u others o slots cs n kept)
+  changed_to u others o slots cs kept = record { at = s.list; found = is.list; lists = lists_are kept; beside = record { controls = refl; others = refl; activity = record { activity = refl; begun = refl } } }
 
   -- it was marked where its drawing is off and something of it changes
   pub marked_over : (within : Rect) (update : Pixels) (changes : Bool) → IsMark list_loan loan t m s (Some update) → ((x : KeptList) → slice_get (records_of list_loan m) s.list ≡ Some x → IsSameOrNot changes (f x) x)
       → (u : WindowManager V H) → IsShownOrMarked list_loan loan within (Some update) changes s n t u → IsChangedOver list_loan loan (IsListChanged l f) t m u n
-  marked_over within update true ((x, there, off), region) agree u marked o slots cs kept whole lists =
-      let was = controls_show (lists_show (records_of list_loan m)) cs.controls in
-      let now = controls_show (lists_show (records_of list_loan n)) cs.controls in
+  marked_over within update true ((x, there, off), region) agree u marked others o slots cs kept whole lists =
+      let was = controls_show (lists_show others (records_of list_loan m)) cs.controls in
+      let now = controls_show (lists_show others (records_of list_loan n)) cs.controls in
       let left = marked (f x) (there_after x there) was now slots whole in
       let names = found_names l.window l.list s.list (records_of list_loan m) x is.list there in
       let windows : (desk_of loan u []).windows ≡ (desk_of loan t []).windows = ap (λ (d : FullDesk). d.windows) left.1.desk in
@@ -204,33 +207,33 @@ module _ {V : Type 0} {H : V → Type 0} (loan : TakenBox V H → WindowLoan) {X
         (
           x,
           list_named loan list_loan l t m s is x there,
-          subst (λ b. IsSeenOrNot b l f x (list_desk list_loan loan t o slots cs m kept) (list_desk list_loan loan u o slots cs n kept)) (sym off)
-              (inr (agree x there, record { changed = changed_to u o slots cs kept; marked = its_mark; shows = refl })),
+          subst (λ b. IsSeenOrNot b l f x (list_desk list_loan loan t others o slots cs m kept) (list_desk list_loan loan u others o slots cs n kept)) (sym off)
+              (inr (agree x there, record { changed = changed_to u others o slots cs kept; marked = its_mark; shows = refl })),
         ),
       )
-  marked_over within update false ((x, there, off), region) agree u same o slots cs kept whole lists =
+  marked_over within update false ((x, there, off), region) agree u same others o slots cs kept whole lists =
       subst (λ v. IsWholeManager loan v slots × ((desk_of loan v []).windows ≡ (desk_of loan t []).windows) × AreWholeLists (desk_of loan v []).windows (lists_state list_loan n kept)
-      × IsListChanged l f (list_desk list_loan loan t o slots cs m kept) (list_desk list_loan loan v o slots cs n kept)) (sym same) (
+      × IsListChanged l f (list_desk list_loan loan t others o slots cs m kept) (list_desk list_loan loan v others o slots cs n kept)) (sym same) (
         whole,
         refl,
         whole_after (desk_of loan t []).windows kept lists,
         (
           x,
           list_named loan list_loan l t m s is x there,
-          subst (λ b. IsSeenOrNot b l f x (list_desk list_loan loan t o slots cs m kept) (list_desk list_loan loan t o slots cs n kept)) (sym off)
-              (inl (agree x there, unchanged_so loan list_loan t m n (edited ∙ edit_nothing f s.list (records_of list_loan m) agree) next o slots cs kept)),
+          subst (λ b. IsSeenOrNot b l f x (list_desk list_loan loan t others o slots cs m kept) (list_desk list_loan loan t others o slots cs n kept)) (sym off)
+              (inl (agree x there, unchanged_so loan list_loan t m n (edited ∙ edit_nothing f s.list (records_of list_loan m) agree) next others o slots cs kept)),
         ),
       )
 
   -- it was shown anew where the screen was right, or marked where its drawing is off and something of it changes
   pub changed_over : (within : Rect) → ((x : KeptList) → slice_get (records_of list_loan m) s.list ≡ Some x → IsSettledList x → IsSameOutside within x (f x)) → (mark : Option Pixels) (changes : Bool) → IsMark list_loan loan t m s mark → ((x : KeptList) → slice_get (records_of list_loan m) s.list ≡ Some x → IsSameOrNot changes (f x) x)
       → (u : WindowManager V H) → IsShownOrMarked list_loan loan within mark changes s n t u → IsChangedOver list_loan loan (IsWhereRight (IsListChanged l f)) t m u n
-  changed_over within outside (Some update) changes mark agree u marked o slots cs kept whole lists =
-      let left = marked_over within update changes mark agree u marked o slots cs kept whole lists in
+  changed_over within outside (Some update) changes mark agree u marked others o slots cs kept whole lists =
+      let left = marked_over within update changes mark agree u marked others o slots cs kept whole lists in
       (left.0, left.1, left.2, λ right. left.3)
-  changed_over within outside None changes (x, there, on) agree u shown o slots cs kept whole lists =
-      let was = controls_show (lists_show (records_of list_loan m)) cs.controls in
-      let now = controls_show (lists_show (records_of list_loan n)) cs.controls in
+  changed_over within outside None changes (x, there, on) agree u shown others o slots cs kept whole lists =
+      let was = controls_show (lists_show others (records_of list_loan m)) cs.controls in
+      let now = controls_show (lists_show others (records_of list_loan n)) cs.controls in
       let left = shown (f x) (there_after x there) was now (λ p. refl) slots whole in
       let names = found_names l.window l.list s.list (records_of list_loan m) x is.list there in
       let windows : (desk_of loan u []).windows ≡ (desk_of loan t []).windows = ap (λ (d : FullDesk). d.windows) left.1.desk in
@@ -250,8 +253,8 @@ module _ {V : Type 0} {H : V → Type 0} (loan : TakenBox V H → WindowLoan) {X
         λ right. (
           x,
           list_named loan list_loan l t m s is x there,
-          subst (λ b. IsSeenOrNot b l f x (list_desk list_loan loan t o slots cs m kept) (list_desk list_loan loan u o slots cs n kept)) (sym on)
-              (record { changed = changed_to u o slots cs kept; redrawn = redrawn right; shows = refl }),
+          subst (λ b. IsSeenOrNot b l f x (list_desk list_loan loan t others o slots cs m kept) (list_desk list_loan loan u others o slots cs n kept)) (sym on)
+              (record { changed = changed_to u others o slots cs kept; redrawn = redrawn right; shows = refl }),
         ),
       )
 
@@ -265,26 +268,26 @@ grows_off loan list_loan l t m s is (x, there, off) kept =
 -- what a call leaves is a step of another kind as well
 pub changed_as : {V : Type 0} {H : V → Type 0} (loan : TakenBox V H → WindowLoan) {X : Type 0} {L : X → Type 0} (list_loan : TakenBox X L → ListLoan)
     (t u : WindowManager V H) (m n : Lists (TakenBox X L)) (P Q : ListDesk → ListDesk → Type 0)
-    → ((o : Opened) (slots : List WindowSlot) (cs : ControlsState) (kept : List ListSlot) → P (list_desk list_loan loan t o slots cs m kept) (list_desk list_loan loan u o slots cs n kept)
-    → Q (list_desk list_loan loan t o slots cs m kept) (list_desk list_loan loan u o slots cs n kept))
+    → ((others : List ℕ → Part → PixelSet) (o : Opened) (slots : List WindowSlot) (cs : ControlsState) (kept : List ListSlot) → P (list_desk list_loan loan t others o slots cs m kept) (list_desk list_loan loan u others o slots cs n kept)
+    → Q (list_desk list_loan loan t others o slots cs m kept) (list_desk list_loan loan u others o slots cs n kept))
     → IsChangedOver list_loan loan P t m u n → IsChangedOver list_loan loan Q t m u n
-changed_as loan list_loan t u m n P Q same over o slots cs kept whole lists = again (over o slots cs kept whole lists)
+changed_as loan list_loan t u m n P Q same over others o slots cs kept whole lists = again (over others o slots cs kept whole lists)
   where
     again : IsWholeManager loan u slots × ((desk_of loan u []).windows ≡ (desk_of loan t []).windows) × AreWholeLists (desk_of loan u []).windows (lists_state list_loan n kept)
-        × P (list_desk list_loan loan t o slots cs m kept) (list_desk list_loan loan u o slots cs n kept)
+        × P (list_desk list_loan loan t others o slots cs m kept) (list_desk list_loan loan u others o slots cs n kept)
         → IsWholeManager loan u slots × ((desk_of loan u []).windows ≡ (desk_of loan t []).windows) × AreWholeLists (desk_of loan u []).windows (lists_state list_loan n kept)
-        × Q (list_desk list_loan loan t o slots cs m kept) (list_desk list_loan loan u o slots cs n kept)
-    again (a, b, c, p) = (a, b, c, same o slots cs kept p)
+        × Q (list_desk list_loan loan t others o slots cs m kept) (list_desk list_loan loan u others o slots cs n kept)
+    again (a, b, c, p) = (a, b, c, same others o slots cs kept p)
 
 -- so where the screen was right
 pub right_as : {V : Type 0} {H : V → Type 0} (loan : TakenBox V H → WindowLoan) {X : Type 0} {L : X → Type 0} (list_loan : TakenBox X L → ListLoan)
     (t u : WindowManager V H) (m n : Lists (TakenBox X L)) (P Q : ListDesk → ListDesk → Type 0)
-    → ((o : Opened) (slots : List WindowSlot) (cs : ControlsState) (kept : List ListSlot) → P (list_desk list_loan loan t o slots cs m kept) (list_desk list_loan loan u o slots cs n kept)
-    → Q (list_desk list_loan loan t o slots cs m kept) (list_desk list_loan loan u o slots cs n kept))
+    → ((others : List ℕ → Part → PixelSet) (o : Opened) (slots : List WindowSlot) (cs : ControlsState) (kept : List ListSlot) → P (list_desk list_loan loan t others o slots cs m kept) (list_desk list_loan loan u others o slots cs n kept)
+    → Q (list_desk list_loan loan t others o slots cs m kept) (list_desk list_loan loan u others o slots cs n kept))
     → IsChangedOver list_loan loan (IsWhereRight P) t m u n → IsChangedOver list_loan loan (IsWhereRight Q) t m u n
-right_as loan list_loan t u m n P Q same = changed_as loan list_loan t u m n (IsWhereRight P) (IsWhereRight Q) (λ o slots cs kept made right. same o slots cs kept (made right))
+right_as loan list_loan t u m n P Q same = changed_as loan list_loan t u m n (IsWhereRight P) (IsWhereRight Q) (λ others o slots cs kept made right. same others o slots cs kept (made right))
 
 -- what is made, also where the screen was right
 pub over_right : {V : Type 0} {H : V → Type 0} (loan : TakenBox V H → WindowLoan) {X : Type 0} {L : X → Type 0} (list_loan : TakenBox X L → ListLoan)
     (t u : WindowManager V H) (m n : Lists (TakenBox X L)) (P : ListDesk → ListDesk → Type 0) → IsChangedOver list_loan loan P t m u n → IsChangedOver list_loan loan (IsWhereRight P) t m u n
-over_right loan list_loan t u m n P = changed_as loan list_loan t u m n P (IsWhereRight P) (λ o slots cs kept made right. made)
+over_right loan list_loan t u m n P = changed_as loan list_loan t u m n P (IsWhereRight P) (λ others o slots cs kept made right. made)

@@ -61,43 +61,43 @@ a_word (negsuc n) h = absurd h
 module _ {V : Type 0} {H : V → Type 0} (loan : TakenBox V H → WindowLoan) {X : Type 0} {L : X → Type 0} (list_loan : TakenBox X L → ListLoan)
     (k : ListClick) (t : WindowManager V H) (m : Lists (TakenBox X L)) where
   -- what is looked at where nothing is missing
-  abbrev others : List (Bool × Refusal)
-  others = (not (in_plane k.point), OutOfRange) ∷ (not (is_word k.modifiers), OutOfRange) ∷ []
+  abbrev of_click : List (Bool × Refusal)
+  of_click = (not (in_plane k.point), OutOfRange) ∷ (not (is_word k.modifiers), OutOfRange) ∷ []
 
   pub click_missing : (e : Refusal) → first_refusal (missing_refusals k.list (desk_of loan t []) (records_of list_loan m)) ≡ Some e → IsTold loan list_loan (asks.Click k) t m (λ why. first_refusal why ≡ Some e)
-  click_missing e h o slots cs kept = first_of (missing_refusals k.list (desk_of loan t []) (records_of list_loan m)) others e h
+  click_missing e h others o slots cs kept = first_of (missing_refusals k.list (desk_of loan t []) (records_of list_loan m)) of_click e h
 
   module _ (s : ListAt) (is : IsSpotOf loan list_loan k.list t m s) where
     pub click_outside : in_plane k.point ≡ false → IsTold loan list_loan (asks.Click k) t m (λ why. first_refusal why ≡ Some OutOfRange)
-    click_outside out o slots cs kept =
-        other_reasons loan list_loan k.list t m s is others ∙ ap (λ b. if not b then Some OutOfRange else first_refusal ((not (is_word k.modifiers), OutOfRange) ∷ [])) out
+    click_outside out others o slots cs kept =
+        other_reasons loan list_loan k.list t m s is of_click ∙ ap (λ b. if not b then Some OutOfRange else first_refusal ((not (is_word k.modifiers), OutOfRange) ∷ [])) out
 
     pub click_no_word : in_plane k.point ≡ true → is_word k.modifiers ≡ false → IsTold loan list_loan (asks.Click k) t m (λ why. first_refusal why ≡ Some OutOfRange)
-    click_no_word inside none o slots cs kept =
-        other_reasons loan list_loan k.list t m s is others
+    click_no_word inside none others o slots cs kept =
+        other_reasons loan list_loan k.list t m s is of_click
         ∙ first_fails (not (in_plane k.point)) OutOfRange ((not (is_word k.modifiers), OutOfRange) ∷ []) (ap not inside)
         ∙ one_holds (not (is_word k.modifiers)) OutOfRange (ap not none)
 
     pub click_free : in_plane k.point ≡ true → is_word k.modifiers ≡ true → IsTold loan list_loan (asks.Click k) t m (λ why. first_refusal why ≡ None)
-    click_free inside word o slots cs kept =
-        other_reasons loan list_loan k.list t m s is others
+    click_free inside word others o slots cs kept =
+        other_reasons loan list_loan k.list t m s is of_click
         ∙ first_fails (not (in_plane k.point)) OutOfRange ((not (is_word k.modifiers), OutOfRange) ∷ []) (ap not inside)
         ∙ one_fails (not (is_word k.modifiers)) OutOfRange (ap not word)
 
     module _ (x : Item (ListRecord (TakenBox X L))) (read : x ≡ get_or m.list.items.items s.list x) (inside : in_plane k.point ≡ true) (word : is_word k.modifiers ≡ true) where
       -- on no cell
       pub clicked_none : clicked_at k (seen list_loan x) ≡ None → IsChangedOver list_loan loan (IsListStep (asks.Click k) (Ok (reply.Clicked false))) t m t m
-      clicked_none none o slots cs kept whole lists = (
+      clicked_none none others o slots cs kept whole lists = (
         whole,
         refl,
         lists,
         (
-          click_free inside word o slots cs kept,
+          click_free inside word others o slots cs kept,
           (
             seen list_loan x,
             list_named loan list_loan k.list t m s is (seen list_loan x) (list_read loan list_loan k.list t m s is x read),
-            subst (λ c. IsClickOn k c (reply.Clicked false) (list_desk list_loan loan t o slots cs m kept) (list_desk list_loan loan t o slots cs m kept)) (sym none)
-                (refl, unchanged loan list_loan t o slots cs m kept),
+            subst (λ c. IsClickOn k c (reply.Clicked false) (list_desk list_loan loan t others o slots cs m kept) (list_desk list_loan loan t others o slots cs m kept)) (sym none)
+                (refl, unchanged loan list_loan t others o slots cs m kept),
           ),
         ),
       )
@@ -108,12 +108,12 @@ module _ {V : Type 0} {H : V → Type 0} (loan : TakenBox V H → WindowLoan) {X
           → IsChangedOver list_loan loan (IsListStep (asks.Click k) (Ok (reply.Clicked true))) t m u n
       clicked_on cell some u n changed =
           changed_as loan list_loan t u m n (IsSelectionChanged k.list (λ (flags : SelectionFlags). clicked_cell flags (keys_of (nat_abs k.modifiers)) cell)) (IsListStep (asks.Click k) (Ok (reply.Clicked true)))
-          (λ o slots cs kept done. (
-            click_free inside word o slots cs kept,
+          (λ others o slots cs kept done. (
+            click_free inside word others o slots cs kept,
             (
               seen list_loan x,
               list_named loan list_loan k.list t m s is (seen list_loan x) (list_read loan list_loan k.list t m s is x read),
-              subst (λ c. IsClickOn k c (reply.Clicked true) (list_desk list_loan loan t o slots cs m kept) (list_desk list_loan loan u o slots cs n kept)) (sym some) (refl, done),
+              subst (λ c. IsClickOn k c (reply.Clicked true) (list_desk list_loan loan t others o slots cs m kept) (list_desk list_loan loan u others o slots cs n kept)) (sym some) (refl, done),
             ),
           ))
           changed

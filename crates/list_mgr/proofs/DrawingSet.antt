@@ -27,6 +27,7 @@ use Rattle.list_mgr.specs.WholeLists.{IsChangedOver, IsSettledList, records_of}
 use Rattle.list_mgr.proofs.Changed.{changed_to, whole_after}
 use Rattle.list_mgr.proofs.Edited.{Keeps}
 use Rattle.list_mgr.proofs.Steps.{nothing_missing}
+use Rattle.tb_geom.specs.Points.{PixelSet}
 
 module _ (b : Bool) where
   len_edit : (n i : ℕ) (xs : List KeptList) → position_or_len (has_serial n) (edit_at (with_drawing b) i xs) ≡ position_or_len (has_serial n) xs
@@ -50,10 +51,11 @@ module _ (b : Bool) where
   at_place font i xs (Some j) p = bit_edit font i xs j p
 
   -- lists show what they showed
-  pub shows_edit : (i : ℕ) (xs : List KeptList) (font : List ℕ) (q : Part) (p : Point) → lists_show (edit_at (with_drawing b) i xs) font q p ≡ lists_show xs font q p
-  shows_edit i xs font part.Picture p = refl
-  shows_edit i xs font (part.Control n) p = refl
-  shows_edit i xs font (part.List n) p =
+  pub shows_edit : (others : List ℕ → Part → PixelSet) (i : ℕ) (xs : List KeptList) (font : List ℕ) (q : Part) (p : Point) → lists_show others (edit_at (with_drawing b) i xs) font q p ≡ lists_show others xs font q p
+  shows_edit others i xs font part.Picture p = refl
+  shows_edit others i xs font (part.Control n) p = refl
+  shows_edit others i xs font (part.Text n) p = refl
+  shows_edit others i xs font (part.List n) p =
       ap (λ o. list_bit font (option_and_then (slice_get (edit_at (with_drawing b) i xs)) o) p) (place_edit n i xs) ∙ at_place font i xs (position (has_serial n) xs) p
 
   drawing_keeps : Keeps (with_drawing b)
@@ -63,25 +65,26 @@ module _ (b : Bool) where
   drawing_stays x settled = record { live = settled.live; told = settled.told; goes_by = settled.goes_by; view = settled.view; grid = settled.grid; short = settled.short; scrolled = settled.scrolled; single = settled.single }
 
 -- and so do controls and lists together
-both_show : (cs : List ControlRecord) (xs ys : List KeptList) (font : List ℕ) → ((q : Part) (p : Point) → lists_show ys font q p ≡ lists_show xs font q p)
-    → (q : Part) (p : Point) → controls_show (lists_show ys) cs font q p ≡ controls_show (lists_show xs) cs font q p
-both_show cs xs ys font same part.Picture p = same part.Picture p
-both_show cs xs ys font same (part.Control n) p = refl
-both_show cs xs ys font same (part.List n) p = same (part.List n) p
+both_show : (others : List ℕ → Part → PixelSet) (cs : List ControlRecord) (xs ys : List KeptList) (font : List ℕ) → ((q : Part) (p : Point) → lists_show others ys font q p ≡ lists_show others xs font q p)
+    → (q : Part) (p : Point) → controls_show (lists_show others ys) cs font q p ≡ controls_show (lists_show others xs) cs font q p
+both_show others cs xs ys font same part.Picture p = same part.Picture p
+both_show others cs xs ys font same (part.Control n) p = refl
+both_show others cs xs ys font same (part.List n) p = same (part.List n) p
+both_show others cs xs ys font same (part.Text n) p = same (part.Text n) p
 
 module _ {V : Type 0} {H : V → Type 0} (loan : TakenBox V H → WindowLoan) {X : Type 0} {L : X → Type 0} (list_loan : TakenBox X L → ListLoan)
     (t : WindowManager V H) (m n : Lists (TakenBox X L)) (d : ListDrawing) (s : ListAt) (is : IsSpotOf loan list_loan d.list t m s)
     (edited : records_of list_loan n ≡ edit_at (with_drawing d.drawing) s.list (records_of list_loan m)) (next : n.list.next ≡ m.list.next) where
-  shows : (cs : List ControlRecord) (q : Part) (p : Point) → controls_show (lists_show (records_of list_loan n)) cs t.font q p ≡ controls_show (lists_show (records_of list_loan m)) cs t.font q p
-  shows cs q p =
-      both_show cs (records_of list_loan m) (records_of list_loan n) t.font
-      (λ q p. ap (λ ls. lists_show ls t.font q p) edited ∙ shows_edit d.drawing s.list (records_of list_loan m) t.font q p) q p
+  shows : (others : List ℕ → Part → PixelSet) (cs : List ControlRecord) (q : Part) (p : Point) → controls_show (lists_show others (records_of list_loan n)) cs t.font q p ≡ controls_show (lists_show others (records_of list_loan m)) cs t.font q p
+  shows others cs q p =
+      both_show others cs (records_of list_loan m) (records_of list_loan n) t.font
+      (λ q p. ap (λ ls. lists_show others ls t.font q p) edited ∙ shows_edit d.drawing others s.list (records_of list_loan m) t.font q p) q p
 
   stays : (x : KeptList) → slice_get (records_of list_loan m) s.list ≡ Some x → IsSettledList x → IsSettledList (with_drawing d.drawing x)
   stays x there = drawing_stays d.drawing x
 
   pub drawing_set : IsChangedOver list_loan loan (IsListStep (asks.SetDrawing d) (Ok reply.Done)) t m t n
-  drawing_set o slots cs kept whole lists =
+  drawing_set others o slots cs kept whole lists =
       let keeps = drawing_keeps d.drawing in (
         whole,
         refl,
@@ -90,9 +93,9 @@ module _ {V : Type 0} {H : V → Type 0} (loan : TakenBox V H → WindowLoan) {X
           nothing_missing loan list_loan d.list t m s is,
           (
             refl,
-            changed_to loan list_loan d.list t m n s is (with_drawing d.drawing) keeps edited next stays t o slots cs kept,
+            changed_to loan list_loan d.list t m n s is (with_drawing d.drawing) keeps edited next stays t others o slots cs kept,
             record {
-              windows = record { desk = λ i. record (desk_of loan t slots) { shows = λ q p. shows cs.controls q p i }; stale = λ p on. refl; image = λ p on. refl };
+              windows = record { desk = λ i. record (desk_of loan t slots) { shows = λ q p. shows others cs.controls q p i }; stale = λ p on. refl; image = λ p on. refl };
               activity = refl;
               begun = refl;
             },

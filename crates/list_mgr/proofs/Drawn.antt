@@ -17,6 +17,7 @@ use Rattle.desk_layers.specs.declared.part.Part.{Part}
 use Rattle.desk_layers.specs.declared.part.Part.TheVariants as part
 use Rattle.def_iface.specs.ControlMeaning.{is_control_extent, is_control_size}
 use Rattle.def_iface.specs.ListMeaning.{ListLoan}
+use Rattle.window_paint.specs.White.{all_white}
 use Rattle.control_mgr.proofs.Places.{get_is}
 use Rattle.list_mgr.specs.ListDesks.{KeptList, list_bit, lists_show}
 use Rattle.list_mgr.specs.WholeLists.{AreSettled, IsSettledList}
@@ -69,20 +70,21 @@ module _ {B : Type 0} (meaning : B → ListLoan) where
 
   -- a list shows its cells
   pub found_shows : (font : List ℕ) (xs : List (Item (ListRecord B))) (n at : ℕ) (of : Part) (p : Point) → of ≡ part.List n → Some at ≡ position (has_serial n) xs
-      → list_bit font (slice_get (all_seen meaning xs) at) p ≡ lists_show (all_seen meaning xs) font of p
+      → list_bit font (slice_get (all_seen meaning xs) at) p ≡ lists_show (λ font. all_white) (all_seen meaning xs) font of p
   found_shows font xs n at of p is found =
       let ls = all_seen meaning xs in
-      sym (ap (λ o. lists_show ls font o p) is ∙ ap (λ o. list_bit font (option_and_then (slice_get ls) o) p) (position_seen n xs ∙ sym found))
+      sym (ap (λ o. lists_show (λ font. all_white) ls font o p) is ∙ ap (λ o. list_bit font (option_and_then (slice_get ls) o) p) (position_seen n xs ∙ sym found))
 
   -- one that there is not is white
   pub none_shows : (font : List ℕ) (xs : List (Item (ListRecord B))) (n : ℕ) (of : Part) (p : Point) → of ≡ part.List n → None ≡ position (has_serial n) xs
-      → lists_show (all_seen meaning xs) font of p ≡ false
+      → lists_show (λ font. all_white) (all_seen meaning xs) font of p ≡ false
   none_shows font xs n of p is found =
       let ls = all_seen meaning xs in
-      ap (λ o. lists_show ls font o p) is ∙ ap (λ o. list_bit font (option_and_then (slice_get ls) o) p) (position_seen n xs ∙ sym found)
+      ap (λ o. lists_show (λ font. all_white) ls font o p) is ∙ ap (λ o. list_bit font (option_and_then (slice_get ls) o) p) (position_seen n xs ∙ sym found)
 
   -- so is what is no list
-  pub others_show : (font : List ℕ) (xs : List (Item (ListRecord B))) (of : Part) (p : Point) → ((n : ℕ) → of ≡ part.List n → ⊥) → lists_show (all_seen meaning xs) font of p ≡ false
+  pub others_show : (font : List ℕ) (xs : List (Item (ListRecord B))) (of : Part) (p : Point) → ((n : ℕ) → of ≡ part.List n → ⊥) → lists_show (λ font. all_white) (all_seen meaning xs) font of p ≡ false
   others_show font xs part.Picture p none = refl
   others_show font xs (part.Control n) p none = refl
+  others_show font xs (part.Text n) p none = refl
   others_show font xs (part.List n) p none = absurd (none n refl)

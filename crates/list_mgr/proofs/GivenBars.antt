@@ -113,11 +113,11 @@ KeepsBars f = (x : KeptList) → ((f x).kept.vertical ≡ x.kept.vertical) × ((
 
 bar_set : (window : ℕ) (bar : Option ℕ) (setting : Setting) (before after : ListDesk) → IsBarSet window bar setting before after → after.lists ≡ before.lists
 bar_set window None setting before after same = same.lists
-bar_set window (Some n) setting before after done = done.2
+bar_set window (Some n) setting before after done = done.2.lists
 
 gone_if : (b : Bool) (c : ControlOf) (before after : ListDesk) → IsBarGoneIf b c before after → after.lists ≡ before.lists
 gone_if true c before after same = same.lists
-gone_if false c before after done = done.1
+gone_if false c before after done = done.1.lists
 
 bar_gone : (window : ℕ) (bar : Option ℕ) (before after : ListDesk) → IsBarGone window bar before after → after.lists ≡ before.lists
 bar_gone window None before after same = same.lists
@@ -186,7 +186,7 @@ bar_made false n bar before after (none, same) = (
 bar_made true n bar before after ((c, is, step), lists) =
     let its = (control_facts (control_calls.New n) (Ok (control_reply.Made c)) (with_controls before) (with_controls after) step).1 in
     let same = made_serial c its.0 its.1 in
-    (subst (λ o. IsSerialTaken o before.controls.next after.controls.next) (sym is) (its.2 ∙ ap Some same, its.3 ∙ ap serial_after same), lists)
+    (subst (λ o. IsSerialTaken o before.controls.next after.controls.next) (sym is) (its.2 ∙ ap Some same, its.3 ∙ ap serial_after same), lists.lists)
 
 made : (n : NewList) (serial : ℕ) (before after : ListDesk) → IsFromOne before.controls.next → All (HasGivenBars before.controls.next) before.lists.lists → IsListMade n serial before after
     → AreBarsGiven after.controls.next after.lists.lists

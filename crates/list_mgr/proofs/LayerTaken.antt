@@ -1,5 +1,5 @@
 -- The layer of a list taken out of its window's, and the list out of the list of lists: the others go together as they did.
-use Rattle.std.proofs.Common.{◌≡◌, ℕ, zero, suc, Bool, true, false, not, if◌then◌else◌, List, [], ◌∷◌, Some, refl, sym, ap, ◌∙◌, subst}
+use Rattle.std.proofs.Common.{◌≡◌, ℕ, zero, suc, Bool, true, false, if◌then◌else◌, List, [], ◌∷◌, Some, refl, sym, ap, ◌∙◌, subst}
 use Rattle.std.specs.Prelude.{slice_get}
 use Rattle.std.specs.List.{AllZip, filter, remove}
 use Rattle.std.proofs.lemmas.Bool.{false≢true}
@@ -7,12 +7,11 @@ use Rattle.desk_layers.specs.declared.part.Part.TheVariants as part
 use Rattle.window_list.specs.declared.layer.Layer.{Layer}
 use Rattle.window_items.specs.Items.{is_in_at, items_of, place_among}
 use Rattle.window_items.proofs.WindowLemmas.{items_of-remove, slice_get-items_of}
-use Rattle.desk_call.specs.declared.update.LayerKind.TheVariants.{Controls}
+use Rattle.desk_call.specs.declared.update.LayerKind.TheVariants.{Lists}
 use Rattle.window_paint.specs.Kinds.{is_of}
-use Rattle.control_mgr.specs.ControlSteps.{behind_controls}
 use Rattle.window_items.proofs.SerialLemmas.{apart_among}
 use Rattle.list_mgr.specs.ListDesks.{KeptList}
-use Rattle.list_mgr.specs.ListSteps.{AreListLayers, IsLayerOf}
+use Rattle.list_mgr.specs.ListSteps.{AreListLayers, IsLayerOf, layers_of_lists}
 use Rattle.list_mgr.specs.WholeLists.{AreListsApart}
 use Rattle.list_mgr.proofs.Places.{one_place, with_list}
 
@@ -50,9 +49,9 @@ pub layers_left_are : (ls : List KeptList) (window at : ℕ) (x : KeptList) (ks 
     → AreListLayers (items_of window ls) ks → slice_get ks i ≡ Some k → IsLayerOf x k → AreListLayers (items_of window (remove ls at)) (remove ks i)
 layers_left_are ls window at x ks i k apart here there joined k_there k_is =
     let xs = items_of window ls in
-    let gone = filter_remove (λ (l : Layer). not (is_of Controls l.part)) ks i k k_there (ap (λ q. not (is_of Controls q)) k_is.part) in
-    let its = with_list xs (behind_controls ks) gone.0 k joined gone.1 in
+    let gone = filter_remove (λ (l : Layer). is_of Lists l.part) ks i k k_there (ap (is_of Lists) k_is.part) in
+    let its = with_list xs (layers_of_lists ks) gone.0 k joined gone.1 in
     let same : place_among at ls ≡ gone.0 = one_place xs (place_among at ls) gone.0 x its.0 (apart_among window ls apart) (slice_get-items_of window at ls here ∙ there) its.1 (part_serial x its.0 k k_is its.2) in
-    subst (λ (zs : List KeptList). AllZip IsLayerOf zs (behind_controls (remove ks i))) (sym (items_of-remove window at ls here))
-    (subst (λ (ys : List Layer). AllZip IsLayerOf (remove xs (place_among at ls)) ys) (ap (remove (behind_controls ks)) same ∙ sym gone.2)
-    (zip-remove (place_among at ls) xs (behind_controls ks) joined))
+    subst (λ (zs : List KeptList). AllZip IsLayerOf zs (layers_of_lists (remove ks i))) (sym (items_of-remove window at ls here))
+    (subst (λ (ys : List Layer). AllZip IsLayerOf (remove xs (place_among at ls)) ys) (ap (remove (layers_of_lists ks)) same ∙ sym gone.2)
+    (zip-remove (place_among at ls) xs (layers_of_lists ks) joined))

@@ -24,6 +24,7 @@ pub mod LinesChanged
 pub mod LinesGiven
 pub mod LinesAnswered
 pub mod ListsEnded
+pub mod ListedLayers
 pub mod LayerTaken
 pub mod BarsGone
 pub mod ListsDisposed
@@ -41,6 +42,7 @@ pub mod ListsFollowed
 pub mod ListsSettled
 pub mod ListsSelected
 pub mod ListFacts
+pub mod ListsBeside
 pub mod GivenBars
 pub mod ListsLeft
 pub mod Numbers

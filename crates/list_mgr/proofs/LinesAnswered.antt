@@ -72,8 +72,8 @@ module _ {V : Type 0} {H : V → Type 0} (loan : TakenBox V H → WindowLoan) {X
     -- why a call is refused that is judged by the list
     pub judged : (call : ListCall) (f : KeptList → List (Bool × Refusal)) → ((desk : FullDesk) (cs : ControlsState) (state : ListsState) → list_refusals call desk cs state ≡ list_reasons l f desk state.lists)
         → IsTold loan list_loan call t m (λ why. first_refusal why ≡ first_refusal (f (seen list_loan x)))
-    judged call f same o slots cs kept =
-        ap first_refusal (same (list_desk list_loan loan t o slots cs m kept).desk.windows.desk cs (lists_state list_loan m kept))
+    judged call f same others o slots cs kept =
+        ap first_refusal (same (list_desk list_loan loan t others o slots cs m kept).desk.windows.desk cs (lists_state list_loan m kept))
         ∙ its_reasons loan list_loan l t m s is f (seen list_loan x) (list_read loan list_loan l t m s is x read)
 
     -- an answer that is told of it
@@ -85,8 +85,8 @@ module _ {V : Type 0} {H : V → Type 0} (loan : TakenBox V H → WindowLoan) {X
   module _ (change : LineChange) (axis : LineAxis) (n : ListLines) (t : WindowManager V H) (m : Lists (TakenBox X L)) where
     -- an edit of a list that is missing
     pub edit_missing : (e : Refusal) → first_refusal (missing_refusals n.list (desk_of loan t []) (records_of list_loan m)) ≡ Some e → IsTold loan list_loan (called change axis n) t m (λ why. first_refusal why ≡ Some e)
-    edit_missing e h o slots cs kept =
-        ap first_refusal (edit_reasons change axis n (list_desk list_loan loan t o slots cs m kept).desk.windows.desk cs (lists_state list_loan m kept))
+    edit_missing e h others o slots cs kept =
+        ap first_refusal (edit_reasons change axis n (list_desk list_loan loan t others o slots cs m kept).desk.windows.desk cs (lists_state list_loan m kept))
         ∙ first_of (missing_refusals n.list (desk_of loan t []) (records_of list_loan m)) (of_list (λ y. refusals_of change axis n y.kept.cells) (list_of n.list (records_of list_loan m))) e h
 
     module _ (s : ListAt) (is : IsSpotOf loan list_loan n.list t m s) (x : Item (ListRecord (TakenBox X L))) (read : x ≡ get_or m.list.items.items s.list x) where
@@ -126,7 +126,7 @@ module _ {V : Type 0} {H : V → Type 0} (loan : TakenBox V H → WindowLoan) {X
         → LeavesLists list_loan loan control_loan (IsWhereRight (IsRelined l f)) t c m u d n → LeavesLists list_loan loan control_loan (IsWhereRight (IsListStep call (Ok answer))) t c m u d n
     relined_lines l f answer u d n why effect =
         leaves_as loan list_loan control_loan (IsWhereRight (IsRelined l f)) (IsWhereRight (IsListStep call (Ok answer))) t u m n c d
-        (λ o slots held kept done right. (
-          why o slots (controls_state control_loan c held) kept,
-          effect (list_desk list_loan loan t o slots (controls_state control_loan c held) m kept) (list_desk list_loan loan u o slots (controls_state control_loan d held) n kept) refl (done right),
+        (λ others o slots held kept done right. (
+          why others o slots (controls_state control_loan c held) kept,
+          effect (list_desk list_loan loan t others o slots (controls_state control_loan c held) m kept) (list_desk list_loan loan u others o slots (controls_state control_loan d held) n kept) refl (done right),
         ))

@@ -24,6 +24,7 @@ use Rattle.desk_call.specs.declared.list.ListOf.{ListOf}
 use Rattle.desk_call.specs.declared.list.ListReply.{ListReply}
 use Rattle.desk_call.specs.declared.list.ListReply.TheVariants as reply
 use Rattle.desk_call.specs.declared.list.NewList.{NewList}
+use Rattle.window_list.specs.declared.layer.Layer.{Layer}
 use Rattle.list_cells.specs.declared.cell.Cell.{Cell}
 use Rattle.list_cells.specs.Grids.{Grid}
 use Rattle.window_items.specs.Items.{serial_after}
@@ -126,7 +127,7 @@ rest_of before after width height bar font active next stock = λ i. record {
   stock = stock i;
 }
 
-there_window : (o : Option WindowRecord) → is_none o ≡ false → (w : WindowRecord) × (o ≡ Some w)
+pub there_window : (o : Option WindowRecord) → is_none o ≡ false → (w : WindowRecord) × (o ≡ Some w)
 there_window None e = absurd (cc)
 there_window (Some w) e = (w, refl)
 
@@ -214,7 +215,7 @@ module _ (before after : ListDesk) where
   bar_set : (window : ℕ) (o : Option ℕ) (setting : Setting) → IsBarSet window o setting before after → KeepsNext before after
   bar_set window None setting same = still same
   bar_set window (Some n) setting done =
-      put_at (index_of (record { window = window; control = n }) before.controls.controls) (record { window = window; control = n }) setting done.0 done.1 done.2
+      put_at (index_of (record { window = window; control = n }) before.controls.controls) (record { window = window; control = n }) setting done.0 done.1 done.2.lists
 
   -- a scroll bar was made, if one is wanted
   bar_made : (wanted : Bool) (n : NewControl) (serial : Option ℕ) → IsBarMade wanted n serial before after
@@ -222,17 +223,17 @@ module _ (before after : ListDesk) where
   bar_made false n serial done = let its = still done.1 in (its.beside, its.control, its.list)
   bar_made true n serial ((c, is, step), lists) =
       let next = (control_facts (control_calls.New n) (Ok (control_reply.Made c)) (with_controls before) (with_controls after) step).1 in (
-        by_control (control_calls.New n) (Ok (control_reply.Made c)) step step.1.2.activity lists,
+        by_control (control_calls.New n) (Ok (control_reply.Made c)) step step.1.2.activity lists.lists,
         (next.0, next.2, next.3),
-        ap (λ (s : ListsState). s.next) lists,
+        ap (λ (s : ListsState). s.next) lists.lists,
       )
 
   gone_if : (b : Bool) (c : ControlOf) → IsBarGoneIf b c before after → KeepsNext before after
   gone_if true c same = still same
   gone_if false c done = record {
-    beside = by_control (control_calls.Dispose c) (Ok control_reply.Done) done.0 done.0.1.1.activity done.1;
+    beside = by_control (control_calls.Dispose c) (Ok control_reply.Done) done.0 done.0.1.1.activity done.1.lists;
     control = (control_facts (control_calls.Dispose c) (Ok control_reply.Done) (with_controls before) (with_controls after) done.0).1;
-    list = ap (λ (s : ListsState). s.next) done.1;
+    list = ap (λ (s : ListsState). s.next) done.1.lists;
   }
 
   bar_gone : (window : ℕ) (o : Option ℕ) → IsBarGone window o before after → KeepsNext before after
@@ -240,8 +241,8 @@ module _ (before after : ListDesk) where
   bar_gone window (Some n) done = gone_if (is_none (index_of (record { window = window; control = n }) before.controls.controls)) (record { window = window; control = n }) done
 
   -- windows got other layers
-  laid : (window : ℕ) (afresh : Option Part) → AreLaid window afresh before after → SameActivity before.desk after.desk → after.controls ≡ before.controls → list_kinds_of after.lists ≡ list_kinds_of before.lists → IsBesideLayers before after
-  laid window afresh its activity controls kinds = record {
+  laid : (window : ℕ) (relaid : List Layer → List Layer) (afresh : Option Part) → AreLaid window relaid afresh before after → SameActivity before.desk after.desk → after.controls ≡ before.controls → list_kinds_of after.lists ≡ list_kinds_of before.lists → IsBesideLayers before after
+  laid window relaid afresh its activity controls kinds = record {
     windows = ap (λ (d : FullDesk). map bare d.windows) its.set.desk ∙ bare_laid window its.layers before.desk.windows.desk.windows;
     rest = λ i. record (its.set.desk i) { windows = after.desk.windows.desk.windows; shows = after.desk.windows.desk.shows };
     activity = activity;
@@ -251,11 +252,11 @@ module _ (before after : ListDesk) where
 
   list_put : (n : NewList) (serial : ℕ) (vertical horizontal : Option ℕ) → IsListPut n serial vertical horizontal before after → IsBesideLayers before after
   list_put n serial vertical horizontal put =
-      laid n.window _ put.laid put.beside.activity put.beside.controls (taken_kinds (λ (d : ListDefinition). d.stage) n.kind put.loan before.lists.stock after.lists.stock put.taken)
+      laid n.window _ _ put.laid put.beside.activity put.beside.controls (taken_kinds (λ (d : ListDefinition). d.stage) n.kind put.loan before.lists.stock after.lists.stock put.taken)
 
   list_gone : (l : ListOf) (x : KeptList) → IsListGone l x before after → KeepsNext before after
   list_gone l x gone = record {
-    beside = laid l.window _ gone.laid gone.beside.activity gone.beside.controls
+    beside = laid l.window _ _ gone.laid gone.beside.activity gone.beside.controls
         (back_kinds (record { definition = gone.shut.definition; slot = x.kept.definition.slot }) before.lists.stock after.lists.stock gone.shut.left gone.shut.back);
     control = ap (λ (s : ControlsState). s.next) gone.beside.controls;
     list = ap (λ (s : ListsState). s.next) gone.lists;
@@ -297,7 +298,7 @@ module _ (before after : ListDesk) where
   both its = (its.beside, (its.list, its.control))
 
   -- the window of a list that is not missing is there
-  window_there : (l : ListOf) (rest : List (Bool × Refusal)) → first_refusal (missing_refusals l before.desk.windows.desk before.lists.lists ++ rest) ≡ None → is_missing l.window before.desk.windows.desk.windows ≡ false
+  pub window_there : (l : ListOf) (rest : List (Bool × Refusal)) → first_refusal (missing_refusals l before.desk.windows.desk before.lists.lists ++ rest) ≡ None → is_missing l.window before.desk.windows.desk.windows ≡ false
   window_there l rest none = (none_hold (is_missing l.window before.desk.windows.desk.windows) NoSuchWindow ((is_none (lists.index_of l before.lists.lists), NoSuchList) ∷ []) (front_fails (missing_refusals l before.desk.windows.desk before.lists.lists) rest none)).0
 
   clicked : (k : ListClick) (o : Option Cell) (answer : ListReply) → is_missing k.list.window before.desk.windows.desk.windows ≡ false → IsClickOn k o answer before after → KeepsNext before after

@@ -1,5 +1,5 @@
 -- The layer of a new list, behind all others of its window: that it may be put there, and the plan of it.
-use Rattle.std.proofs.Common.{◌≡◌, ℕ, ◌<◌, ◌≤◌, ◌||◌, Bool, true, false, not, cond, List, [], ◌∷◌, ◌++◌, length, Option, Some, refl, sym, ap, ◌∙◌, subst, arith}
+use Rattle.std.proofs.Common.{◌≡◌, ℕ, ◌<◌, ◌≤◌, ◌||◌, Bool, true, false, cond, List, [], ◌∷◌, ◌++◌, length, Option, Some, refl, sym, ap, ◌∙◌, subst, arith}
 use Rattle.std.specs.Prelude.{All, nat_lt}
 use Rattle.std.specs.List.{AllZip, insert, list_any}
 use Rattle.std.proofs.lemmas.Bool.{and_parts, ltb-true, ne_eqb}
@@ -22,7 +22,7 @@ use Rattle.window_list.specs.Holders.{ArePartsApart, PlacedLayers, fits_at}
 use Rattle.window_items.specs.Items.{are_before, has_serial, items_of}
 use Rattle.list_view.specs.Views.{view_rect}
 use Rattle.desk_call.specs.declared.list.NewList.{NewList}
-use Rattle.desk_call.specs.declared.update.LayerKind.TheVariants.{Controls}
+use Rattle.desk_call.specs.declared.update.LayerKind.TheVariants as kinds
 use Rattle.vis_update.specs.declared.relaying.Relaying.{Relaying}
 use Rattle.window_list.specs.declared.window.Window.{Window}
 use Rattle.window_paint.specs.Kinds.{is_of}
@@ -31,16 +31,16 @@ use Rattle.window_mgr.specs.Edits.{IsWindowAt}
 use Rattle.window_mgr.specs.Kept.{IsKept}
 use Rattle.window_mgr.specs.Relayered.{HasUpdate, IsGainedAt, IsPartAt, IsPlanOfLayers, MayHaveLayers}
 use Rattle.window_mgr.proofs.Contents as contents
-use Rattle.control_mgr.specs.ControlSteps.{behind_controls}
 use Rattle.control_mgr.specs.Planned.{IsLaidSo}
 use Rattle.control_mgr.proofs.LayerIn.{apart_in, low_in, may_in, planned_in}
 use Rattle.control_mgr.proofs.Places.{at_window}
 use Rattle.list_mgr.specs.declared.judging.ListTicket.{ListTicket}
 use Rattle.list_mgr.specs.declared.lists.Lists.{Lists}
 use Rattle.list_mgr.specs.ListDesks.{KeptList}
-use Rattle.list_mgr.specs.ListSteps.{AreListLayers, IsLayerOf}
+use Rattle.list_mgr.specs.ListSteps.{AreListLayers, IsLayerOf, layers_of_lists, with_last}
 use Rattle.list_mgr.specs.Putting.{IsPlace, IsPlanOfList, MayLay}
 use Rattle.list_mgr.specs.WholeLists.{AreBeside, records_of}
+use Rattle.list_mgr.proofs.ListedLayers.{listed_last, no_list}
 use Rattle.window_items.proofs.SerialLemmas.{none_in_window, or_parts}
 
 -- ---- layers of other lists
@@ -54,35 +54,21 @@ none_before s (x ∷ xs) e =
     let rest = none_before s xs parts.1 in
     (λ i. ne_eqb x.serial s (λ same. omega (arith, less, same)) i || rest i)
 
-no_list : (q : Part) (n : ℕ) → is_of Controls q ≡ true → same_part q (part.List n) ≡ false
-no_list part.Picture n e = absurd (cc)
-no_list (part.List m) n e = absurd (cc)
-no_list (part.Control m) n e = refl
-
--- where no list of these has a serial, no layer of theirs has, and no control's
+-- where no list of these has a serial, no layer of theirs has, and no other
 pub none_named : (n : ℕ) (ls : List KeptList) (ks : List Layer) → AreListLayers ls ks → list_any (has_serial n) ls ≡ false → All (λ k. same_part k.part (part.List n) ≡ false) ks
 none_named n ls [] h none = All-nil (λ (k : Layer). same_part k.part (part.List n) ≡ false)
-none_named n ls (k ∷ ks) h none = by_test (is_of Controls k.part) refl ls h none (λ xs. none_named n xs ks)
+none_named n ls (k ∷ ks) h none = by_test (is_of kinds.Lists k.part) refl ls h none (λ xs. none_named n xs ks)
   where
-    by_test : (b : Bool) → is_of Controls k.part ≡ b → (ys : List KeptList) → AllZip IsLayerOf ys (cond (not b) (k ∷ behind_controls ks) (behind_controls ks)) → list_any (has_serial n) ys ≡ false
+    by_test : (b : Bool) → is_of kinds.Lists k.part ≡ b → (ys : List KeptList) → AllZip IsLayerOf ys (cond b (k ∷ layers_of_lists ks) (layers_of_lists ks)) → list_any (has_serial n) ys ≡ false
         → ((xs : List KeptList) → AreListLayers xs ks → list_any (has_serial n) xs ≡ false → All (λ (x : Layer). same_part x.part (part.List n) ≡ false) ks)
         → All (λ (x : Layer). same_part x.part (part.List n) ≡ false) (k ∷ ks)
-    by_test true is ys h none rest = All-cons (λ (x : Layer). same_part x.part (part.List n) ≡ false) k ks (no_list k.part n is) (rest ys h none)
-    by_test false is [] h none rest = absurd h
-    by_test false is (y ∷ ys) h none rest =
+    by_test false is ys h none rest = All-cons (λ (x : Layer). same_part x.part (part.List n) ≡ false) k ks (no_list k.part n is) (rest ys h none)
+    by_test true is [] h none rest = absurd h
+    by_test true is (y ∷ ys) h none rest =
         let both = or_parts (has_serial n y) (list_any (has_serial n) ys) none in
         All-cons (λ (x : Layer). same_part x.part (part.List n) ≡ false) k ks (ap (λ q. same_part q (part.List n)) h.0.part ∙ both.0) (rest ys h.1 both.1)
 
 -- ---- one more behind
-
-pub behind_more : (ls : List Layer) (l : Layer) → is_of Controls l.part ≡ false → behind_controls (insert ls (length ls) l) ≡ behind_controls ls ++ l ∷ []
-behind_more [] l e = ap (λ b. cond (not b) (l ∷ []) []) e
-behind_more (k ∷ ks) l e = by_test (is_of Controls k.part) (behind_more ks l e)
-  where
-    by_test : (b : Bool) → behind_controls (insert ks (length ks) l) ≡ behind_controls ks ++ l ∷ []
-        → cond (not b) (k ∷ behind_controls (insert ks (length ks) l)) (behind_controls (insert ks (length ks) l)) ≡ cond (not b) (k ∷ behind_controls ks) (behind_controls ks) ++ l ∷ []
-    by_test true rest = rest
-    by_test false rest = ap (λ xs. k ∷ xs) rest
 
 zip_more : (xs : List KeptList) (ks : List Layer) (x : KeptList) (k : Layer) → AllZip IsLayerOf xs ks → IsLayerOf x k → AllZip IsLayerOf (xs ++ x ∷ []) (ks ++ k ∷ [])
 zip_more [] [] x k h new = (new, tt)
@@ -91,9 +77,9 @@ zip_more (y ∷ ys) [] x k h new = absurd h
 zip_more (y ∷ ys) (l ∷ ls) x k h new = (h.0, zip_more ys ls x k h.1 new)
 
 -- the layers of lists with that of one more
-pub listed_with : (xs : List KeptList) (ls : List Layer) (x : KeptList) (l : Layer) → AreListLayers xs ls → IsLayerOf x l → AreListLayers (xs ++ x ∷ []) (insert ls (length ls) l)
+pub listed_with : (xs : List KeptList) (ls : List Layer) (x : KeptList) (l : Layer) → AreListLayers xs ls → IsLayerOf x l → AreListLayers (xs ++ x ∷ []) (with_last l ls)
 listed_with xs ls x l h new =
-    subst (AllZip IsLayerOf (xs ++ x ∷ [])) (sym (behind_more ls l (ap (is_of Controls) new.part))) (zip_more xs (behind_controls ls) x l h new)
+    subst (AllZip IsLayerOf (xs ++ x ∷ [])) (sym (listed_last ls l (ap (is_of kinds.Lists) new.part))) (zip_more xs (layers_of_lists ls) x l h new)
 
 -- ---- the plan of it
 

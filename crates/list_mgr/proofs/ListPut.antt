@@ -2,7 +2,7 @@
 use Rattle.std.proofs.Common.{◌≡◌, ℕ, ◌<◌, true, false, not, ◌&&◌, List, [], ◌∷◌, ◌++◌, length, get_or, map, nat_abs, Option, Some, refl, sym, ap, ◌∙◌, subst, arith}
 use Rattle.std.specs.Prelude.{is_none}
 use Rattle.std.specs.List.{insert}
-use Rattle.std.proofs.lemmas.List.Edits.{get_or-insert_at}
+use Rattle.std.proofs.lemmas.List.Edits.{get_or-insert_at, insert_end}
 use Rattle.tb_geom.specs.Points.{PixelSet}
 use Rattle.desk_layers.specs.declared.part.Part.{Part}
 use Rattle.desk_layers.specs.declared.part.Part.TheVariants as part
@@ -27,6 +27,7 @@ use Rattle.desk_call.specs.declared.update.LayerKind.TheVariants.{Controls}
 use Rattle.vis_update.specs.Relayings.{with_layers_of}
 use Rattle.window_list.specs.declared.window.Window.{Window}
 use Rattle.window_paint.specs.Kinds.{is_of}
+use Rattle.window_paint.specs.White.{all_white}
 use Rattle.window_mgr.specs.declared.manager.WindowManager.{WindowManager}
 use Rattle.window_mgr.specs.Edits.{IsWindowAt}
 use Rattle.window_mgr.specs.FullDesk.{FullDesk}
@@ -41,14 +42,14 @@ use Rattle.control_mgr.specs.WholeControls.{AreWholeControls}
 use Rattle.control_mgr.proofs.Edited.{AreNoControls, begin_length}
 use Rattle.control_mgr.proofs.FurtherLayers.{joined_with, whole_set}
 use Rattle.control_mgr.proofs.LayerIn.{one_read}
-use Rattle.control_mgr.proofs.Places.{at_window, read_is, there_is}
+use Rattle.control_mgr.proofs.Places.{at_window, layers_named, read_is, there_is}
 use Rattle.control_mgr.proofs.Reshown.{set_reshown}
 use Rattle.list_mgr.specs.declared.judging.ListTicket.{ListTicket}
 use Rattle.list_mgr.specs.declared.lists.Lists.{Lists}
 use Rattle.list_mgr.specs.declared.planning.Planned.{Planned}
 use Rattle.list_mgr.specs.ListDesks.{KeptList, ListSlot, lists_show}
 use Rattle.list_mgr.specs.ListRefusals.{most_lists, view_of}
-use Rattle.list_mgr.specs.ListSteps.{AreListLayers, IsListPut, new_list}
+use Rattle.list_mgr.specs.ListSteps.{AreListLayers, IsListPut, new_list, with_last}
 use Rattle.list_mgr.specs.Putting.{IsGoodList, IsReadyToPut, LeavesBeside}
 use Rattle.list_mgr.specs.WholeLists.{AreBeside, AreSettled, AreWholeLists, IsSettledList, lists_state, records_of}
 use Rattle.list_mgr.proofs.Drawn.{extent_of}
@@ -99,6 +100,9 @@ module _ {V : Type 0} {H : V → Type 0} (loan : TakenBox V H → WindowLoan) {X
   inserted : layers ≡ insert ready.layers.layers (length ready.layers.layers) own
   inserted = ap (λ (x : PlacedLayers). x.layers) ready.planned.layers ∙ ap (λ i. insert ready.layers.layers i own) ready.planned.index
 
+  appended : layers ≡ with_last own ready.layers.layers
+  appended = inserted ∙ insert_end ready.layers.layers own
+
   -- the part that is drawn afresh
   pub afresh_is : (q : Option Part) → IsPartAt layers (Some p.laid.at) q → q ≡ Some (part.List k.serial)
   afresh_is q h =
@@ -120,28 +124,28 @@ module _ {V : Type 0} {H : V → Type 0} (loan : TakenBox V H → WindowLoan) {X
 
     module _ (u : WindowManager V H) (m' : Lists (TakenBox X L)) (lists_are : records_of list_loan m' ≡ records_of list_loan m ++ one ∷ []) (next_is : m'.list.next ≡ serial_after k.serial)
         (set : (w : Window V H) → IsWindowAt t.windows.records.items k.window w → (q : Option Part) → IsPartAt layers (Some p.laid.at) q → (was : List ℕ → Part → PixelSet) (slots : List WindowSlot) → IsWholeManager loan t slots
-        → IsWholeManager loan u slots × AreLayersSet w.serial layers q (state_showing was (state_of loan t slots)) (state_showing (lists_show (records_of list_loan m')) (state_of loan u slots))) where
+        → IsWholeManager loan u slots × AreLayersSet w.serial layers q (state_showing was (state_of loan t slots)) (state_showing (lists_show (λ font. all_white) (records_of list_loan m')) (state_of loan u slots))) where
       -- what was drawn afresh is the list, which shows the same with the controls and without
-      same_list : (cs : ControlsState) (font : List ℕ) (q : Part) → Some (part.List k.serial) ≡ Some q → (r : _)
-          → lists_show (records_of list_loan m') font q r ≡ controls_show (lists_show (records_of list_loan m')) cs.controls font q r
-      same_list cs font q e r =
+      same_list : (others : List ℕ → Part → PixelSet) (cs : ControlsState) (font : List ℕ) (q : Part) → Some (part.List k.serial) ≡ Some q → (r : _)
+          → lists_show (λ font. all_white) (records_of list_loan m') font q r ≡ controls_show (lists_show others (records_of list_loan m')) cs.controls font q r
+      same_list others cs font q e r =
           let same : part.List k.serial ≡ q = cc in
-          subst (λ x. lists_show (records_of list_loan m') font x r ≡ controls_show (lists_show (records_of list_loan m')) cs.controls font x r) same refl
+          subst (λ x. lists_show (λ font. all_white) (records_of list_loan m') font x r ≡ controls_show (lists_show others (records_of list_loan m')) cs.controls font x r) same refl
 
       pub put_over : (before left : List ListSlot) → IsTaken (λ (d : ListDefinition). d.stage) n.kind (record { definition = old; slot = slot }) before left
           → LeavesBeside list_loan loan before left (IsListPut n k.serial vertical horizontal) t m u m'
-      put_over before left took o slots cs whole controls lists =
+      put_over before left took others o slots cs whole controls lists =
           let windows = there_is t.windows.records.items k.window ready.place.window.0 in
           let w : Window V H = windows.item in
           let lies : IsWindowAt t.windows.records.items k.window w = read_is t.windows.records.items k.window w windows.there in
           let serial : w.serial ≡ n.window = ready.place.window.1 w lies in
           let q : Option Part = Some (part.List k.serial) in
-          let showed : List ℕ → Part → PixelSet = controls_show (lists_show (records_of list_loan m)) cs.controls in
-          let shows : List ℕ → Part → PixelSet = controls_show (lists_show (records_of list_loan m')) cs.controls in
+          let showed : List ℕ → Part → PixelSet = controls_show (lists_show others (records_of list_loan m)) cs.controls in
+          let shows : List ℕ → Part → PixelSet = controls_show (lists_show others (records_of list_loan m')) cs.controls in
           let leaves = set w lies q part_at showed slots whole in
           let sets : AreLayersSet n.window layers q (state_showing showed (state_of loan t slots)) (state_showing shows (state_of loan u slots)) =
-          set_reshown (lists_show (records_of list_loan m')) shows (state_of loan u slots) leaves.0.sound.distinct n.window layers q (state_showing showed (state_of loan t slots)) (same_list cs u.font)
-          (subst (λ s. AreLayersSet s layers q (state_showing showed (state_of loan t slots)) (state_showing (lists_show (records_of list_loan m')) (state_of loan u slots))) serial leaves.1) in
+          set_reshown (lists_show (λ font. all_white) (records_of list_loan m')) shows (state_of loan u slots) leaves.0.sound.distinct n.window layers q (state_showing showed (state_of loan t slots)) (same_list others cs u.font)
+          (subst (λ s. AreLayersSet s layers q (state_showing showed (state_of loan t slots)) (state_showing (lists_show (λ font. all_white) (records_of list_loan m')) (state_of loan u slots))) serial leaves.1) in
           let windows_are : (desk_of loan u []).windows ≡ map (with_layers_of n.window layers) (desk_of loan t []).windows = ap (λ (d : FullDesk). d.windows) sets.desk in
           let there : is_missing n.window (desk_of loan t []).windows ≡ false = ap is_none (found loan t t slots whole k.window n.window w ready.place.window.0 lies serial) in
           let controls_laid : AreLayersOf (items_of n.window cs.controls) layers = laid_controls cs controls w lies in
@@ -165,14 +169,18 @@ module _ {V : Type 0} {H : V → Type 0} (loan : TakenBox V H → WindowLoan) {X
               live = live;
               lists = lists_are;
               next = next_is;
+              layer = own;
+              its = ready.planned.is one refl (sym ready.place.view);
               laid = record {
                 layers = layers;
+                become = layers_named loan t slots whole k.window n.window w ready.place.window.0 lies serial (λ ls. layers ≡ with_last own ls)
+                    (appended ∙ ap (λ (x : PlacedLayers). with_last own x.layers) (sym (ready.lies w lies)));
                 controls = controls_laid;
                 lists = subst (λ xs. AreListLayers (items_of n.window xs) layers) (sym lists_are) lists_laid;
                 set = sets;
                 shows = refl;
               };
-              beside = record { controls = refl; activity = record { activity = refl; begun = refl } };
+              beside = record { controls = refl; others = refl; activity = record { activity = refl; begun = refl } };
             },
           )
         where
@@ -192,5 +200,5 @@ module _ {V : Type 0} {H : V → Type 0} (loan : TakenBox V H → WindowLoan) {X
               subst (λ (x : ℕ × PlacedLayers). AreListLayers (items_of x.0 (records_of list_loan m)) x.1.layers) (λ i. (ready.place.window.1 w lies i, ready.lies w lies i))
               (at_window loan (λ r. AreListLayers (items_of r.serial (records_of list_loan m)) r.layers) t.windows.records.items k.window w ready.place.window.0 lies whole.joined) in
               subst (λ (x : List KeptList × List Layer). AreListLayers x.0 x.1)
-              (λ i. (sym (items_of-push n.window (records_of list_loan m) one (same_number n.window)) i, sym inserted i))
+              (λ i. (sym (items_of-push n.window (records_of list_loan m) one (same_number n.window)) i, sym appended i))
               (listed_with (items_of n.window (records_of list_loan m)) ready.layers.layers one own was (ready.planned.is one refl (sym ready.place.view)))

@@ -38,7 +38,7 @@ use Rattle.control_mgr.proofs.ControlsKept.{control_behind, control_keeps}
 use Rattle.control_mgr.proofs.SerialsFound as controls
 use Rattle.control_mgr.proofs.Sets.{state_of_control}
 use Rattle.control_mgr.proofs.Settled.{changed_alike, whole_put}
-use Rattle.list_mgr.specs.ListDesks.{KeptList, ListDesk, ListsState, list_of, lists_show, with_controls}
+use Rattle.list_mgr.specs.ListDesks.{KeptList, ListDesk, ListsState, list_bit, list_of, lists_show, with_controls, with_serial}
 use Rattle.list_mgr.specs.ListSteps.{AreBarsSet, IsBarGone, IsBarGoneIf, IsBarMade, IsBarSet, IsRelined, SameLists}
 use Rattle.list_mgr.specs.WholeLists.{AreWholeLists, IsSettledList}
 use Rattle.list_mgr.proofs.BarSettings.{bar_may}
@@ -62,7 +62,7 @@ module _ (before after : ListDesk) (was : IsRightLists before) where
 
   -- ---- a bar that was set
 
-  module _ (c : ControlOf) (setting : Setting) (may : MayHaveSetting setting) (done : IsShownAnew c (with_values setting) (with_controls before) (with_controls after)) (same : after.lists ≡ before.lists) where
+  module _ (c : ControlOf) (setting : Setting) (may : MayHaveSetting setting) (done : IsShownAnew c (with_values setting) (with_controls before) (with_controls after)) (same : SameLists before after) where
     abbrev d : FullDesk
     d = before.desk.windows.desk
 
@@ -112,10 +112,10 @@ module _ (before after : ListDesk) (was : IsRightLists before) where
         sound = record {
           desk = distinct;
           kept = λ p on content fresh taken put redrawn there.
-              same_own (lists_show before.lists.lists) (lists_show after.lists.lists) d e before.controls.controls after.controls.controls was.desk.shows done.shows (ap (λ (x : FullDesk). x.font) done.redrawn.desk)
+              same_own (lists_show before.others before.lists.lists) (lists_show after.others after.lists.lists) d e before.controls.controls after.controls.controls was.desk.shows done.shows (ap (λ (x : FullDesk). x.font) done.redrawn.desk)
               (ap (map bare) windows_are) was.desk.whole.joined controls_are.joined (λ o. same_owner o (Content c.window (part.Control c.control)))
               (controls.stay_edited c (with_values setting) (λ x. refl) (with_controls before) (with_controls after) was.desk.whole.apart done.changed)
-              (λ s n q was_by now_by other r. ap (λ (x : ListsState). lists_show x.lists d.font (part.List n) r) same)
+              (λ s n q was_by now_by other r. ap (λ (x : ListsState). list_bit d.font (with_serial n x.lists) r) same.lists) (λ s n q was_by now_by other r. ap (λ f. f d.font (part.Text n) r) same.others)
               p (owner (layered_desk e) p) was.desk.right.plain.desk distinct (its_owner p there) refl content redrawn;
           right = λ p on taken. absurd (cc);
         }
@@ -123,7 +123,7 @@ module _ (before after : ListDesk) (was : IsRightLists before) where
     pub set_keeps : IsRightLists after
     set_keeps = record {
       desk = record { right = set_right; shows = done.shows; whole = controls_are };
-      lists = same_whole before after was.lists windows_are same;
+      lists = same_whole before after was.lists windows_are same.lists;
     }
 
   -- ---- each bar
@@ -142,7 +142,8 @@ module _ (before after : ListDesk) (was : IsRightLists before) where
           begun = activity.begun;
         };
         controls = same.controls;
-        lists = lists;
+        lists = lists.lists;
+        others = lists.others;
       })
   put_at_keeps (Some at) c setting may done activity lists = set_keeps c setting may done lists
 
@@ -154,7 +155,7 @@ module _ (before after : ListDesk) (was : IsRightLists before) where
 
   gone_if_keeps : (b : Bool) (c : ControlOf) → IsBarGoneIf b c before after → IsRightLists after
   gone_if_keeps true c same = unchanged_keeps before after was same
-  gone_if_keeps false c done = step_keeps (control_calls.Dispose c) (Ok control_reply.Done) done.0 done.1
+  gone_if_keeps false c done = step_keeps (control_calls.Dispose c) (Ok control_reply.Done) done.0 done.1.lists
 
   -- a bar was disposed of, where the window has it still
   pub bar_gone_keeps : (window : ℕ) (o : Option ℕ) → IsBarGone window o before after → IsRightLists after
@@ -164,12 +165,12 @@ module _ (before after : ListDesk) (was : IsRightLists before) where
   -- a bar was made, where one is wanted
   pub bar_made_keeps : (wanted : Bool) (n : NewControl) (serial : Option ℕ) → IsBarMade wanted n serial before after → IsRightLists after
   bar_made_keeps false n serial done = unchanged_keeps before after was done.1
-  bar_made_keeps true n serial done = step_keeps (control_calls.New n) (Ok (control_reply.Made done.0.0)) done.0.2 done.1
+  bar_made_keeps true n serial done = step_keeps (control_calls.New n) (Ok (control_reply.Made done.0.0)) done.0.2 done.1.lists
 
   -- a control that is made leaves the lists
   pub bar_made_lists : (wanted : Bool) (n : NewControl) (serial : Option ℕ) → IsBarMade wanted n serial before after → after.lists ≡ before.lists
   bar_made_lists false n serial done = done.1.lists
-  bar_made_lists true n serial done = done.1
+  bar_made_lists true n serial done = done.1.lists
 
   -- the windows that are missing are so before and after
   pub bar_made_missing : (wanted : Bool) (n : NewControl) (serial : Option ℕ) → IsBarMade wanted n serial before after → (s : ℕ)

@@ -8,6 +8,7 @@ use Rattle.tb_geom.specs.Points.{PixelSet, minus}
 use Rattle.tb_geom.specs.Pixels.{Pixels, holds}
 use Rattle.window_items.specs.Items.{items_of, is_in_at}
 use Rattle.desk_layers.specs.declared.part.Part.{Part}
+use Rattle.desk_layers.specs.declared.part.Part.TheVariants as part
 use Rattle.def_iface.specs.Slots.{TakenBox}
 use Rattle.def_iface.specs.ControlMeaning.{ControlLoan}
 use Rattle.def_iface.specs.ListMeaning.{ListLoan}
@@ -52,7 +53,7 @@ use Rattle.control_mgr.specs.WholeControls.{AreBeside, AreWholeControls, control
 use Rattle.control_mgr.proofs.FurtherLayers.{joined_without, whole_set}
 use Rattle.control_mgr.proofs.LaidSo.{laid_now}
 use Rattle.control_mgr.proofs.LayerOut as out
-use Rattle.control_mgr.proofs.Places.{at_window, read_is, there_is}
+use Rattle.control_mgr.proofs.Places.{at_window, layers_named, read_is, there_is}
 use Rattle.control_mgr.proofs.PlannedNext.{apart_left, ending_after, ending_left}
 use Rattle.control_mgr.proofs.Reshown.{set_reshown}
 use Rattle.list_mgr.specs.declared.lists.Lists.{Lists}
@@ -61,11 +62,13 @@ use Rattle.list_mgr.specs.BarEnds.{IsBarGoneOver, bar_of, bar_serial}
 use Rattle.list_mgr.specs.Changing.{IsItsLayer}
 use Rattle.list_mgr.specs.Lines.{desk_beside}
 use Rattle.list_mgr.specs.ListDesks.{ListSlot, ListsState, lists_show}
-use Rattle.list_mgr.specs.ListSteps.{AreListLayers, IsBarGone, IsLayerOf, IsListGone, IsListShut, IsListStep}
+use Rattle.list_mgr.specs.ListSteps.{AreListLayers, IsBarGone, IsLayerOf, IsListGone, IsListShut, IsListStep, without_part}
 use Rattle.list_mgr.specs.Spots.{IsSpotOf}
 use Rattle.list_mgr.specs.WholeLists.{AreWholeLists, LeavesOver, lists_state, records_of}
 use Rattle.list_mgr.proofs.BarsGone.{bar_gone_lists, controls_gone, kept_gone}
 use Rattle.list_mgr.proofs.LayerTaken.{layers_left_are}
+use Rattle.list_mgr.proofs.ListedLayers.{without_at}
+use Rattle.list_mgr.proofs.Places.{found_names}
 use Rattle.list_mgr.proofs.ListsWhole.{whole_gone}
 use Rattle.list_mgr.proofs.Steps.{nothing_missing}
 
@@ -86,6 +89,9 @@ module _ {V : Type 0} {H : V → Type 0} (loan : TakenBox V H → WindowLoan) {X
 
   no_control : is_of kinds.Controls own.part ≡ false
   no_control = ap (is_of kinds.Controls) (its.is own own_read).part
+
+  its_part : own.part ≡ part.List l.list
+  its_part = (its.is own own_read).part ∙ ap part.List (found_names l.window l.list s.list (records_of list_loan m) its.list is.list its.there).1
 
   -- ---- plans
 
@@ -121,7 +127,7 @@ module _ {V : Type 0} {H : V → Type 0} (loan : TakenBox V H → WindowLoan) {X
           (lists_are : n.list.items.items ≡ remove m.list.items.items s.list) (next_is : n.list.next ≡ m.list.next)
           (t1 : WindowManager V H) (put : AreLayersPut at relaid.layers r.update t t1)
           (set : (v : Window V H) → IsWindowAt t.windows.records.items at v → (q : Option Part) → IsPartAt relaid.layers.layers None q → (was : List ℕ → Part → PixelSet) (slots : List WindowSlot) → IsWholeManager loan t slots
-          → IsWholeManager loan t1 slots × AreLayersSet v.serial relaid.layers.layers q (state_showing was (state_of loan t slots)) (state_showing (lists_show (records_of list_loan n)) (state_of loan t1 slots)))
+          → IsWholeManager loan t1 slots × AreLayersSet v.serial relaid.layers.layers q (state_showing was (state_of loan t slots)) (state_showing (lists_show (λ font. all_white) (records_of list_loan n)) (state_of loan t1 slots)))
           (c : Controls (TakenBox W K)) (held : List ControlSlot) (controls : AreWholeControls (desk_of loan t []).windows (controls_state control_loan c held))
           (stock : List ListSlot) (lists : AreWholeLists (desk_of loan t []).windows (lists_state list_loan m stock)) where
         serial : w.serial ≡ l.window
@@ -131,13 +137,13 @@ module _ {V : Type 0} {H : V → Type 0} (loan : TakenBox V H → WindowLoan) {X
         kept_first = record { slots = kept.slots; whole = (set w lies None refl (λ font. all_white) kept.slots kept.whole).0 }
 
         -- it was set so, whatever the controls show
-        layers_set : (was : List ℕ → Part → PixelSet) (slots : List WindowSlot) → IsWholeManager loan t slots
-            → AreLayersSet l.window relaid.layers.layers None (state_showing was (state_of loan t slots)) (state_showing (controls_show (lists_show (records_of list_loan n)) (controls_kept control_loan c)) (state_of loan t1 slots))
-        layers_set was slots whole =
+        layers_set : (others was : List ℕ → Part → PixelSet) (slots : List WindowSlot) → IsWholeManager loan t slots
+            → AreLayersSet l.window relaid.layers.layers None (state_showing was (state_of loan t slots)) (state_showing (controls_show (lists_show others (records_of list_loan n)) (controls_kept control_loan c)) (state_of loan t1 slots))
+        layers_set others was slots whole =
             let done = set w lies None refl was slots whole in
-            set_reshown (lists_show (records_of list_loan n)) (controls_show (lists_show (records_of list_loan n)) (controls_kept control_loan c)) (state_of loan t1 slots) done.0.sound.distinct
+            set_reshown (lists_show (λ font. all_white) (records_of list_loan n)) (controls_show (lists_show others (records_of list_loan n)) (controls_kept control_loan c)) (state_of loan t1 slots) done.0.sound.distinct
             l.window relaid.layers.layers None (state_showing was (state_of loan t slots)) (λ q e. absurd (cc))
-            (subst (λ k. AreLayersSet k relaid.layers.layers None (state_showing was (state_of loan t slots)) (state_showing (lists_show (records_of list_loan n)) (state_of loan t1 slots))) serial done.1)
+            (subst (λ k. AreLayersSet k relaid.layers.layers None (state_showing was (state_of loan t slots)) (state_showing (lists_show (λ font. all_white) (records_of list_loan n)) (state_of loan t1 slots))) serial done.1)
 
         controls_joined : AreLayersOf (items_of l.window (controls_kept control_loan c)) relaid.layers.layers
         controls_joined =
@@ -147,8 +153,8 @@ module _ {V : Type 0} {H : V → Type 0} (loan : TakenBox V H → WindowLoan) {X
 
         pub controls_first : AreWholeControls (desk_of loan t1 []).windows (controls_state control_loan c held)
         controls_first =
-            whole_set loan l.window relaid.layers.layers None (λ font. all_white) (controls_show (lists_show (records_of list_loan n)) (controls_kept control_loan c)) t t1 kept.slots (controls_state control_loan c held)
-            (layers_set (λ font. all_white) kept.slots kept.whole) controls controls_joined
+            whole_set loan l.window relaid.layers.layers None (λ font. all_white) (controls_show (lists_show (λ font. all_white) (records_of list_loan n)) (controls_kept control_loan c)) t t1 kept.slots (controls_state control_loan c held)
+            (layers_set (λ font. all_white) (λ font. all_white) kept.slots kept.whole) controls controls_joined
 
         beside_first : AreBeside control_loan loan t1 c
         beside_first = record { slots = held; whole = controls_first }
@@ -187,12 +193,12 @@ module _ {V : Type 0} {H : V → Type 0} (loan : TakenBox V H → WindowLoan) {X
           lists_first : AreWholeLists (desk_of loan t1 []).windows (lists_state list_loan n rest)
           lists_first =
               subst (λ (y : List WindowRecord × ListsState). AreWholeLists y.0 y.1)
-              (λ i. (sym (ap (λ (d : FullDesk). d.windows) (layers_set (λ font. all_white) kept.slots kept.whole).desk) i, sym state_is i))
+              (λ i. (sym (ap (λ (d : FullDesk). d.windows) (layers_set (λ font. all_white) (λ font. all_white) kept.slots kept.whole).desk) i, sym state_is i))
               (whole_gone s.list l.window (seen list_loan x) relaid.layers.layers (desk_of loan t []).windows (lists_state list_loan m stock) rest lists seen_x here shut lists_left)
 
-          list_gone : (o : Opened) (slots : List WindowSlot) → IsWholeManager loan t slots
-              → IsListGone l (seen list_loan x) (desk_beside control_loan loan t o slots c held (lists_state list_loan m stock)) (desk_beside control_loan loan t1 o slots c held (lists_state list_loan n rest))
-          list_gone o slots whole = record {
+          list_gone : (others : List ℕ → Part → PixelSet) (o : Opened) (slots : List WindowSlot) → IsWholeManager loan t slots
+              → IsListGone l (seen list_loan x) (desk_beside control_loan loan t others o slots c held (lists_state list_loan m stock)) (desk_beside control_loan loan t1 others o slots c held (lists_state list_loan n rest))
+          list_gone others o slots whole = record {
             at = s.list;
             found = is.list;
             there = seen_x;
@@ -200,12 +206,14 @@ module _ {V : Type 0} {H : V → Type 0} (loan : TakenBox V H → WindowLoan) {X
             lists = state_is;
             laid = record {
               layers = relaid.layers.layers;
+              become = layers_named loan t slots whole at l.window w is.window.0 lies serial (λ ls. relaid.layers.layers ≡ without_part (part.List l.list) ls)
+                  (ap (λ (y : PlacedLayers). y.layers) layers_are ∙ without_at w.layers.layers layer own (part.List l.list) first_apart low own_read its_part);
               controls = controls_joined;
               lists = subst (λ ls. AreListLayers (items_of l.window ls) relaid.layers.layers) (sym left) lists_left;
-              set = layers_set (controls_show (lists_show (records_of list_loan m)) (controls_kept control_loan c)) slots whole;
+              set = layers_set others (controls_show (lists_show others (records_of list_loan m)) (controls_kept control_loan c)) slots whole;
               shows = refl;
             };
-            beside = record { controls = refl; activity = record { activity = refl; begun = refl } };
+            beside = record { controls = refl; others = refl; activity = record { activity = refl; begun = refl } };
           }
 
           -- ---- its bars, ended
@@ -225,21 +233,21 @@ module _ {V : Type 0} {H : V → Type 0} (loan : TakenBox V H → WindowLoan) {X
 
             module _ (horizontal : Option ℕ) (t3 : WindowManager V H) (c3 : Controls (TakenBox W K)) (held3 : List ControlSlot) (other_gone : IsBarGoneOver control_loan loan held2 held3 l.window horizontal t2 c2 t3 c3)
                 (vertical_is : vertical ≡ x.kept.vertical) (horizontal_is : horizontal ≡ x.kept.horizontal) where
-              abbrev shows : Controls (TakenBox W K) → List ℕ → Part → PixelSet
-              shows k = controls_show (lists_show (records_of list_loan n)) (controls_kept control_loan k)
+              abbrev shows : (List ℕ → Part → PixelSet) → Controls (TakenBox W K) → List ℕ → Part → PixelSet
+              shows others k = controls_show (lists_show others (records_of list_loan n)) (controls_kept control_loan k)
 
               pub disposed : LeavesOver list_loan loan control_loan held held3 stock rest (IsListStep (Dispose l) (Ok Done)) t c m t3 c3 n
-              disposed o slots whole same_controls same_lists =
-                  let zeroth = set w lies None refl (controls_show (lists_show (records_of list_loan m)) (controls_kept control_loan c)) slots whole in
-                  let first = gone o slots (lists_state list_loan n rest) zeroth.0 controls_first in
-                  let second = other_gone o slots (lists_state list_loan n rest) first.0 first.1 in
-                  let without_list = desk_beside control_loan loan t1 o slots c held (lists_state list_loan n rest) in
-                  let without_vertical = desk_beside control_loan loan t2 o slots c2 held2 (lists_state list_loan n rest) in
-                  let after = desk_beside control_loan loan t3 o slots c3 held3 (lists_state list_loan n rest) in (
+              disposed others o slots whole same_controls same_lists =
+                  let zeroth = set w lies None refl (controls_show (lists_show others (records_of list_loan m)) (controls_kept control_loan c)) slots whole in
+                  let first = gone others o slots (lists_state list_loan n rest) zeroth.0 controls_first in
+                  let second = other_gone others o slots (lists_state list_loan n rest) first.0 first.1 in
+                  let without_list = desk_beside control_loan loan t1 others o slots c held (lists_state list_loan n rest) in
+                  let without_vertical = desk_beside control_loan loan t2 others o slots c2 held2 (lists_state list_loan n rest) in
+                  let after = desk_beside control_loan loan t3 others o slots c3 held3 (lists_state list_loan n rest) in (
                     second.0,
                     second.1,
-                    bar_gone_lists l.window horizontal without_vertical after (distinct_showing (shows c2) (desk_of loan t2 slots) first.0.sound.distinct) first.1 second.2
-                        (bar_gone_lists l.window vertical without_list without_vertical (distinct_showing (shows c) (desk_of loan t1 slots) zeroth.0.sound.distinct) controls_first first.2 lists_first),
+                    bar_gone_lists l.window horizontal without_vertical after (distinct_showing (shows others c2) (desk_of loan t2 slots) first.0.sound.distinct) first.1 second.2
+                        (bar_gone_lists l.window vertical without_list without_vertical (distinct_showing (shows others c) (desk_of loan t1 slots) zeroth.0.sound.distinct) controls_first first.2 lists_first),
                     (
                       nothing_missing loan list_loan l t m s is,
                       (
@@ -248,7 +256,7 @@ module _ {V : Type 0} {H : V → Type 0} (loan : TakenBox V H → WindowLoan) {X
                           seen list_loan x,
                           without_list,
                           without_vertical,
-                          list_gone o slots whole,
+                          list_gone others o slots whole,
                           subst (λ b. IsBarGone l.window b without_list without_vertical) vertical_is first.2,
                           subst (λ b. IsBarGone l.window b without_vertical after) horizontal_is second.2,
                         ),

@@ -4,6 +4,8 @@ use Rattle.std.specs.Prelude.{is_none, slice_get}
 use Rattle.std.specs.Option.{option_and_then}
 use Rattle.std.proofs.lemmas.Bool.{false≢true}
 use Rattle.std.proofs.lemmas.Bool.Decides.{nat_tests}
+use Rattle.tb_geom.specs.Points.{PixelSet}
+use Rattle.desk_layers.specs.declared.part.Part.{Part}
 use Rattle.list_cells.specs.declared.selecting.Selecting.{Selecting}
 use Rattle.list_cells.specs.Grids.{Grid}
 use Rattle.list_cells.specs.Selections.{IsSelecting}
@@ -51,7 +53,8 @@ module _ (before after : ListDesk) (was : IsRightLists before) where
       record {
         desk = record {
           right = unchanged_right before after was.desk.right same;
-          shows = subst (λ (x : FullDesk × ControlsState × ListsState). x.0.shows ≡ controls_show (lists_show x.2.lists) x.1.controls x.0.font) (λ i. (sym same.desk.windows.desk i, sym same.controls i, sym same.lists i)) was.desk.shows;
+          shows = subst (λ (x : FullDesk × ControlsState × ListsState × (List ℕ → Part → PixelSet)). x.0.shows ≡ controls_show (lists_show x.3 x.2.lists) x.1.controls x.0.font)
+              (λ i. (sym same.desk.windows.desk i, sym same.controls i, sym same.lists i, sym same.others i)) was.desk.shows;
           whole = controls_same windows same.controls;
         };
         lists = same_whole before after was.lists windows same.lists;
@@ -73,7 +76,7 @@ module _ (before after : ListDesk) (was : IsRightLists before) where
         let controls = controls_after its.changed windows in
         record {
           desk = record {
-            right = redrawn_right before after was.desk.right was.desk.shows its.shows its.changed.beside.controls was.desk.whole.joined controls.joined l
+            right = redrawn_right before after was.desk.right was.desk.shows its.shows its.changed.beside was.desk.whole.joined controls.joined l
                 (lists_edited before.desk.windows.desk after.desk.windows.desk l f keeps.serial before after was.lists.apart its.changed was.lists.joined lists.joined) its.redrawn;
             shows = its.shows;
             whole = controls;
@@ -89,7 +92,7 @@ module _ (before after : ListDesk) (was : IsRightLists before) where
         let controls = controls_after its.changed windows in
         record {
           desk = record {
-            right = marked_right before after was.desk.right was.desk.shows its.shows its.changed.beside.controls was.desk.whole.joined controls.joined l
+            right = marked_right before after was.desk.right was.desk.shows its.shows its.changed.beside was.desk.whole.joined controls.joined l
                 (lists_edited before.desk.windows.desk after.desk.windows.desk l f keeps.serial before after was.lists.apart its.changed was.lists.joined lists.joined) its.marked;
             shows = its.shows;
             whole = controls;
@@ -143,7 +146,7 @@ module _ (before after : ListDesk) (was : IsRightLists before) where
         let serial : (x.serial == l.list) ≡ true = same_number x.serial l.list names.1 in
         record {
           desk = record {
-            right = toggled_right before after was.desk.right was.desk.shows its.shows its.changed.beside.controls was.desk.whole.joined controls.joined l x (g x.kept.cells) selects.0 selects.1
+            right = toggled_right before after was.desk.right was.desk.shows its.shows its.changed.beside was.desk.whole.joined controls.joined l x (g x.kept.cells) selects.0 selects.1
                 (with_there l.list its.changed.at before.lists.lists x was.lists.apart there serial)
                 (with_there l.list its.changed.at after.lists.lists (f x) lists.apart there_after serial)
                 window.0 window.1 toggled

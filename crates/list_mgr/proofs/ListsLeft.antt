@@ -24,6 +24,8 @@ use Rattle.list_mgr.specs.WholeLists.{AreListsApart, AreSettled, AreWholeLists, 
 use Rattle.window_items.proofs.SerialLemmas.{with_among}
 use Rattle.list_mgr.proofs.ListsFound.{StaySame}
 use Rattle.list_mgr.proofs.ListsStay.{AreListsJoined, lists_stay}
+use Rattle.tb_geom.specs.Points.{PixelSet}
+use Rattle.desk_layers.specs.declared.part.Part.{Part}
 
 -- where a window has no list, each list is in another
 all_elsewhere : (window : ℕ) (ls : List KeptList) → items_of window ls ≡ [] → All (λ l. is_in window l ≡ false) ls
@@ -92,12 +94,12 @@ module _ (window : ℕ) (before after : ListsState) (left : AreListsOfLeft windo
   }
 
   -- and a right state stays right, whose windows show these controls
-  pub right_left : (s : FullState) (cs : List ControlRecord) → IsRightState s → s.desk.shows ≡ controls_show (lists_show before.lists) cs s.desk.font → AreJoined cs s.desk.windows → AreListsApart before.lists
-      → AreListsJoined before.lists s.desk.windows → is_missing window s.desk.windows ≡ true → IsRightState (state_showing (controls_show (lists_show after.lists) cs) s)
-  right_left s cs right shows controls apart joined missing =
-      let now = desk_showing (controls_show (lists_show after.lists) cs) s.desk in
-      shown_alike_right (controls_show (lists_show after.lists) cs) s right
-      (λ p o here e. sym (same_own (lists_show before.lists) (lists_show after.lists) s.desk now cs cs shows refl refl refl controls controls (λ o. false) (λ t n was now other. refl)
-      (lists_stay (λ o. false) before.lists after.lists s.desk now joined (joined_left s.desk.windows missing joined) (stay_left apart)) p o right.plain.desk
-      (distinct_showing (controls_show (lists_show after.lists) cs) s.desk right.plain.desk) here
-      (owner_showing (controls_show (lists_show after.lists) cs) s.desk p ∙ here) e refl))
+  pub right_left : (others : List ℕ → Part → PixelSet) (s : FullState) (cs : List ControlRecord) → IsRightState s → s.desk.shows ≡ controls_show (lists_show others before.lists) cs s.desk.font → AreJoined cs s.desk.windows → AreListsApart before.lists
+      → AreListsJoined before.lists s.desk.windows → is_missing window s.desk.windows ≡ true → IsRightState (state_showing (controls_show (lists_show others after.lists) cs) s)
+  right_left others s cs right shows controls apart joined missing =
+      let now = desk_showing (controls_show (lists_show others after.lists) cs) s.desk in
+      shown_alike_right (controls_show (lists_show others after.lists) cs) s right
+      (λ p o here e. sym (same_own (lists_show others before.lists) (lists_show others after.lists) s.desk now cs cs shows refl refl refl controls controls (λ o. false) (λ t n was now other. refl)
+      (lists_stay (λ o. false) others others before.lists after.lists s.desk now joined (joined_left s.desk.windows missing joined) (stay_left apart)) (λ t n q was now other r. refl) p o right.plain.desk
+      (distinct_showing (controls_show (lists_show others after.lists) cs) s.desk right.plain.desk) here
+      (owner_showing (controls_show (lists_show others after.lists) cs) s.desk p ∙ here) e refl))

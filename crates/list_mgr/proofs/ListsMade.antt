@@ -23,6 +23,7 @@ use Rattle.window_items.proofs.SerialLemmas.{with_first}
 use Rattle.list_mgr.proofs.ListsKept.{IsRightLists, controls_same}
 use Rattle.list_mgr.proofs.ListsLaid.{gone_keeps, put_keeps}
 use Rattle.list_mgr.proofs.ListsWhole.{edited_whole}
+use Rattle.tb_geom.specs.Points.{PixelSet}
 
 -- ---- a list that shows what it showed
 
@@ -47,14 +48,15 @@ module _ (f : KeptList → KeptList) (same : (x : KeptList) → (f x).serial ≡
       by_test true rest = refl
       by_test false rest = rest
 
-  part_edit : (at : ℕ) (ls : List KeptList) (font : List ℕ) (q : Part) (p : Point) → lists_show (edit_at f at ls) font q p ≡ lists_show ls font q p
-  part_edit at ls font part.Picture p = refl
-  part_edit at ls font (part.Control n) p = refl
-  part_edit at ls font (part.List n) p = bit_edit font n p at ls
+  part_edit : (others : List ℕ → Part → PixelSet) (at : ℕ) (ls : List KeptList) (font : List ℕ) (q : Part) (p : Point) → lists_show others (edit_at f at ls) font q p ≡ lists_show others ls font q p
+  part_edit others at ls font part.Picture p = refl
+  part_edit others at ls font (part.Control n) p = refl
+  part_edit others at ls font (part.Text n) p = refl
+  part_edit others at ls font (part.List n) p = bit_edit font n p at ls
 
   -- all lists show what they showed
-  pub shows_edit : (at : ℕ) (ls : List KeptList) → lists_show (edit_at f at ls) ≡ lists_show ls
-  shows_edit at ls = λ i font q p. part_edit at ls font q p i
+  pub shows_edit : (others : List ℕ → Part → PixelSet) (at : ℕ) (ls : List KeptList) → lists_show others (edit_at f at ls) ≡ lists_show others ls
+  shows_edit others at ls = λ i font q p. part_edit others at ls font q p i
 
 -- ---- drawing
 
@@ -74,7 +76,7 @@ pub drawing_keeps : (l : ListOf) (on : Bool) (before after : ListDesk) → IsRig
 drawing_keeps l on before after was changed same = record {
   desk = record {
     right = unchanged_stays_right before.desk.windows after.desk.windows was.desk.right same.windows;
-    shows = subst (λ (x : FullDesk × ControlsState). x.0.shows ≡ controls_show (lists_show after.lists.lists) x.1.controls x.0.font) (λ i. (sym same.windows.desk i, sym changed.beside.controls i))
+    shows = subst (λ (x : FullDesk × ControlsState). x.0.shows ≡ controls_show (lists_show after.others after.lists.lists) x.1.controls x.0.font) (λ i. (sym same.windows.desk i, sym changed.beside.controls i))
         (was.desk.shows ∙ ap (λ others. controls_show others before.controls.controls before.desk.windows.desk.font) (sym lists_are));
     whole = controls_same before after was windows changed.beside.controls;
   };
@@ -84,8 +86,11 @@ drawing_keeps l on before after was changed same = record {
     windows : after.desk.windows.desk.windows ≡ before.desk.windows.desk.windows
     windows = ap (λ (x : FullDesk). x.windows) same.windows.desk
 
-    lists_are : lists_show after.lists.lists ≡ lists_show before.lists.lists
-    lists_are = ap (λ (s : ListsState). lists_show s.lists) changed.lists ∙ shows_edit (with_drawing on) (λ x. refl) (λ font x p. refl) changed.at before.lists.lists
+    lists_are : lists_show after.others after.lists.lists ≡ lists_show before.others before.lists.lists
+    lists_are =
+        ap (λ f. lists_show f after.lists.lists) changed.beside.others
+        ∙ ap (λ (s : ListsState). lists_show before.others s.lists) changed.lists
+        ∙ shows_edit (with_drawing on) (λ x. refl) (λ font x p. refl) before.others changed.at before.lists.lists
 
 -- ---- lists that are made and ended
 

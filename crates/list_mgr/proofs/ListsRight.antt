@@ -33,7 +33,7 @@ use Rattle.control_mgr.proofs.ControlBits.{StayLists, bare, bare_laid, same_own,
 use Rattle.control_mgr.proofs.Settled.{AreJoined}
 use Rattle.list_mgr.specs.ListDesks.{IsListDeskUnchanged, KeptList, ListDesk, list_bit, lists_show, with_controls}
 use Rattle.list_mgr.specs.ListDesks as lists
-use Rattle.list_mgr.specs.ListSteps.{IsLayerMarked, marked_change}
+use Rattle.list_mgr.specs.ListSteps.{IsBesideLists, IsLayerMarked, marked_change}
 
 -- the desk is the same but for what layers show: windows and layers are told apart still
 distinct_shown : (d e : FullDesk) → e ≡ record d { shows = e.shows } → IsDesk (layered_desk d) → IsDesk (layered_desk e)
@@ -43,10 +43,10 @@ distinct_shown d e same distinct = subst (λ (x : FullDesk). IsDesk (layered_des
 pub unchanged_right : (before after : ListDesk) → IsRightState before.desk.windows → IsListDeskUnchanged before after → IsRightState after.desk.windows
 unchanged_right before after right same = unchanged_stays_right before.desk.windows after.desk.windows right same.desk.windows
 
--- ---- lists beside the same controls
+-- ---- lists beside the same controls and other layers
 
 module _ (before after : ListDesk) (right : IsRightState before.desk.windows) (shows : ShowsControls (with_controls before)) (showing : ShowsControls (with_controls after))
-    (beside : after.controls ≡ before.controls) (was : AreJoined before.controls.controls before.desk.windows.desk.windows)
+    (beside : IsBesideLists before after) (was : AreJoined before.controls.controls before.desk.windows.desk.windows)
     (are : AreJoined after.controls.controls after.desk.windows.desk.windows) where
   abbrev d : FullDesk
   d = before.desk.windows.desk
@@ -56,7 +56,7 @@ module _ (before after : ListDesk) (right : IsRightState before.desk.windows) (s
 
   -- what lists show stays, but for this sort of owners
   abbrev pub Stay : (Owner → Bool) → Type 0
-  Stay own = StayLists own d e (lists_show before.lists.lists) (lists_show after.lists.lists)
+  Stay own = StayLists own d e (lists_show before.others before.lists.lists) (lists_show after.others after.lists.lists)
 
   -- what a pixel's owner has there, it had there
   its_owner : (p : Point) → (on_screen (layered_desk d) p && same_owner (owner (layered_desk d) p) (owner (layered_desk e) p)) ≡ true → owner (layered_desk d) p ≡ owner (layered_desk e) p
@@ -66,8 +66,9 @@ module _ (before after : ListDesk) (right : IsRightState before.desk.windows) (s
   same_there : IsDesk (layered_desk e) → e.font ≡ d.font → map bare e.windows ≡ map bare d.windows → (own : Owner → Bool) → Stay own → (p : Point) → owner (layered_desk d) p ≡ owner (layered_desk e) p
       → is_content (owner (layered_desk e) p) ≡ true → own (owner (layered_desk e) p) ≡ false → own_bit (layered_desk d) (owner (layered_desk e) p) p ≡ own_bit (layered_desk e) (owner (layered_desk e) p) p
   same_there distinct font windows own stay p here content other =
-      same_own (lists_show before.lists.lists) (lists_show after.lists.lists) d e before.controls.controls after.controls.controls shows showing font windows was are own
-      (λ window n there still away. ap (λ (s : ControlsState). controls.with_serial n s.controls) beside) stay
+      same_own (lists_show before.others before.lists.lists) (lists_show after.others after.lists.lists) d e before.controls.controls after.controls.controls shows showing font windows was are own
+      (λ window n there still away. ap (λ (s : ControlsState). controls.with_serial n s.controls) beside.controls) stay
+      (λ s n q shown still away r. ap (λ f. f d.font (part.Text n) r) beside.others)
       p (owner (layered_desk e) p) right.plain.desk distinct here refl content other
 
   -- the window's layers were set

@@ -25,9 +25,10 @@ use Rattle.control_mgr.proofs.Settled.{missing-layers}
 use Rattle.control_mgr.proofs.Stocks.{stocked_with, stocked_without}
 use Rattle.list_mgr.specs.ListDesks.{KeptList, ListDesk, ListSlot, ListsState, list_of}
 use Rattle.list_mgr.specs.ListRefusals.{most_lists}
-use Rattle.list_mgr.specs.ListSteps.{AreListLayers, IsChangedTo, IsLayerOf, IsListShut}
+use Rattle.list_mgr.specs.ListSteps.{AreListLayers, IsChangedTo, IsLayerOf, IsListShut, layers_of_lists}
 use Rattle.list_mgr.specs.WholeLists.{AreWholeLists, IsSettledList, slots_of}
 use Rattle.list_mgr.proofs.Edited.{Keeps, whole_edited}
+use Rattle.list_mgr.proofs.ListedLayers.{listed_behind}
 use Rattle.list_mgr.proofs.ListsStay.{AreListsJoined}
 use Rattle.window_items.proofs.EditLemmas.{All-remove}
 
@@ -150,10 +151,9 @@ joined_behind ls (w ∷ ws) (v ∷ vs) same joined =
     (joined_behind ls ws vs rest (All-tail (λ (x : WindowRecord). AreListLayers (items_of x.serial ls) x.layers) w ws joined))
   where
     first_joined : uncontrolled w ≡ uncontrolled v → AreListLayers (items_of w.serial ls) w.layers → AreListLayers (items_of v.serial ls) v.layers
-    first_joined same its = subst (λ (x : WindowRecord). zipped x) same its
-      where
-        zipped : WindowRecord → Type 0
-        zipped x = AllZip IsLayerOf (items_of x.serial ls) x.layers
+    first_joined same its =
+        subst (AllZip IsLayerOf (items_of v.serial ls)) (listed_behind v.layers)
+        (subst (λ (x : WindowRecord). AllZip IsLayerOf (items_of x.serial ls) (layers_of_lists x.layers)) same (subst (AllZip IsLayerOf (items_of w.serial ls)) (sym (listed_behind w.layers)) its))
 
 -- lists that are whole are so beside windows that are the same but for the layers of controls
 pub whole_behind : (ws vs : List WindowRecord) (state : ListsState) → map bare vs ≡ map bare ws → map uncontrolled vs ≡ map uncontrolled ws → AreWholeLists ws state → AreWholeLists vs state

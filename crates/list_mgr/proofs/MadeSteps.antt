@@ -35,6 +35,8 @@ use Rattle.list_mgr.specs.Putting.{AreRoomier}
 use Rattle.list_mgr.specs.WholeLists.{AreWholeLists, LeavesOver, lists_state, records_of}
 use Rattle.list_mgr.proofs.Offered.{horizontal_offered, offered_is, vertical_offered}
 use Rattle.list_mgr.proofs.Steps.{unchanged}
+use Rattle.tb_geom.specs.Points.{PixelSet}
+use Rattle.desk_layers.specs.declared.part.Part.{Part}
 
 none_mapped : {A B : Type 0} (f : A → B) (o : Option A) → is_none (option_map f o) ≡ is_none o
 none_mapped f None = refl
@@ -44,11 +46,12 @@ module _ {V : Type 0} {H : V → Type 0} (loan : TakenBox V H → WindowLoan) {W
   -- ---- where nothing but room changed
 
   -- windows with these controls and these lists, as a desk
-  abbrev desk_from : WindowManager V H → Opened → List WindowSlot → ControlsState → ListsState → ListDesk
-  desk_from t o slots cs ls = record {
-    desk = desk_with o (state_showing (controls_show (lists_show ls.lists) cs.controls) (state_of loan t slots));
+  abbrev desk_from : WindowManager V H → (List ℕ → Part → PixelSet) → Opened → List WindowSlot → ControlsState → ListsState → ListDesk
+  desk_from t others o slots cs ls = record {
+    desk = desk_with o (state_showing (controls_show (lists_show others ls.lists) cs.controls) (state_of loan t slots));
     controls = cs;
     lists = ls;
+    others = others;
   }
 
   -- the lists are the same, and their stock
@@ -59,14 +62,14 @@ module _ {V : Type 0} {H : V → Type 0} (loan : TakenBox V H → WindowLoan) {W
   pub leaves_all : (t : WindowManager V H) (c d : Controls (TakenBox W K)) (m n : Lists (TakenBox X L)) (held left : List ControlSlot) (kept rest : List ListSlot)
       → IsRoomier c d → AreRoomier m n → left ≡ held → rest ≡ kept
       → LeavesOver list_loan loan control_loan held left kept rest IsListDeskUnchanged t c m t d n
-  leaves_all t c d m n held left kept rest controls lists same_left same_rest o slots whole were were_lists =
+  leaves_all t c d m n held left kept rest controls lists same_left same_rest others o slots whole were were_lists =
       let cs = new_controls.state_same loan control_loan c d controls held left same_left in
       let ls = lists_same m n lists kept rest same_rest in (
         whole,
         subst (control_records.AreWholeControls (desk_of loan t []).windows) (sym cs) were,
         subst (AreWholeLists (desk_of loan t []).windows) (sym ls) were_lists,
-        subst (λ (x : ControlsState × ListsState). IsListDeskUnchanged (desk_from t o slots (control_records.controls_state control_loan c held) (lists_state list_loan m kept)) (desk_from t o slots x.0 x.1))
-            (λ i. (sym cs i, sym ls i)) (unchanged loan list_loan t o slots (control_records.controls_state control_loan c held) m kept),
+        subst (λ (x : ControlsState × ListsState). IsListDeskUnchanged (desk_from t others o slots (control_records.controls_state control_loan c held) (lists_state list_loan m kept)) (desk_from t others o slots x.0 x.1))
+            (λ i. (sym cs i, sym ls i)) (unchanged loan list_loan t others o slots (control_records.controls_state control_loan c held) m kept),
       )
 
   -- a step over a stock of controls that is as it was
@@ -120,8 +123,8 @@ module _ {V : Type 0} {H : V → Type 0} (loan : TakenBox V H → WindowLoan) {W
         pub made_step : (u : WindowManager V H) (d : Controls (TakenBox W K)) (made : Lists (TakenBox X L)) (serial : ℕ) → why_not control_loan list_loan loan n x t c m ≡ None
             → LeavesOver list_loan loan control_loan held left kept rest (IsListMade n serial) t c m u d made
             → LeavesOver list_loan loan control_loan held left kept rest (IsListStep (New n) (Ok (reply.Made serial))) t c m u d made
-        made_step u d made serial none leaves o slots whole controls lists =
-            let after = leaves o slots whole controls lists in (after.0, after.1, after.2, (why_is ∙ none, (serial, refl, after.3)))
+        made_step u d made serial none leaves others o slots whole controls lists =
+            let after = leaves others o slots whole controls lists in (after.0, after.1, after.2, (why_is ∙ none, (serial, refl, after.3)))
 
         -- it was not, and all went back
         pub unmade_step : (u : WindowManager V H) (d : Controls (TakenBox W K)) (roomier : Lists (TakenBox X L)) (back : List ControlSlot) (stock : List ListSlot) (e : Refusal)
@@ -131,8 +134,8 @@ module _ {V : Type 0} {H : V → Type 0} (loan : TakenBox V H → WindowLoan) {W
             subst (λ u. LeavesOver list_loan loan control_loan held back kept stock (IsListStep (New n) (Err e)) t c m u d roomier) (sym same) refused
           where
             refused : LeavesOver list_loan loan control_loan held back kept stock (IsListStep (New n) (Err e)) t c m t d roomier
-            refused o slots whole controls lists =
-                let after = leaves_all t c d m roomier held back kept stock same_controls same_lists same_back same_stock o slots whole controls lists in (
+            refused others o slots whole controls lists =
+                let after = leaves_all t c d m roomier held back kept stock same_controls same_lists same_back same_stock others o slots whole controls lists in (
                   after.0,
                   after.1,
                   after.2,

@@ -19,18 +19,18 @@ module _ {V : Type 0} {H : V → Type 0} (loan : TakenBox V H → WindowLoan) {W
   -- a call that leaves the windows, the controls and the lists such a step, also where the screen was right
   pub made_right : (left : List ControlSlot) (rest : List ListSlot) (t u : WindowManager V H) (c d : Controls (TakenBox W K)) (m n : Lists (TakenBox X L)) → LeavesOver list_loan loan control_loan held left kept rest step t c m u d n
       → LeavesOver list_loan loan control_loan held left kept rest (IsWhereRight step) t c m u d n
-  made_right left rest t u c d m n leaves o slots windows controls lists =
-      let its = leaves o slots windows controls lists in
+  made_right left rest t u c d m n leaves others o slots windows controls lists =
+      let its = leaves others o slots windows controls lists in
       (its.0, its.1, its.2, λ right. its.3)
 
   -- a call that asks something
   pub told_leaves : (t : WindowManager V H) (c : Controls (TakenBox W K)) (m : Lists (TakenBox X L)) → IsToldOver list_loan loan step t m → LeavesOver list_loan loan control_loan held held kept kept (IsWhereRight step) t c m t c m
-  told_leaves t c m told o slots windows controls lists = (windows, controls, lists, λ right. told o slots (controls_state control_loan c held) kept windows lists)
+  told_leaves t c m told others o slots windows controls lists = (windows, controls, lists, λ right. told others o slots (controls_state control_loan c held) kept windows lists)
 
   -- a call that changes lists and the pixels of windows alone
   pub changed_leaves : (t u : WindowManager V H) (c : Controls (TakenBox W K)) (m n : Lists (TakenBox X L)) → IsChangedOver list_loan loan step t m u n → LeavesOver list_loan loan control_loan held held kept kept step t c m u c n
-  changed_leaves t u c m n changed o slots windows controls lists =
-      let its = changed o slots (controls_state control_loan c held) kept windows lists in
+  changed_leaves t u c m n changed others o slots windows controls lists =
+      let its = changed others o slots (controls_state control_loan c held) kept windows lists in
       (its.0, subst (λ (ws : List WindowRecord). AreWholeControls ws (controls_state control_loan c held)) (sym its.1) controls, its.2, its.3)
 
   -- so a call that changes them whether or not the screen was right

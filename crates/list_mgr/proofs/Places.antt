@@ -1,5 +1,5 @@
 -- Where a list stands: its record, its window, and its layer there.
-use Rattle.std.proofs.Common.{◌≡◌, ◌<◌, ℕ, zero, suc, ◌==◌, ◌||◌, Bool, true, false, not, if◌then◌else◌, List, [], ◌∷◌, length, get_or, Option, Some, None, refl, sym, ap, ◌∙◌, subst, eqb-true}
+use Rattle.std.proofs.Common.{◌≡◌, ◌<◌, ℕ, zero, suc, ◌==◌, ◌||◌, Bool, true, false, if◌then◌else◌, List, [], ◌∷◌, length, get_or, Option, Some, None, refl, sym, ap, ◌∙◌, subst, eqb-true}
 use Rattle.std.specs.Prelude.{All, IfSome, slice_get}
 use Rattle.std.specs.List.{AllZip, filter, list_any}
 use Rattle.std.specs.Option.{option_map_or}
@@ -20,19 +20,18 @@ use Rattle.list_mgr.specs.Seen.{seen}
 use Rattle.window_items.specs.Items.{has_serial, is_in, is_in_at, is_item, item_index, items_of, place_among}
 use Rattle.window_items.proofs.WindowLemmas.{found_in as list_in, position_there, slice_get-items_of}
 use Rattle.desk_call.specs.declared.list.ListOf.{ListOf}
-use Rattle.desk_call.specs.declared.update.LayerKind.TheVariants.{Controls}
+use Rattle.desk_call.specs.declared.update.LayerKind.TheVariants as kinds
 use Rattle.window_list.specs.declared.window.Window.{Window}
 use Rattle.window_paint.specs.Kinds.{is_of}
 use Rattle.window_mgr.specs.declared.manager.WindowManager.{WindowManager}
 use Rattle.window_mgr.specs.Edits.{IsWindowAt}
 use Rattle.window_mgr.specs.Records.{desk_of}
-use Rattle.control_mgr.specs.ControlSteps.{behind_controls}
 use Rattle.control_mgr.proofs.Places.{IsThere, at_window, get_is, read_is, within}
 use Rattle.list_mgr.specs.declared.lists.Lists.{Lists}
 use Rattle.list_mgr.specs.declared.spots.ListAt.{ListAt}
 use Rattle.list_mgr.specs.Changing.{IsItsLayer}
 use Rattle.list_mgr.specs.ListDesks.{KeptList, ListsState}
-use Rattle.list_mgr.specs.ListSteps.{AreListLayers, IsLayerOf}
+use Rattle.list_mgr.specs.ListSteps.{AreListLayers, IsLayerOf, layers_of_lists}
 use Rattle.list_mgr.specs.Spots.{IsSpotOf}
 use Rattle.list_mgr.specs.WholeLists.{AreListsApart, AreWholeLists, records_of}
 use Rattle.list_mgr.proofs.Steps.{list_read, list_there}
@@ -113,8 +112,8 @@ same_lists m n e = cc
 own_layer : (ls : List KeptList) (window : ℕ) (ks : List Layer) (i : ℕ) (x : KeptList) (at : ℕ) (k : Layer) → AreListsApart ls → AreListLayers (items_of window ls) ks
     → slice_get ls i ≡ Some x → slice_get ks at ≡ Some k → k.part ≡ part.List x.serial → IsLayerOf x k
 own_layer ls window ks i x at k apart joined there layer named =
-    let behind = filtered_to (λ (l : Layer). not (is_of Controls l.part)) ks at k layer (ap (λ q. not (is_of Controls q)) named) in
-    let its = with_list (items_of window ls) (behind_controls ks) behind.0 k joined behind.1 in
+    let behind = filtered_to (λ (l : Layer). is_of kinds.Lists l.part) ks at k layer (ap (is_of kinds.Lists) named) in
+    let its = with_list (items_of window ls) (layers_of_lists ks) behind.0 k joined behind.1 in
     let among = filtered_from (is_in window) ls behind.0 its.0 its.1 in
     let serial : its.0.serial ≡ x.serial = same_lists its.0.serial x.serial (sym its.2.part ∙ named) in
     subst (λ y. IsLayerOf y k) (sym (one_serial ls i among.0 x its.0 apart there among.1 serial)) its.2
@@ -123,8 +122,8 @@ own_layer ls window ks i x at k apart joined there layer named =
 some_layer : (ls : List KeptList) (window : ℕ) (ks : List Layer) (i : ℕ) (x : KeptList) → AreListLayers (items_of window ls) ks → is_in_at window i ls ≡ true
     → slice_get ls i ≡ Some x → (at : ℕ) × (k : Layer) × (slice_get ks at ≡ Some k) × IsLayerOf x k
 some_layer ls window ks i x joined here there =
-    let its = with_layer (items_of window ls) (behind_controls ks) (place_among i ls) x joined (slice_get-items_of window i ls here ∙ there) in
-    let among = filtered_from (λ (l : Layer). not (is_of Controls l.part)) ks (place_among i ls) its.0 its.1 in
+    let its = with_layer (items_of window ls) (layers_of_lists ks) (place_among i ls) x joined (slice_get-items_of window i ls here ∙ there) in
+    let among = filtered_from (λ (l : Layer). is_of kinds.Lists l.part) ks (place_among i ls) its.0 its.1 in
     (among.0, its.0, among.1, its.2)
 
 same_list : (n : ℕ) (q : Part) → q ≡ part.List n → same_part q (part.List n) ≡ true

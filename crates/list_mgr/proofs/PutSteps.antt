@@ -41,6 +41,8 @@ use Rattle.list_mgr.specs.Putting.{AreRoomier, IsPlace, IsPlanOfList, IsReadyToP
 use Rattle.list_mgr.specs.WholeLists.{AreBeside, AreWholeLists, LeavesOver, list_desk, lists_state, records_of}
 use Rattle.list_mgr.proofs.ListsWhole.{whole_behind}
 use Rattle.list_mgr.proofs.Steps.{unchanged}
+use Rattle.tb_geom.specs.Points.{PixelSet}
+use Rattle.desk_layers.specs.declared.part.Part.{Part}
 
 -- where a list is put is as good where nothing but the room for lists changed
 pub place_roomier : {V : Type 0} {H : V → Type 0} {D : Type 0} (n : NewList) (k : ListTicket) (t : WindowManager V H) (m m' : Lists D) → AreRoomier m m' → IsPlace n t m k → IsPlace n t m' k
@@ -69,11 +71,12 @@ module _ {V : Type 0} {H : V → Type 0} (loan : TakenBox V H → WindowLoan) {X
     lists_same : (kept : List ListSlot) → lists_state list_loan m' kept ≡ lists_state list_loan m kept
     lists_same kept = λ i. record { lists = all_seen list_loan (same.lists i); next = same.next i; stock = kept }
 
-    desk_same : (t : WindowManager V H) (o : Opened) (slots : List WindowSlot) (cs : ControlsState) (kept : List ListSlot) → list_desk list_loan loan t o slots cs m' kept ≡ list_desk list_loan loan t o slots cs m kept
-    desk_same t o slots cs kept = λ i. record {
-      desk = desk_with o (state_showing (controls_show (lists_show (lists_same kept i).lists) cs.controls) (state_of loan t slots));
+    desk_same : (t : WindowManager V H) (others : List ℕ → Part → PixelSet) (o : Opened) (slots : List WindowSlot) (cs : ControlsState) (kept : List ListSlot) → list_desk list_loan loan t others o slots cs m' kept ≡ list_desk list_loan loan t others o slots cs m kept
+    desk_same t others o slots cs kept = λ i. record {
+      desk = desk_with o (state_showing (controls_show (lists_show others (lists_same kept i).lists) cs.controls) (state_of loan t slots));
       controls = cs;
       lists = lists_same kept i;
+      others = others;
     }
 
     pub beside_roomier : (t : WindowManager V H) → AreBeside list_loan loan t m → AreBeside list_loan loan t m'
@@ -81,9 +84,9 @@ module _ {V : Type 0} {H : V → Type 0} (loan : TakenBox V H → WindowLoan) {X
 
     pub put_roomier : (kept rest : List ListSlot) (step : ListDesk → ListDesk → Type 0) (t u : WindowManager V H) (n : Lists (TakenBox X L)) → LeavesBeside list_loan loan kept rest step t m' u n
         → LeavesBeside list_loan loan kept rest step t m u n
-    put_roomier kept rest step t u n leaves o slots cs whole controls lists =
-        let left = leaves o slots cs whole controls (subst (AreWholeLists (desk_of loan t []).windows) (sym (lists_same kept)) lists) in
-        (left.0, left.1, left.2, subst (λ d. step d (list_desk list_loan loan u o slots cs n rest)) (desk_same t o slots cs kept) left.3)
+    put_roomier kept rest step t u n leaves others o slots cs whole controls lists =
+        let left = leaves others o slots cs whole controls (subst (AreWholeLists (desk_of loan t []).windows) (sym (lists_same kept)) lists) in
+        (left.0, left.1, left.2, subst (λ d. step d (list_desk list_loan loan u others o slots cs n rest)) (desk_same t others o slots cs kept) left.3)
 
   module _ {W : Type 0} {K : W → Type 0} (control_loan : TakenBox W K → ControlLoan) (n : NewList) (serial : ℕ) where
     -- ---- no bar
@@ -91,10 +94,10 @@ module _ {V : Type 0} {H : V → Type 0} (loan : TakenBox V H → WindowLoan) {X
     made_plain : (t u : WindowManager V H) (c : Controls (TakenBox W K)) (m m' : Lists (TakenBox X L)) (kept rest : List ListSlot) → (n.vertical_bar ≡ false) × (n.horizontal_bar ≡ false)
         → LeavesBeside list_loan loan kept rest (IsListPut n serial None None) t m u m'
         → (held : List ControlSlot) → LeavesOver list_loan loan control_loan held held kept rest (IsListMade n serial) t c m u c m'
-    made_plain t u c m m' kept rest none put held o slots whole controls lists =
-        let left = put o slots (controls_state control_loan c held) whole controls lists in
-        let before : ListDesk = list_desk list_loan loan t o slots (controls_state control_loan c held) m kept in
-        let stays = unchanged loan list_loan t o slots (controls_state control_loan c held) m kept in (
+    made_plain t u c m m' kept rest none put held others o slots whole controls lists =
+        let left = put others o slots (controls_state control_loan c held) whole controls lists in
+        let before : ListDesk = list_desk list_loan loan t others o slots (controls_state control_loan c held) m kept in
+        let stays = unchanged loan list_loan t others o slots (controls_state control_loan c held) m kept in (
           left.0,
           left.1,
           left.2,
@@ -121,28 +124,28 @@ module _ {V : Type 0} {H : V → Type 0} (loan : TakenBox V H → WindowLoan) {X
     -- ---- one bar
 
     -- what a bar that is made leaves of the lists, and that it was made
-    pub record IsBarDone (new : NewControl) (bar : ℕ) (t u : WindowManager V H) (o : Opened) (slots : List WindowSlot) (c d : Controls (TakenBox W K)) (held left : List ControlSlot) (m : Lists (TakenBox X L)) (kept : List ListSlot) : Type 0 where
+    pub record IsBarDone (new : NewControl) (bar : ℕ) (t u : WindowManager V H) (others : List ℕ → Part → PixelSet) (o : Opened) (slots : List WindowSlot) (c d : Controls (TakenBox W K)) (held left : List ControlSlot) (m : Lists (TakenBox X L)) (kept : List ListSlot) : Type 0 where
       pub windows : IsWholeManager loan u slots
       pub controls : AreWholeControls (desk_of loan u []).windows (controls_state control_loan d left)
       pub lists : AreWholeLists (desk_of loan u []).windows (lists_state list_loan m kept)
-      pub made : IsBarMade true new (Some bar) (list_desk list_loan loan t o slots (controls_state control_loan c held) m kept) (list_desk list_loan loan u o slots (controls_state control_loan d left) m kept)
+      pub made : IsBarMade true new (Some bar) (list_desk list_loan loan t others o slots (controls_state control_loan c held) m kept) (list_desk list_loan loan u others o slots (controls_state control_loan d left) m kept)
 
-    pub bar_done : (new : NewControl) (bar : ℕ) (t u : WindowManager V H) (o : Opened) (slots : List WindowSlot) (c d : Controls (TakenBox W K)) (held left : List ControlSlot) (m : Lists (TakenBox X L)) (kept : List ListSlot)
+    pub bar_done : (new : NewControl) (bar : ℕ) (t u : WindowManager V H) (others : List ℕ → Part → PixelSet) (o : Opened) (slots : List WindowSlot) (c d : Controls (TakenBox W K)) (held left : List ControlSlot) (m : Lists (TakenBox X L)) (kept : List ListSlot)
         → control_records.LeavesOver control_loan loan held left (IsControlStep (control_calls.New new) (Ok (control_reply.Made bar))) t o c u o d
         → IsWholeManager loan t slots → AreWholeControls (desk_of loan t []).windows (controls_state control_loan c held) → AreWholeLists (desk_of loan t []).windows (lists_state list_loan m kept)
-        → IsBarDone new bar t u o slots c d held left m kept
-    bar_done new bar t u o slots c d held left m kept leaves whole controls lists =
-        let before : ListDesk = list_desk list_loan loan t o slots (controls_state control_loan c held) m kept in
-        let after : ListDesk = list_desk list_loan loan u o slots (controls_state control_loan d left) m kept in
-        let done = leaves (lists_show (records_of list_loan m)) slots whole controls in
+        → IsBarDone new bar t u others o slots c d held left m kept
+    bar_done new bar t u others o slots c d held left m kept leaves whole controls lists =
+        let before : ListDesk = list_desk list_loan loan t others o slots (controls_state control_loan c held) m kept in
+        let after : ListDesk = list_desk list_loan loan u others o slots (controls_state control_loan d left) m kept in
+        let done = leaves (lists_show others (records_of list_loan m)) slots whole controls in
         record {
           windows = done.0;
           controls = done.1;
           lists = whole_behind (desk_of loan t []).windows (desk_of loan u []).windows (lists_state list_loan m kept)
               (control_facts (control_calls.New new) (Ok (control_reply.Made bar)) (with_controls before) (with_controls after) done.2).0.windows
               (control_behind (control_calls.New new) (Ok (control_reply.Made bar)) (with_controls before) (with_controls after)
-              (distinct_showing (controls_show (lists_show (records_of list_loan m)) (control_records.records_of control_loan c)) (desk_of loan t slots) whole.sound.distinct) controls.apart done.2) lists;
-          made = ((bar, refl, done.2), refl);
+              (distinct_showing (controls_show (lists_show others (records_of list_loan m)) (control_records.records_of control_loan c)) (desk_of loan t slots) whole.sound.distinct) controls.apart done.2) lists;
+          made = ((bar, refl, done.2), record { lists = refl; others = refl });
         }
 
     module _ (t u v : WindowManager V H) (c d : Controls (TakenBox W K)) (held left : List ControlSlot) (new : NewControl) (bar : ℕ)
@@ -150,11 +153,11 @@ module _ {V : Type 0} {H : V → Type 0} (loan : TakenBox V H → WindowLoan) {X
         (m m' : Lists (TakenBox X L)) (kept rest : List ListSlot) where
       made_with_vertical : n.vertical_bar ≡ true → n.horizontal_bar ≡ false → new ≡ vertical_bar_of n → LeavesBeside list_loan loan kept rest (IsListPut n serial (Some bar) None) u m v m'
           → LeavesOver list_loan loan control_loan held left kept rest (IsListMade n serial) t c m v d m'
-      made_with_vertical wanted other new_is put o slots whole controls lists =
-          let once = bar_done new bar t u o slots c d held left m kept (first o) whole controls lists in
-          let done = put o slots (controls_state control_loan d left) once.windows once.controls once.lists in
-          let before : ListDesk = list_desk list_loan loan t o slots (controls_state control_loan c held) m kept in
-          let mid : ListDesk = list_desk list_loan loan u o slots (controls_state control_loan d left) m kept in (
+      made_with_vertical wanted other new_is put others o slots whole controls lists =
+          let once = bar_done new bar t u others o slots c d held left m kept (first o) whole controls lists in
+          let done = put others o slots (controls_state control_loan d left) once.windows once.controls once.lists in
+          let before : ListDesk = list_desk list_loan loan t others o slots (controls_state control_loan c held) m kept in
+          let mid : ListDesk = list_desk list_loan loan u others o slots (controls_state control_loan d left) m kept in (
             done.0,
             done.1,
             done.2,
@@ -164,18 +167,18 @@ module _ {V : Type 0} {H : V → Type 0} (loan : TakenBox V H → WindowLoan) {X
               Some bar,
               None,
               subst (λ (x : Bool × NewControl). IsBarMade x.0 x.1 (Some bar) before mid) (λ i. (sym wanted i, new_is i)) once.made,
-              subst (λ b. IsBarMade b (horizontal_bar_of n) None mid mid) (sym other) (refl, unchanged loan list_loan u o slots (controls_state control_loan d left) m kept),
+              subst (λ b. IsBarMade b (horizontal_bar_of n) None mid mid) (sym other) (refl, unchanged loan list_loan u others o slots (controls_state control_loan d left) m kept),
               done.3,
             ),
           )
 
       made_with_horizontal : n.vertical_bar ≡ false → n.horizontal_bar ≡ true → new ≡ horizontal_bar_of n → LeavesBeside list_loan loan kept rest (IsListPut n serial None (Some bar)) u m v m'
           → LeavesOver list_loan loan control_loan held left kept rest (IsListMade n serial) t c m v d m'
-      made_with_horizontal other wanted new_is put o slots whole controls lists =
-          let once = bar_done new bar t u o slots c d held left m kept (first o) whole controls lists in
-          let done = put o slots (controls_state control_loan d left) once.windows once.controls once.lists in
-          let before : ListDesk = list_desk list_loan loan t o slots (controls_state control_loan c held) m kept in
-          let mid : ListDesk = list_desk list_loan loan u o slots (controls_state control_loan d left) m kept in (
+      made_with_horizontal other wanted new_is put others o slots whole controls lists =
+          let once = bar_done new bar t u others o slots c d held left m kept (first o) whole controls lists in
+          let done = put others o slots (controls_state control_loan d left) once.windows once.controls once.lists in
+          let before : ListDesk = list_desk list_loan loan t others o slots (controls_state control_loan c held) m kept in
+          let mid : ListDesk = list_desk list_loan loan u others o slots (controls_state control_loan d left) m kept in (
             done.0,
             done.1,
             done.2,
@@ -184,7 +187,7 @@ module _ {V : Type 0} {H : V → Type 0} (loan : TakenBox V H → WindowLoan) {X
               mid,
               None,
               Some bar,
-              subst (λ b. IsBarMade b (vertical_bar_of n) None before before) (sym other) (refl, unchanged loan list_loan t o slots (controls_state control_loan c held) m kept),
+              subst (λ b. IsBarMade b (vertical_bar_of n) None before before) (sym other) (refl, unchanged loan list_loan t others o slots (controls_state control_loan c held) m kept),
               subst (λ (x : Bool × NewControl). IsBarMade x.0 x.1 (Some bar) before mid) (λ i. (sym wanted i, new_is i)) once.made,
               done.3,
             ),
@@ -205,13 +208,13 @@ module _ {V : Type 0} {H : V → Type 0} (loan : TakenBox V H → WindowLoan) {X
         → (m m' : Lists (TakenBox X L)) (kept rest : List ListSlot) → (n.vertical_bar ≡ true) × (n.horizontal_bar ≡ true)
         → LeavesBeside list_loan loan kept rest (IsListPut n serial (Some vertical) (Some horizontal)) v m w m'
         → LeavesOver list_loan loan control_loan held left kept rest (IsListMade n serial) t c m w e m'
-    made_with_bars t u v w c d e held mid left vertical horizontal first second m m' kept rest wanted put o slots whole controls lists =
-        let once = bar_done (vertical_bar_of n) vertical t u o slots c d held mid m kept (first o) whole controls lists in
-        let twice = bar_done (horizontal_bar_of n) horizontal u v o slots d e mid left m kept (second o) once.windows once.controls once.lists in
-        let done = put o slots (controls_state control_loan e left) twice.windows twice.controls twice.lists in
-        let before : ListDesk = list_desk list_loan loan t o slots (controls_state control_loan c held) m kept in
-        let with_one : ListDesk = list_desk list_loan loan u o slots (controls_state control_loan d mid) m kept in
-        let with_both : ListDesk = list_desk list_loan loan v o slots (controls_state control_loan e left) m kept in (
+    made_with_bars t u v w c d e held mid left vertical horizontal first second m m' kept rest wanted put others o slots whole controls lists =
+        let once = bar_done (vertical_bar_of n) vertical t u others o slots c d held mid m kept (first o) whole controls lists in
+        let twice = bar_done (horizontal_bar_of n) horizontal u v others o slots d e mid left m kept (second o) once.windows once.controls once.lists in
+        let done = put others o slots (controls_state control_loan e left) twice.windows twice.controls twice.lists in
+        let before : ListDesk = list_desk list_loan loan t others o slots (controls_state control_loan c held) m kept in
+        let with_one : ListDesk = list_desk list_loan loan u others o slots (controls_state control_loan d mid) m kept in
+        let with_both : ListDesk = list_desk list_loan loan v others o slots (controls_state control_loan e left) m kept in (
           done.0,
           done.1,
           done.2,

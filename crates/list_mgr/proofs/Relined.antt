@@ -40,6 +40,8 @@ use Rattle.list_mgr.proofs.Changed.{beside_after, changed_over, mark_after, spot
 use Rattle.list_mgr.proofs.Edited.{Keeps}
 use Rattle.list_mgr.proofs.ListsKept.{IsRightLists, changed_keeps}
 use Rattle.list_mgr.proofs.Steps.{list_there}
+use Rattle.tb_geom.specs.Points.{PixelSet}
+use Rattle.desk_layers.specs.declared.part.Part.{Part}
 
 -- ---- windows whose records are the same
 
@@ -63,11 +65,11 @@ module _ {V : Type 0} {H : V → Type 0} (loan : TakenBox V H → WindowLoan) {X
       → (x : KeptList) → slice_get (records_of list_loan m) s.list ≡ Some x → (slots : List WindowSlot) → IsWholeManager loan t slots
       → IsWholeManager loan u slots × ((desk_of loan u []).windows ≡ (desk_of loan t []).windows)
   shown_windows within None changes s m t u shown x there slots whole =
-      let shows = lists_show (records_of list_loan m) in
+      let shows = lists_show (λ font q p. false) (records_of list_loan m) in
       let left = shown x there shows shows (λ p. refl) slots whole in
       (left.0, ap (λ (d : FullDesk). d.windows) left.1.desk)
   shown_windows within (Some update) true s m t u marked x there slots whole =
-      let shows = lists_show (records_of list_loan m) in
+      let shows = lists_show (λ font q p. false) (records_of list_loan m) in
       let left = marked x there shows shows slots whole in
       (left.0, ap (λ (d : FullDesk). d.windows) left.1.desk)
   shown_windows within (Some update) false s m t u same x there slots whole =
@@ -134,18 +136,18 @@ module _ {V : Type 0} {H : V → Type 0} (loan : TakenBox V H → WindowLoan) {X
         → (mark : Option Pixels) (changes : Bool) → IsMark list_loan loan t m s mark → ((x : KeptList) → slice_get (records_of list_loan m) s.list ≡ Some x → IsSameOrNot changes (f x) x)
         → (u : WindowManager V H) (c d : Controls (TakenBox W K)) → IsShownWithBars control_loan loan list_loan within mark changes s n t c u d
         → LeavesLists list_loan loan control_loan (IsWhereRight (IsRelined l f)) t c m u d n
-    relined_over control_loan within outside mark changes marked agree u c d shown held kept o slots whole controls lists =
+    relined_over control_loan within outside mark changes marked agree u c d shown held kept others o slots whole controls lists =
         by_shown (shown l (spot_of_after loan list_loan l t m n s change.is f change.keeps change.edited change.next change.stays))
       where
         by_changed : (mid : WindowManager V H) → LeavesLists list_loan loan control_loan (IsWhereRight (AreBarsSet l)) mid c n u d n
             → IsWholeManager loan mid slots × ((desk_of loan mid []).windows ≡ (desk_of loan t []).windows) × AreWholeLists (desk_of loan mid []).windows (lists_state list_loan n kept)
-            × IsWhereRight (IsListChanged l f) (list_desk list_loan loan t o slots (controls_state control_loan c held) m kept) (list_desk list_loan loan mid o slots (controls_state control_loan c held) n kept)
+            × IsWhereRight (IsListChanged l f) (list_desk list_loan loan t others o slots (controls_state control_loan c held) m kept) (list_desk list_loan loan mid others o slots (controls_state control_loan c held) n kept)
             → IsWholeManager loan u slots × AreWholeControls (desk_of loan u []).windows (controls_state control_loan d held) × AreWholeLists (desk_of loan u []).windows (lists_state list_loan n kept)
-            × IsWhereRight (IsRelined l f) (list_desk list_loan loan t o slots (controls_state control_loan c held) m kept) (list_desk list_loan loan u o slots (controls_state control_loan d held) n kept)
+            × IsWhereRight (IsRelined l f) (list_desk list_loan loan t others o slots (controls_state control_loan c held) m kept) (list_desk list_loan loan u others o slots (controls_state control_loan d held) n kept)
         by_changed mid bars (whole_mid, windows, lists_mid, changed) =
-            let set = bars held kept o slots whole_mid (subst (λ ws. AreWholeControls ws (controls_state control_loan c held)) (sym windows) controls) lists_mid in
-            let before = list_desk list_loan loan t o slots (controls_state control_loan c held) m kept in
-            let between = list_desk list_loan loan mid o slots (controls_state control_loan c held) n kept in (
+            let set = bars held kept others o slots whole_mid (subst (λ ws. AreWholeControls ws (controls_state control_loan c held)) (sym windows) controls) lists_mid in
+            let before = list_desk list_loan loan t others o slots (controls_state control_loan c held) m kept in
+            let between = list_desk list_loan loan mid others o slots (controls_state control_loan c held) n kept in (
               set.0,
               set.1,
               set.2,
@@ -157,34 +159,34 @@ module _ {V : Type 0} {H : V → Type 0} (loan : TakenBox V H → WindowLoan) {X
 
         by_shown : (mid : WindowManager V H) × IsShownOrMarked list_loan loan within mark changes s n t mid × LeavesLists list_loan loan control_loan (IsWhereRight (AreBarsSet l)) mid c n u d n
             → IsWholeManager loan u slots × AreWholeControls (desk_of loan u []).windows (controls_state control_loan d held) × AreWholeLists (desk_of loan u []).windows (lists_state list_loan n kept)
-            × IsWhereRight (IsRelined l f) (list_desk list_loan loan t o slots (controls_state control_loan c held) m kept) (list_desk list_loan loan u o slots (controls_state control_loan d held) n kept)
+            × IsWhereRight (IsRelined l f) (list_desk list_loan loan t others o slots (controls_state control_loan c held) m kept) (list_desk list_loan loan u others o slots (controls_state control_loan d held) n kept)
         by_shown (mid, is_shown, bars) =
             by_changed mid bars
-            (changed_over loan list_loan l t m n s change.is f change.keeps change.edited change.next change.stays within outside mark changes marked agree mid is_shown o slots (controls_state control_loan c held) kept whole lists)
+            (changed_over loan list_loan l t m n s change.is f change.keeps change.edited change.next change.stays within outside mark changes marked agree mid is_shown others o slots (controls_state control_loan c held) kept whole lists)
 
 -- ---- steps that leave controls
 
 module _ {V : Type 0} {H : V → Type 0} (loan : TakenBox V H → WindowLoan) {X : Type 0} {L : X → Type 0} (list_loan : TakenBox X L → ListLoan) {W : Type 0} {K : W → Type 0} (control_loan : TakenBox W K → ControlLoan) where
   pub leaves_controls : (step : ListDesk → ListDesk → Type 0) (t u : WindowManager V H) (m n : Lists (TakenBox X L)) (c : Controls (TakenBox W K))
       → IsChangedOver list_loan loan step t m u n → LeavesLists list_loan loan control_loan step t c m u c n
-  leaves_controls step t u m n c over held kept o slots whole controls lists = again (over o slots (controls_state control_loan c held) kept whole lists)
+  leaves_controls step t u m n c over held kept others o slots whole controls lists = again (over others o slots (controls_state control_loan c held) kept whole lists)
     where
       again : IsWholeManager loan u slots × ((desk_of loan u []).windows ≡ (desk_of loan t []).windows) × AreWholeLists (desk_of loan u []).windows (lists_state list_loan n kept)
-          × step (list_desk list_loan loan t o slots (controls_state control_loan c held) m kept) (list_desk list_loan loan u o slots (controls_state control_loan c held) n kept)
+          × step (list_desk list_loan loan t others o slots (controls_state control_loan c held) m kept) (list_desk list_loan loan u others o slots (controls_state control_loan c held) n kept)
           → IsWholeManager loan u slots × AreWholeControls (desk_of loan u []).windows (controls_state control_loan c held) × AreWholeLists (desk_of loan u []).windows (lists_state list_loan n kept)
-          × step (list_desk list_loan loan t o slots (controls_state control_loan c held) m kept) (list_desk list_loan loan u o slots (controls_state control_loan c held) n kept)
+          × step (list_desk list_loan loan t others o slots (controls_state control_loan c held) m kept) (list_desk list_loan loan u others o slots (controls_state control_loan c held) n kept)
       again (a, windows, b, done) = (a, subst (λ ws. AreWholeControls ws (controls_state control_loan c held)) (sym windows) controls, b, done)
 
   -- what a call leaves is a step of another kind as well
   pub leaves_as : (P Q : ListDesk → ListDesk → Type 0) (t u : WindowManager V H) (m n : Lists (TakenBox X L)) (c d : Controls (TakenBox W K))
-      → ((o : Opened) (slots : List WindowSlot) (held : List ControlSlot) (kept : List ListSlot)
-      → P (list_desk list_loan loan t o slots (controls_state control_loan c held) m kept) (list_desk list_loan loan u o slots (controls_state control_loan d held) n kept)
-      → Q (list_desk list_loan loan t o slots (controls_state control_loan c held) m kept) (list_desk list_loan loan u o slots (controls_state control_loan d held) n kept))
+      → ((others : List ℕ → Part → PixelSet) (o : Opened) (slots : List WindowSlot) (held : List ControlSlot) (kept : List ListSlot)
+      → P (list_desk list_loan loan t others o slots (controls_state control_loan c held) m kept) (list_desk list_loan loan u others o slots (controls_state control_loan d held) n kept)
+      → Q (list_desk list_loan loan t others o slots (controls_state control_loan c held) m kept) (list_desk list_loan loan u others o slots (controls_state control_loan d held) n kept))
       → LeavesLists list_loan loan control_loan P t c m u d n → LeavesLists list_loan loan control_loan Q t c m u d n
-  leaves_as P Q t u m n c d same over held kept o slots whole controls lists = again (over held kept o slots whole controls lists)
+  leaves_as P Q t u m n c d same over held kept others o slots whole controls lists = again (over held kept others o slots whole controls lists)
     where
       again : IsWholeManager loan u slots × AreWholeControls (desk_of loan u []).windows (controls_state control_loan d held) × AreWholeLists (desk_of loan u []).windows (lists_state list_loan n kept)
-          × P (list_desk list_loan loan t o slots (controls_state control_loan c held) m kept) (list_desk list_loan loan u o slots (controls_state control_loan d held) n kept)
+          × P (list_desk list_loan loan t others o slots (controls_state control_loan c held) m kept) (list_desk list_loan loan u others o slots (controls_state control_loan d held) n kept)
           → IsWholeManager loan u slots × AreWholeControls (desk_of loan u []).windows (controls_state control_loan d held) × AreWholeLists (desk_of loan u []).windows (lists_state list_loan n kept)
-          × Q (list_desk list_loan loan t o slots (controls_state control_loan c held) m kept) (list_desk list_loan loan u o slots (controls_state control_loan d held) n kept)
-      again (a, b, e, p) = (a, b, e, same o slots held kept p)
+          × Q (list_desk list_loan loan t others o slots (controls_state control_loan c held) m kept) (list_desk list_loan loan u others o slots (controls_state control_loan d held) n kept)
+      again (a, b, e, p) = (a, b, e, same others o slots held kept p)

@@ -46,6 +46,8 @@ use Rattle.list_mgr.proofs.Given.{edited, of_read, stays, with_cells_there}
 use Rattle.list_mgr.proofs.Places.{found_names}
 use Rattle.list_mgr.proofs.Steps.{list_named, list_read}
 use Rattle.window_items.proofs.EditLemmas.{there_edited}
+use Rattle.tb_geom.specs.Points.{PixelSet}
+use Rattle.desk_layers.specs.declared.part.Part.{Part}
 
 -- what a call makes of a selection is one list
 pub one_after : (g a b : Grid) (s : Selecting) → IsSelecting g a s → IsSelecting g b s → a ≡ b
@@ -114,9 +116,9 @@ module _ {V : Type 0} {H : V → Type 0} (loan : TakenBox V H → WindowLoan) {X
   -- the selection of the list changed so
   pub selected_so : (mark : Option Pixels) → IsMark list_loan loan t m s mark → (u : WindowManager V H) → IsToggledOrMarked list_loan loan mark selecting s m t u
       → IsChangedOver list_loan loan (IsSelectionChanged l h) t m u n
-  selected_so None (z, there, on) u toggled = λ o slots cs kept whole lists.
-      let was = controls_show (lists_show (records_of list_loan m)) cs.controls in
-      let after = controls_show (lists_show (records_of list_loan n)) cs.controls in
+  selected_so None (z, there, on) u toggled = λ others o slots cs kept whole lists.
+      let was = controls_show (lists_show others (records_of list_loan m)) cs.controls in
+      let after = controls_show (lists_show others (records_of list_loan n)) cs.controls in
       let place = there_is t.windows.records.items s.window is.window.0 in
       let w : Window V H = place.item in
       let lies : IsWindowAt t.windows.records.items s.window w = read_is t.windows.records.items s.window w place.there in
@@ -138,9 +140,9 @@ module _ {V : Type 0} {H : V → Type 0} (loan : TakenBox V H → WindowLoan) {X
         (
           y,
           list_named loan list_loan l t m s is y y_there,
-          subst (λ b. IsToggledOrNot b l g y (list_desk list_loan loan t o slots cs m kept) (list_desk list_loan loan u o slots cs n kept)) (sym drawn)
+          subst (λ b. IsToggledOrNot b l g y (list_desk list_loan loan t others o slots cs m kept) (list_desk list_loan loan u others o slots cs n kept)) (sym drawn)
               (record {
-                changed = changed_to loan list_loan l t m n s is (with_grid g) (grid_keeps g) edit refl kept_so u o slots cs kept;
+                changed = changed_to loan list_loan l t m n s is (with_grid g) (grid_keeps g) edit refl kept_so u others o slots cs kept;
                 toggled = λ r r_is.
                     let both : Some (record_of loan w) ≡ Some r = sym (found loan t t slots whole s.window l.window w is.window.0 lies (is.window.1 w lies)) ∙ r_is in
                     let same : record_of loan w ≡ r = cc in
@@ -154,15 +156,15 @@ module _ {V : Type 0} {H : V → Type 0} (loan : TakenBox V H → WindowLoan) {X
       drawn : y.kept.drawing ≡ false
       drawn = ap (λ (k : KeptList). k.kept.drawing) (same_item (records_of list_loan m) s.list y z y_there there) ∙ off
 
-      convert : (o : Opened) (slots : List WindowSlot) (cs : ControlsState) (kept : List ListSlot) → IsListChanged l (with_grid g) (list_desk list_loan loan t o slots cs m kept) (list_desk list_loan loan u o slots cs n kept)
-          → IsSelectionChanged l h (list_desk list_loan loan t o slots cs m kept) (list_desk list_loan loan u o slots cs n kept)
-      convert o slots cs kept (k, named, changed) =
+      convert : (others : List ℕ → Part → PixelSet) (o : Opened) (slots : List WindowSlot) (cs : ControlsState) (kept : List ListSlot) → IsListChanged l (with_grid g) (list_desk list_loan loan t others o slots cs m kept) (list_desk list_loan loan u others o slots cs n kept)
+          → IsSelectionChanged l h (list_desk list_loan loan t others o slots cs m kept) (list_desk list_loan loan u others o slots cs n kept)
+      convert others o slots cs kept (k, named, changed) =
           let both : Some k ≡ Some y = sym named ∙ list_named loan list_loan l t m s is y y_there in
           let same : k ≡ y = cc in (
             y,
             list_named loan list_loan l t m s is y y_there,
-            unseen y.kept.drawing l g y (list_desk list_loan loan t o slots cs m kept) (list_desk list_loan loan u o slots cs n kept) drawn
-                (subst (λ k. IsSeenOrNot k.kept.drawing l (with_grid g) k (list_desk list_loan loan t o slots cs m kept) (list_desk list_loan loan u o slots cs n kept)) same changed),
+            unseen y.kept.drawing l g y (list_desk list_loan loan t others o slots cs m kept) (list_desk list_loan loan u others o slots cs n kept) drawn
+                (subst (λ k. IsSeenOrNot k.kept.drawing l (with_grid g) k (list_desk list_loan loan t others o slots cs m kept) (list_desk list_loan loan u others o slots cs n kept)) same changed),
           )
 
       by_change : (changes : Bool) × IsChange changes x.kept.cells (selected_by selecting x.kept.cells) × IsMarkedIf list_loan loan changes y t u → IsChangedOver list_loan loan (IsSelectionChanged l h) t m u n

@@ -19,6 +19,7 @@ use Rattle.window_list.specs.Holders.{belongs_to}
 use Rattle.vis_update.specs.declared.area.Area.{Area}
 use Rattle.vis_update.specs.Areas.{stale_in}
 use Rattle.window_list.specs.declared.window.Window.{Window}
+use Rattle.window_paint.specs.White.{all_white}
 use Rattle.window_mgr.specs.declared.manager.WindowManager.{WindowManager}
 use Rattle.window_mgr.specs.DrawnWithin.{WritesPart, part_within}
 use Rattle.window_mgr.specs.Edits.{IsWindowAt}
@@ -80,14 +81,14 @@ module _ {V : Type 0} {H : V → Type 0} (loan : TakenBox V H → WindowLoan) {X
     pub drawn_by : (within : Rect) (layer : ℕ) → ((w : Window V H) → IsWindowAt t.windows.records.items s.window w → IsItsLayer list_loan m s w.layers.layers layer) → (u : WindowManager V H)
         → ((w : Window V H) → IsWindowAt t.windows.records.items s.window w → (l : Layer) → l ≡ get_or w.layers.layers layer l → (was : List ℕ → Part → PixelSet) (slots : List WindowSlot)
         → IsWholeManager loan t slots → IsWholeManager loan u slots
-        × IsLayerDrawnWithin within w.serial l (state_showing was (state_of loan t slots)) (state_showing (lists_show (records_of list_loan m)) (state_of loan u slots)))
+        × IsLayerDrawnWithin within w.serial l (state_showing was (state_of loan t slots)) (state_showing (lists_show (λ font. all_white) (records_of list_loan m)) (state_of loan u slots)))
         → IsDrawnBy list_loan loan within m x t u
     drawn_by within layer layers u redrawn was is same =
         let w : Window V H = window.item in
         let its = layers w lies in
         let k = there_is w.layers.layers layer its.low in
         let read : k.item ≡ get_or w.layers.layers layer k.item = read_is w.layers.layers layer k.item k.there in
-        let shows = lists_show (records_of list_loan m) in
+        let shows = lists_show (λ font. all_white) (records_of list_loan m) in
         leaves_redrawn loan list_loan t u x.window (part.List x.serial) within shows was is
         (λ slots whole.
         let left = redrawn w lies k.item read was slots whole in (

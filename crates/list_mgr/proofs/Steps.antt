@@ -1,5 +1,5 @@
 -- Steps of calls about lists: refused ones, those that tell something, and what is known where nothing is missing.
-use Rattle.std.proofs.Common.{◌≡◌, ◌<◌, Bool, true, not, List, [], ◌∷◌, ◌++◌, get_or, Some, None, Ok, refl, sym, ap, ◌∙◌, subst}
+use Rattle.std.proofs.Common.{◌≡◌, ℕ, ◌<◌, Bool, true, not, List, [], ◌∷◌, ◌++◌, get_or, Some, None, Ok, refl, sym, ap, ◌∙◌, subst}
 use Rattle.std.specs.Prelude.{is_none, slice_get}
 use Rattle.std.specs.Option.{option_and_then, option_map}
 use Rattle.tb_geom.specs.declared.refusal.Refusal.{Refusal}
@@ -31,27 +31,30 @@ use Rattle.list_mgr.specs.ListRefusals.{cell_refusals, list_reasons, list_refusa
 use Rattle.list_mgr.specs.ListSteps.{IsListEffect, IsListStep}
 use Rattle.list_mgr.specs.Spots.{IsSpotOf}
 use Rattle.list_mgr.specs.WholeLists.{IsToldOver, list_desk, lists_state, records_of}
+use Rattle.tb_geom.specs.Points.{PixelSet}
+use Rattle.desk_layers.specs.declared.part.Part.{Part}
 
 module _ {V : Type 0} {H : V → Type 0} (loan : TakenBox V H → WindowLoan) {X : Type 0} {L : X → Type 0} (list_loan : TakenBox X L → ListLoan) where
-  pub unchanged : (t : WindowManager V H) (o : Opened) (slots : List WindowSlot) (cs : ControlsState) (m : Lists (TakenBox X L)) (kept : List ListSlot)
-      → IsListDeskUnchanged (list_desk list_loan loan t o slots cs m kept) (list_desk list_loan loan t o slots cs m kept)
-  unchanged t o slots cs m kept = record {
+  pub unchanged : (t : WindowManager V H) (others : List ℕ → Part → PixelSet) (o : Opened) (slots : List WindowSlot) (cs : ControlsState) (m : Lists (TakenBox X L)) (kept : List ListSlot)
+      → IsListDeskUnchanged (list_desk list_loan loan t others o slots cs m kept) (list_desk list_loan loan t others o slots cs m kept)
+  unchanged t others o slots cs m kept = record {
     desk = record { windows = record { desk = refl; stale = λ p on. refl; image = λ p on. refl }; activity = refl; begun = refl };
     controls = refl;
     lists = refl;
+    others = refl;
   }
 
   -- why a call is refused, if it is, whatever is open and whatever stocks hold
   abbrev pub IsTold : ListCall → WindowManager V H → Lists (TakenBox X L) → (List (Bool × Refusal) → Type 0) → Type 0
-  IsTold call t m P = (o : Opened) (slots : List WindowSlot) (cs : ControlsState) (kept : List ListSlot)
-      → P (list_refusals call (list_desk list_loan loan t o slots cs m kept).desk.windows.desk cs (lists_state list_loan m kept))
+  IsTold call t m P = (others : List ℕ → Part → PixelSet) (o : Opened) (slots : List WindowSlot) (cs : ControlsState) (kept : List ListSlot)
+      → P (list_refusals call (list_desk list_loan loan t others o slots cs m kept).desk.windows.desk cs (lists_state list_loan m kept))
 
   -- a call that is answered
   pub told : (call : ListCall) (answer : ListReply) (t : WindowManager V H) (m : Lists (TakenBox X L)) → IsTold call t m (λ why. first_refusal why ≡ None)
-      → ((o : Opened) (slots : List WindowSlot) (cs : ControlsState) (kept : List ListSlot)
-      → IsListEffect call answer (list_desk list_loan loan t o slots cs m kept) (list_desk list_loan loan t o slots cs m kept))
+      → ((others : List ℕ → Part → PixelSet) (o : Opened) (slots : List WindowSlot) (cs : ControlsState) (kept : List ListSlot)
+      → IsListEffect call answer (list_desk list_loan loan t others o slots cs m kept) (list_desk list_loan loan t others o slots cs m kept))
       → IsToldOver list_loan loan (IsListStep call (Ok answer)) t m
-  told call answer t m why effect o slots cs kept whole lists = (why o slots cs kept, effect o slots cs kept)
+  told call answer t m why effect others o slots cs kept whole lists = (why others o slots cs kept, effect others o slots cs kept)
 
   -- ---- a list that is there
 

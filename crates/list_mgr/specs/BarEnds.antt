@@ -19,6 +19,8 @@ use Rattle.control_mgr.specs.WholeControls.{AreWholeControls, controls_state}
 use Rattle.list_mgr.specs.ListDesks.{ListsState}
 use Rattle.list_mgr.specs.ListSteps.{IsBarGone}
 use Rattle.list_mgr.specs.Lines.{desk_beside}
+use Rattle.tb_geom.specs.Points.{PixelSet}
+use Rattle.desk_layers.specs.declared.part.Part.{Part}
 
 -- the serial of a scroll bar, or 0, which no control has, where a list was made without one
 abbrev pub bar_serial : Option ℕ → ℕ
@@ -38,9 +40,10 @@ module _ {W : Type 0} {K : W → Type 0} (control_loan : TakenBox W K → Contro
   IsBarPlanned window bar at ls update t planned = (u : WindowManager V H) (m : Controls (TakenBox W K))
       → IsReadyToEnd loan control_loan (bar_of window bar) at ls update t u m → IsBarToEnd window bar u m planned
 
-  -- over any slots over which the windows are whole, and whatever the lists, a scroll bar is there no more
+  -- over any slots over which the windows are whole, and whatever the lists and other layers show, a scroll
+  -- bar is there no more
   abbrev pub IsBarGoneOver : List ControlSlot → List ControlSlot → ℕ → Option ℕ → WindowManager V H → Controls (TakenBox W K) → WindowManager V H → Controls (TakenBox W K) → Type 0
-  IsBarGoneOver held left window bar t c u d = (o : Opened) (slots : List WindowSlot) (lists : ListsState) → IsWholeManager loan t slots
+  IsBarGoneOver held left window bar t c u d = (others : List ℕ → Part → PixelSet) (o : Opened) (slots : List WindowSlot) (lists : ListsState) → IsWholeManager loan t slots
       → AreWholeControls (desk_of loan t []).windows (controls_state control_loan c held)
       → IsWholeManager loan u slots × AreWholeControls (desk_of loan u []).windows (controls_state control_loan d left)
-      × IsBarGone window bar (desk_beside control_loan loan t o slots c held lists) (desk_beside control_loan loan u o slots d left lists)
+      × IsBarGone window bar (desk_beside control_loan loan t others o slots c held lists) (desk_beside control_loan loan u others o slots d left lists)

@@ -27,7 +27,7 @@ use Rattle.window_mgr.specs.Relayered.{IsLayerToggled}
 use Rattle.window_mgr.specs.Whole.{IsWholeManager}
 use Rattle.list_mgr.specs.declared.lists.Lists.{Lists}
 use Rattle.list_mgr.specs.declared.spots.ListAt.{ListAt}
-use Rattle.list_mgr.specs.ListDesks.{KeptList, lists_show}
+use Rattle.list_mgr.specs.ListDesks.{KeptList, list_bit, with_serial}
 use Rattle.list_mgr.specs.ListSteps.{IsLayerMarked, IsLayerOf}
 use Rattle.list_mgr.specs.WholeLists.{records_of}
 use Rattle.list_mgr.specs.Within.{IsPartDrawnWithin}
@@ -77,7 +77,7 @@ module _ {X : Type 0} {L : X → Type 0} (list_loan : TakenBox X L → ListLoan)
     -- what it leaves of the windows that the list x, which may have changed, is drawn within a rectangle of its window
     abbrev pub IsDrawnBy : Rect → Lists (TakenBox X L) → KeptList → WindowManager V H → WindowManager V H → Type 0
     IsDrawnBy within m x t u = (was is : List ℕ → Part → PixelSet)
-        → ((p : Point) → is t.font (part.List x.serial) p ≡ lists_show (records_of list_loan m) t.font (part.List x.serial) p)
+        → ((p : Point) → is t.font (part.List x.serial) p ≡ list_bit t.font (with_serial x.serial (records_of list_loan m)) p)
         → LeavesShown (IsPartDrawnWithin within x.window (part.List x.serial)) was is t u
 
     -- what it leaves of them that all that the list owns is to be redrawn

@@ -24,22 +24,26 @@ use Rattle.list_mgr.specs.ListSteps.{AreBarsSet}
 use Rattle.list_mgr.specs.Spots.{IsSpotOf}
 use Rattle.list_mgr.specs.WholeLists.{LeavesLists}
 use Rattle.list_mgr.specs.Within.{IsBarGiven, IsWhereRight}
+use Rattle.tb_geom.specs.Points.{PixelSet}
+use Rattle.desk_layers.specs.declared.part.Part.{Part}
 
 module _ {W : Type 0} {K : W → Type 0} (control_loan : TakenBox W K → ControlLoan) {V : Type 0} {H : V → Type 0} (loan : TakenBox V H → WindowLoan) where
-  -- windows and controls with these lists, as a desk
-  abbrev pub desk_beside : WindowManager V H → Opened → List WindowSlot → Controls (TakenBox W K) → List ControlSlot → ListsState → ListDesk
-  desk_beside t o slots c held lists = record {
-    desk = (control_desk control_loan loan (lists_show lists.lists) t o slots c held).desk;
+  -- windows and controls with these lists, as a desk where other layers show this
+  abbrev pub desk_beside : WindowManager V H → (List ℕ → Part → PixelSet) → Opened → List WindowSlot → Controls (TakenBox W K) → List ControlSlot → ListsState → ListDesk
+  desk_beside t others o slots c held lists = record {
+    desk = (control_desk control_loan loan (lists_show others lists.lists) t o slots c held).desk;
     controls = controls_state control_loan c held;
     lists = lists;
+    others = others;
   }
 
-  -- over any slots over which the windows are whole, and whatever the lists, a scroll bar got a setting that a list was made with
+  -- over any slots over which the windows are whole, and whatever the lists and other layers show, a scroll
+  -- bar got a setting that a list was made with
   abbrev pub IsBarSetOver : ℕ → Option ℕ → Setting → WindowManager V H → Controls (TakenBox W K) → WindowManager V H → Controls (TakenBox W K) → Type 0
-  IsBarSetOver window bar setting t c u d = (o : Opened) (slots : List WindowSlot) (held : List ControlSlot) (lists : ListsState) → IsWholeManager loan t slots
+  IsBarSetOver window bar setting t c u d = (others : List ℕ → Part → PixelSet) (o : Opened) (slots : List WindowSlot) (held : List ControlSlot) (lists : ListsState) → IsWholeManager loan t slots
       → AreWholeControls (desk_of loan t []).windows (controls_state control_loan c held)
       → IsWholeManager loan u slots × AreWholeControls (desk_of loan u []).windows (controls_state control_loan d held)
-      × IsBarGiven window bar setting (desk_beside t o slots c held lists) (desk_beside u o slots d held lists)
+      × IsBarGiven window bar setting (desk_beside t others o slots c held lists) (desk_beside u others o slots d held lists)
 
   -- the list that stands here was drawn within the rectangle, or marked, and then its scroll bars were set
   abbrev pub IsShownWithBars : {X : Type 0} {L : X → Type 0} → (TakenBox X L → ListLoan) → Rect → Option Pixels → Bool → ListAt → Lists (TakenBox X L)

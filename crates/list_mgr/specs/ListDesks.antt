@@ -48,10 +48,10 @@ with_serial n ls = items.with_serial n ls
 abbrev pub list_bit : List ℕ → Option KeptList → PixelSet
 list_bit font l p = option_map_or (λ x. list_shown font x.kept.definition.definition x.kept.view x.kept.cells p) l false
 
--- what these lists show in a font
-abbrev pub lists_show : List KeptList → List ℕ → Part → PixelSet
-lists_show ls font (part.List n) p = list_bit font (with_serial n ls) p
-lists_show ls font _ p = false
+-- what these lists show in a font, and other layers this
+abbrev pub lists_show : (List ℕ → Part → PixelSet) → List KeptList → List ℕ → Part → PixelSet
+lists_show others ls font (part.List n) p = list_bit font (with_serial n ls) p
+lists_show others ls font q p = others font q p
 
 -- ---- the desk
 
@@ -60,13 +60,16 @@ pub record ListDesk : Type 0 where
   pub desk : DeskState
   pub controls : ControlsState
   pub lists : ListsState
+  -- what layers that are neither controls' nor lists' show in a font
+  pub others : List ℕ → Part → PixelSet
 
--- the same, as the manager of controls sees it: lists are what other layers show
+-- the same, as the manager of controls sees it: to it lists are among what other layers show
 abbrev pub with_controls : ListDesk → ControlDesk
-with_controls d = record { desk = d.desk; controls = d.controls; others = lists_show d.lists.lists }
+with_controls d = record { desk = d.desk; controls = d.controls; others = lists_show d.others d.lists.lists }
 
 -- nothing changed
 pub record IsListDeskUnchanged (before after : ListDesk) : Type 0 where
   pub desk : IsDeskUnchanged before.desk after.desk
   pub controls : after.controls ≡ before.controls
   pub lists : after.lists ≡ before.lists
+  pub others : after.others ≡ before.others

@@ -1,6 +1,6 @@
 -- One step of a call about lists: what it leaves, and what it answers.
 use Rattle.std.specs.Prelude.{◌≡◌, ◌⊎◌, ℕ, ℤ, pos, nat_abs, Bool, true, false, not, List, [], ◌∷◌, ◌++◌, Option, None, Some, Result, Ok, is_none, slice_get}
-use Rattle.std.specs.List.{AllZip, remove}
+use Rattle.std.specs.List.{AllZip, filter, remove}
 use Rattle.std.specs.Option.{option_map_or}
 use Rattle.tb_geom.specs.declared.point.Point.{Point}
 use Rattle.tb_geom.specs.declared.refusal.Refusal.{Refusal}
@@ -30,6 +30,7 @@ use Rattle.desk_layers.specs.Change.{Change, IsChanged, no_change}
 use Rattle.desk_layers.specs.Owner.{same_owner}
 use Rattle.desk_layers.specs.Owner.Owner.{Content as ContentOf}
 use Rattle.window_list.specs.declared.layer.Layer.{Layer}
+use Rattle.window_list.specs.Holders.{layer_index}
 use Rattle.desk_call.specs.declared.control.ControlCall.TheVariants as control_calls
 use Rattle.desk_call.specs.declared.control.ControlOf.{ControlOf}
 use Rattle.desk_call.specs.declared.control.ControlReply.TheVariants as control_reply
@@ -41,15 +42,17 @@ use Rattle.desk_call.specs.declared.list.ListOf.{ListOf}
 use Rattle.desk_call.specs.declared.list.ListReply.{ListReply}
 use Rattle.desk_call.specs.declared.list.ListReply.TheVariants as reply
 use Rattle.desk_call.specs.declared.list.NewList.{NewList}
+use Rattle.desk_call.specs.declared.update.LayerKind.TheVariants.{Lists}
 use Rattle.desk_call.specs.Steps.{IsStepOf}
 use Rattle.vis_update.specs.Records.{WindowRecord}
+use Rattle.window_paint.specs.Kinds.{is_of}
 use Rattle.window_mgr.specs.DeskStates.{IsDeskUnchanged, SameActivity}
 use Rattle.window_mgr.specs.Finding.{record_with}
 use Rattle.window_mgr.specs.FullDesk.{FullState, layered_state}
 use Rattle.window_mgr.specs.Relayered.{AreLayersSet, IsLayerRedrawn, IsLayerToggled}
 use Rattle.control_mgr.specs.ControlDesks.{ShowsControls}
 use Rattle.control_mgr.specs.ControlDesks as controls
-use Rattle.control_mgr.specs.ControlSteps.{AreLayersOf, IsControlStep, IsSettingPut, behind_controls}
+use Rattle.control_mgr.specs.ControlSteps.{AreLayersOf, IsControlStep, IsSettingPut}
 use Rattle.list_mgr.specs.ListDesks.{IsListDeskUnchanged, KeptList, ListDesk, ListSlot, index_of, list_of, with_controls}
 use Rattle.list_mgr.specs.ListRefusals.{corner_of, list_refusals, may_list_grow, scroll_kind, size_of, view_of}
 
@@ -62,15 +65,28 @@ pub record IsLayerOf (l : KeptList) (k : Layer) : Type 0 where
   pub region : (p : Point) → holds k.region p ≡ rect_holds (view_rect l.kept.view) p
   pub bounds : k.bounds ≡ view_rect l.kept.view
 
--- the layers behind the controls are these lists, from front to back the oldest first
+-- the layers that are lists'
+abbrev pub layers_of_lists : List Layer → List Layer
+layers_of_lists ls = filter (λ l. is_of Lists l.part) ls
+
+-- they are these lists', from front to back the oldest first
 abbrev pub AreListLayers : List KeptList → List Layer → Type 0
-AreListLayers ls layers = AllZip IsLayerOf ls (behind_controls layers)
+AreListLayers ls layers = AllZip IsLayerOf ls (layers_of_lists layers)
+
+-- the layers, and behind them this one
+abbrev pub with_last : Layer → List Layer → List Layer
+with_last l ls = ls ++ l ∷ []
+
+-- the layers without that of this part
+abbrev pub without_part : Part → List Layer → List Layer
+without_part q ls = option_map_or (λ i. remove ls i) (layer_index q ls) ls
 
 -- ---- what is common to several calls
 
 -- nothing but windows and lists changed
 pub record IsBesideLists (before after : ListDesk) : Type 0 where
   pub controls : after.controls ≡ before.controls
+  pub others : after.others ≡ before.others
   pub activity : SameActivity before.desk after.desk
 
 -- a list was changed so
@@ -80,9 +96,11 @@ pub record IsChangedTo (l : ListOf) (f : KeptList → KeptList) (before after : 
   pub lists : after.lists ≡ record before.lists { lists = edit_at f at before.lists.lists }
   pub beside : IsBesideLists before after
 
--- the window's layers are its controls and its lists, as they are now, and one of them was drawn afresh, if one is named
-pub record AreLaid (window : ℕ) (afresh : Option Part) (before after : ListDesk) : Type 0 where
+-- the window's layers became these, among them its controls and its lists, as they are now, and one of them was drawn afresh, if
+-- one is named
+pub record AreLaid (window : ℕ) (relaid : List Layer → List Layer) (afresh : Option Part) (before after : ListDesk) : Type 0 where
   pub layers : List Layer
+  pub become : (w : WindowRecord) → record_with window before.desk.windows.desk.windows ≡ Some w → layers ≡ relaid w.layers
   pub controls : AreLayersOf (items_of window after.controls.controls) layers
   pub lists : AreListLayers (items_of window after.lists.lists) layers
   pub set : AreLayersSet window layers afresh before.desk.windows after.desk.windows
@@ -151,8 +169,9 @@ IsSelectionChanged l g before after = OfList l before (λ x. IsToggledOrNot x.ke
 -- ---- scroll bars
 
 -- nothing but controls and what windows show changed
-abbrev pub SameLists : ListDesk → ListDesk → Type 0
-SameLists before after = after.lists ≡ before.lists
+pub record SameLists (before after : ListDesk) : Type 0 where
+  pub lists : after.lists ≡ before.lists
+  pub others : after.others ≡ before.others
 
 -- a scroll bar that a list was made with got this setting, where the window has it still
 abbrev pub IsBarSet : ℕ → Option ℕ → Setting → ListDesk → ListDesk → Type 0
@@ -223,7 +242,8 @@ new_list n serial flags vertical horizontal loan = record {
   };
 }
 
--- a list of this serial was put behind the others, with a definition that was taken out of the stock and begun, and drawn
+-- a list of this serial was put behind the others, with a definition that was taken out of the stock and begun, and drawn; its
+-- layer lies behind all others of its window
 pub record IsListPut (n : NewList) (serial : ℕ) (vertical horizontal : Option ℕ) (before after : ListDesk) : Type 0 where
   pub flags : SelectionFlags
   pub sum : flags_number flags ≡ n.flags
@@ -235,7 +255,9 @@ pub record IsListPut (n : NewList) (serial : ℕ) (vertical horizontal : Option 
   pub lists : after.lists.lists
       ≡ before.lists.lists ++ new_list n serial flags vertical horizontal (record { definition = begun; slot = loan.slot }) ∷ []
   pub next : after.lists.next ≡ serial_after serial
-  pub laid : AreLaid n.window (Some (part.List serial)) before after
+  pub layer : Layer
+  pub its : IsLayerOf (new_list n serial flags vertical horizontal (record { definition = begun; slot = loan.slot })) layer
+  pub laid : AreLaid n.window (with_last layer) (Some (part.List serial)) before after
   pub beside : IsBesideLists before after
 
 -- its scroll bars are made first, the vertical one before the other
@@ -256,7 +278,7 @@ pub record IsListGone (l : ListOf) (x : KeptList) (before after : ListDesk) : Ty
   pub there : slice_get before.lists.lists at ≡ Some x
   pub shut : IsListShut x.kept.definition before.lists.stock after.lists.stock
   pub lists : after.lists ≡ record before.lists { lists = remove before.lists.lists at; stock = after.lists.stock }
-  pub laid : AreLaid l.window None before after
+  pub laid : AreLaid l.window (without_part (part.List l.list)) None before after
   pub beside : IsBesideLists before after
 
 -- a scroll bar was disposed of, as DisposeControl does it, where the window has it still

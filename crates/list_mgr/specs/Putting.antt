@@ -45,6 +45,8 @@ use Rattle.list_mgr.specs.ListSteps.{IsLayerOf}
 use Rattle.list_mgr.specs.Making.{IsListTicket}
 use Rattle.list_mgr.specs.NewBars.{bar_control, bar_ticket, horizontal_of, vertical_of}
 use Rattle.list_mgr.specs.WholeLists.{AreWholeLists, list_desk, lists_state}
+use Rattle.tb_geom.specs.Points.{PixelSet}
+use Rattle.desk_layers.specs.declared.part.Part.{Part}
 
 -- nothing but the room for lists is another, and there is no less of it
 pub record AreRoomier {D : Type 0} (old new : Lists D) : Type 0 where
@@ -104,15 +106,15 @@ pub record IsReadyToPut {V : Type 0} {H : V → Type 0} {D : Type 0} (loan : Tak
 
 -- `list_loan` says it of a list's
 module _ {X : Type 0} {L : X → Type 0} (list_loan : TakenBox X L → ListLoan) {V : Type 0} {H : V → Type 0} (loan : TakenBox V H → WindowLoan) where
-  -- over any slots over which the windows are whole, and over these of the lists' stock, whatever the controls that are whole, all
-  -- are whole afterwards, the controls as they were, and together they are such a step of the desk
+  -- over any slots over which the windows are whole, and over these of the lists' stock, whatever the controls that are whole
+  -- and what other layers show, all are whole afterwards, the controls as they were, and together they are such a step of the desk
   abbrev pub LeavesBeside : List ListSlot → List ListSlot → (ListDesk → ListDesk → Type 0)
       → WindowManager V H → Lists (TakenBox X L) → WindowManager V H → Lists (TakenBox X L) → Type 0
-  LeavesBeside kept rest step t m u n = (o : Opened) (slots : List WindowSlot) (cs : ControlsState) → IsWholeManager loan t slots
+  LeavesBeside kept rest step t m u n = (others : List ℕ → Part → PixelSet) (o : Opened) (slots : List WindowSlot) (cs : ControlsState) → IsWholeManager loan t slots
       → AreWholeControls (desk_of loan t []).windows cs → AreWholeLists (desk_of loan t []).windows (lists_state list_loan m kept)
       → IsWholeManager loan u slots × AreWholeControls (desk_of loan u []).windows cs
       × AreWholeLists (desk_of loan u []).windows (lists_state list_loan n rest)
-      × step (list_desk list_loan loan t o slots cs m kept) (list_desk list_loan loan u o slots cs n rest)
+      × step (list_desk list_loan loan t others o slots cs m kept) (list_desk list_loan loan u others o slots cs n rest)
 
 -- ---- scroll bars
 

@@ -28,6 +28,8 @@ use Rattle.list_mgr.specs.declared.lists.Lists.{Lists}
 use Rattle.list_mgr.specs.ListDesks.{KeptList, ListDesk, ListSlot, ListsState, lists_show}
 use Rattle.list_mgr.specs.ListRefusals.{most_lists}
 use Rattle.list_mgr.specs.ListSteps.{AreListLayers}
+use Rattle.tb_geom.specs.Points.{PixelSet}
+use Rattle.desk_layers.specs.declared.part.Part.{Part}
 
 -- the size of the cells of a view
 abbrev pub cell_size : View → Size
@@ -70,8 +72,8 @@ abbrev pub slots_of : List KeptList → List ℕ
 slots_of ls = map (λ l. l.kept.definition.slot) ls
 
 -- the lists of these windows, between calls: settled, each of another serial that was given before, in a window that is there,
--- and no window has more than it may have; the layers of each window behind its controls are its lists; and the empty slots of the
--- stock are those of their definitions
+-- and no window has more than it may have; the layers of each window that are lists' are those of its own; and the empty slots
+-- of the stock are those of their definitions
 pub record AreWholeLists (windows : List WindowRecord) (s : ListsState) : Type 0 where
   pub settled : AreSettled s.lists
   pub apart : AreListsApart s.lists
@@ -97,44 +99,45 @@ module _ {X : Type 0} {L : X → Type 0} (list_loan : TakenBox X L → ListLoan)
       pub slots : List ListSlot
       pub whole : AreWholeLists (desk_of loan t []).windows (lists_state m slots)
 
-    -- windows, controls and lists with what is open, as a desk
-    abbrev pub list_desk : WindowManager V H → Opened → List WindowSlot → ControlsState → Lists (TakenBox X L) → List ListSlot → ListDesk
-    list_desk t o slots cs m kept = record {
-      desk = desk_with o (state_showing (controls_show (lists_show (records_of m)) cs.controls) (state_of loan t slots));
+    -- windows, controls and lists with what is open, as a desk where other layers show this
+    abbrev pub list_desk : WindowManager V H → (List ℕ → Part → PixelSet) → Opened → List WindowSlot → ControlsState → Lists (TakenBox X L) → List ListSlot → ListDesk
+    list_desk t others o slots cs m kept = record {
+      desk = desk_with o (state_showing (controls_show (lists_show others (records_of m)) cs.controls) (state_of loan t slots));
       controls = cs;
       lists = lists_state m kept;
+      others = others;
     }
 
-    -- a call that asks something changes nothing: over any slots over which windows and lists are whole, and whatever the controls,
-    -- together they are such a step of the desk
+    -- a call that asks something changes nothing: over any slots over which windows and lists are whole, and whatever the controls and
+    -- other layers show, together they are such a step of the desk
     abbrev pub IsToldOver : (ListDesk → ListDesk → Type 0) → WindowManager V H → Lists (TakenBox X L) → Type 0
-    IsToldOver step t m = (o : Opened) (slots : List WindowSlot) (cs : ControlsState) (kept : List ListSlot) → IsWholeManager loan t slots
+    IsToldOver step t m = (others : List ℕ → Part → PixelSet) (o : Opened) (slots : List WindowSlot) (cs : ControlsState) (kept : List ListSlot) → IsWholeManager loan t slots
         → AreWholeLists (desk_of loan t []).windows (lists_state m kept)
-        → step (list_desk t o slots cs m kept) (list_desk t o slots cs m kept)
+        → step (list_desk t others o slots cs m kept) (list_desk t others o slots cs m kept)
 
     -- a call that leaves the windows' records, controls and stocks: over any slots over which windows and lists are whole, and
-    -- whatever the controls, they are whole afterwards, and together they are such a step of the desk
+    -- whatever the controls and other layers show, they are whole afterwards, and together they are such a step of the desk
     abbrev pub IsChangedOver : (ListDesk → ListDesk → Type 0) → WindowManager V H → Lists (TakenBox X L) → WindowManager V H → Lists (TakenBox X L) → Type 0
-    IsChangedOver step t m u n = (o : Opened) (slots : List WindowSlot) (cs : ControlsState) (kept : List ListSlot) → IsWholeManager loan t slots
+    IsChangedOver step t m u n = (others : List ℕ → Part → PixelSet) (o : Opened) (slots : List WindowSlot) (cs : ControlsState) (kept : List ListSlot) → IsWholeManager loan t slots
         → AreWholeLists (desk_of loan t []).windows (lists_state m kept)
         → IsWholeManager loan u slots × ((desk_of loan u []).windows ≡ (desk_of loan t []).windows)
         × AreWholeLists (desk_of loan u []).windows (lists_state n kept)
-        × step (list_desk t o slots cs m kept) (list_desk u o slots cs n kept)
+        × step (list_desk t others o slots cs m kept) (list_desk u others o slots cs n kept)
 
     -- `control_loan` says it of a control's
     module _ {W : Type 0} {K : W → Type 0} (control_loan : TakenBox W K → ControlLoan) where
-      -- over any slots over which the windows are whole, and over these of the stocks of controls and of lists, all are whole
-      -- afterwards, and together they are such a step of the desk
+      -- whatever other layers show, over any slots over which the windows are whole, and over these of the stocks of controls and of
+      -- lists, all are whole afterwards, and together they are such a step of the desk
       abbrev pub LeavesOver : List ControlSlot → List ControlSlot → List ListSlot → List ListSlot → (ListDesk → ListDesk → Type 0)
           → WindowManager V H → Controls (TakenBox W K) → Lists (TakenBox X L)
           → WindowManager V H → Controls (TakenBox W K) → Lists (TakenBox X L) → Type 0
-      LeavesOver held left kept rest step t c m u d n = (o : Opened) (slots : List WindowSlot) → IsWholeManager loan t slots
+      LeavesOver held left kept rest step t c m u d n = (others : List ℕ → Part → PixelSet) (o : Opened) (slots : List WindowSlot) → IsWholeManager loan t slots
           → AreWholeControls (desk_of loan t []).windows (controls_state control_loan c held)
           → AreWholeLists (desk_of loan t []).windows (lists_state m kept)
           → IsWholeManager loan u slots
           × AreWholeControls (desk_of loan u []).windows (controls_state control_loan d left)
           × AreWholeLists (desk_of loan u []).windows (lists_state n rest)
-          × step (list_desk t o slots (controls_state control_loan c held) m kept) (list_desk u o slots (controls_state control_loan d left) n rest)
+          × step (list_desk t others o slots (controls_state control_loan c held) m kept) (list_desk u others o slots (controls_state control_loan d left) n rest)
 
       -- so over any slots of these stocks, which a call leaves alone
       abbrev pub LeavesLists : (ListDesk → ListDesk → Type 0)

@@ -9,6 +9,7 @@ ghost use Rattle.control_mgr.specs.ControlDesks.{controls_show};
 ghost use Rattle.control_mgr.specs.Settled.{AreSettled as AreControlsSettled};
 ghost use Rattle.list_mgr.specs.ListDesks.{list_bit, lists_show};
 ghost use Rattle.list_mgr.specs.WholeLists.{AreSettled};
+ghost use Rattle.window_paint.specs.White.{all_white};
 
 use crate::Lists;
 use bit_map::{Mode, Pattern};
@@ -21,7 +22,7 @@ use window_paint::Showing;
 impl<D: DrawnList> Showing for Lists<D> {
     ghost is_whole = { λ m. AreSettled (all_seen D.list_loan m.list.items.items) };
 
-    ghost shows = { λ m. lists_show (all_seen D.list_loan m.list.items.items) };
+    ghost shows = { λ m. lists_show (λ font. all_white) (all_seen D.list_loan m.list.items.items) };
 
     fn draw(&self, part: Part, canvas: &mut Canvas<'_>) {
         match part {
@@ -68,7 +69,7 @@ impl<'a, D: DrawnControl, E: DrawnList> Showing for Contents<'a, D, E> {
     ghost is_whole = { λ m. AreControlsSettled (all_controls_seen D.control_loan m.controls.now.list.items.items)
         × AreSettled (all_seen E.list_loan m.lists.now.list.items.items) };
 
-    ghost shows = { λ m. controls_show (lists_show (all_seen E.list_loan m.lists.now.list.items.items))
+    ghost shows = { λ m. controls_show (lists_show (λ font. all_white) (all_seen E.list_loan m.lists.now.list.items.items))
         (all_controls_seen D.control_loan m.controls.now.list.items.items) };
 
     fn draw(&self, part: Part, canvas: &mut Canvas<'_>) {

@@ -12,7 +12,7 @@ use Rattle.desk_layers.proofs.Changing.{stays_right}
 use Rattle.desk_ground.specs.declared.titles.BarTitle.{BarTitle}
 use Rattle.menu_list.specs.Lists.{edit_at, in_bar, menu_index, title_of, titles_of}
 use Rattle.desk_call.specs.declared.activity.Activity.{Activity}
-use Rattle.desk_call.specs.declared.activity.Activity.TheVariants.{Idle, Updating, Tracking, Pulling, TrackingControl, Dragging, Growing}
+use Rattle.desk_call.specs.declared.activity.Activity.TheVariants.{Idle, Updating, Tracking, Pulling, TrackingControl, Dragging, Growing, Selecting}
 use Rattle.desk_call.specs.declared.activity.PulledMenu.{PulledMenu}
 use Rattle.desk_call.specs.declared.menu.Choice.{Choice}
 use Rattle.desk_call.specs.declared.menu.MenuCall.{MenuCall}
@@ -53,6 +53,7 @@ moved_leaves (Tracking s) p answer before after wrong = absurd wrong
 moved_leaves (TrackingControl c) p answer before after wrong = absurd wrong
 moved_leaves (Dragging d) p answer before after wrong = absurd wrong
 moved_leaves (Growing g) p answer before after wrong = absurd wrong
+moved_leaves (Selecting k) p answer before after wrong = absurd wrong
 
 released_leaves : (a : Activity) (p : Point) (choice : Option Choice) (before after : MenuDesk) → IsMenuReleased a p choice before after → LeavesWindows before.desk.windows after.desk.windows
 released_leaves (Pulling m) p choice before after (is, away) = inr (_, away.shown.bar)
@@ -62,6 +63,7 @@ released_leaves (Tracking s) p choice before after wrong = absurd wrong
 released_leaves (TrackingControl c) p choice before after wrong = absurd wrong
 released_leaves (Dragging d) p choice before after wrong = absurd wrong
 released_leaves (Growing g) p choice before after wrong = absurd wrong
+released_leaves (Selecting k) p choice before after wrong = absurd wrong
 
 disposed_leaves : (at : Option ℕ) (before after : MenuDesk) → IsDisposedAt at before after → LeavesWindows before.desk.windows after.desk.windows
 disposed_leaves None before after wrong = absurd wrong
@@ -160,6 +162,7 @@ moved_bar (Tracking s) p answer before after wrong was = absurd wrong
 moved_bar (TrackingControl c) p answer before after wrong was = absurd wrong
 moved_bar (Dragging d) p answer before after wrong was = absurd wrong
 moved_bar (Growing g) p answer before after wrong was = absurd wrong
+moved_bar (Selecting k) p answer before after wrong was = absurd wrong
 
 released_bar : (a : Activity) (p : Point) (choice : Option Choice) (before after : MenuDesk) → IsMenuReleased a p choice before after → IsBarOf after.menus after.desk.windows.desk
 released_bar (Pulling m) p choice before after (is, away) = shown_is_bar before after away.shown
@@ -169,6 +172,7 @@ released_bar (Tracking s) p choice before after wrong = absurd wrong
 released_bar (TrackingControl c) p choice before after wrong = absurd wrong
 released_bar (Dragging d) p choice before after wrong = absurd wrong
 released_bar (Growing g) p choice before after wrong = absurd wrong
+released_bar (Selecting k) p choice before after wrong = absurd wrong
 
 disposed_bar : (at : Option ℕ) (before after : MenuDesk) → IsDisposedAt at before after → IsBarOf after.menus after.desk.windows.desk
 disposed_bar None before after wrong = absurd wrong

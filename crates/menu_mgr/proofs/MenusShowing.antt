@@ -8,7 +8,7 @@ use Rattle.desk_layers.specs.declared.part.Part.{Part}
 use Rattle.desk_layers.specs.Desk.{IsDesk}
 use Rattle.desk_layers.specs.Change.{no_change}
 use Rattle.desk_call.specs.declared.activity.Activity.{Activity}
-use Rattle.desk_call.specs.declared.activity.Activity.TheVariants.{Idle, Updating, Tracking, Pulling, TrackingControl, Dragging, Growing}
+use Rattle.desk_call.specs.declared.activity.Activity.TheVariants.{Idle, Updating, Tracking, Pulling, TrackingControl, Dragging, Growing, Selecting}
 use Rattle.desk_call.specs.declared.activity.PulledMenu.{PulledMenu}
 use Rattle.desk_call.specs.declared.menu.Choice.{Choice}
 use Rattle.desk_call.specs.declared.menu.MenuCall.{MenuCall}
@@ -75,6 +75,7 @@ module _ (shows : List ℕ → Part → PixelSet) where
     moved_showing (TrackingControl c) p answer none = none
     moved_showing (Dragging d) p answer none = none
     moved_showing (Growing g) p answer none = none
+    moved_showing (Selecting k) p answer none = none
     moved_showing (Pulling m) p answer it = moved_on_showing m (other_title m (title_of_point before p)) p answer it
 
     put_away_showing : (m : PulledMenu) (choice : Option Choice) → IsPutAway m choice before after → IsPutAway m choice (menus_shown before) (menus_shown after)
@@ -87,6 +88,7 @@ module _ (shows : List ℕ → Part → PixelSet) where
     released_showing (TrackingControl c) p answer none = none
     released_showing (Dragging d) p answer none = none
     released_showing (Growing g) p answer none = none
+    released_showing (Selecting k) p answer none = none
     released_showing (Pulling m) p answer (is, it) = (is, put_away_showing m answer it)
 
     edited_showing : (call : MenuCall) (answer : MenuReply) → AreEdited call answer before after → AreEdited call answer (menus_shown before) (menus_shown after)

@@ -14,7 +14,7 @@ use Rattle.menu_list.specs.declared.listed.Listed.{Listed}
 use Rattle.menu_list.specs.Lists.{menu_index, titles_of}
 use Rattle.menu_list.proofs.SeenLemmas.{length-seen, menu_index-seen}
 use Rattle.desk_call.specs.declared.activity.Activity.{Activity}
-use Rattle.desk_call.specs.declared.activity.Activity.TheVariants.{Idle, Updating, Tracking, Pulling, TrackingControl, Dragging, Growing}
+use Rattle.desk_call.specs.declared.activity.Activity.TheVariants.{Idle, Updating, Tracking, Pulling, TrackingControl, Dragging, Growing, Selecting}
 use Rattle.desk_call.specs.declared.activity.Standing.TheVariants.{Changes}
 use Rattle.desk_call.specs.declared.menu.MenuCall.{MenuCall}
 use Rattle.desk_call.specs.declared.menu.MenuCall.TheVariants.{New, Dispose, Down, Move, Up}
@@ -52,6 +52,7 @@ gate_idle (Tracking t) may = absurd (cc)
 gate_idle (TrackingControl c) may = absurd (cc)
 gate_idle (Dragging d) may = absurd (cc)
 gate_idle (Growing g) may = absurd (cc)
+gate_idle (Selecting k) may = absurd (cc)
 gate_idle (Pulling m) may = absurd (cc)
 
 fewer : (xs : List MenuRecord) (at : ℕ) (l : MenuRecord) → slice_get xs at ≡ Some l → length (remove xs at) ≤ length xs

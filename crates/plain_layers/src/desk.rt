@@ -71,7 +71,7 @@ pub struct PlainWindow {
     /// What was inverted in the picture, in its own coordinates.
     pub inverted: Rect,
     /// Those that it may have, from front to back.
-    pub layers: [PlainLayer; 3],
+    pub layers: [PlainLayer; 4],
 }
 
 /// The windows, from front to back.
@@ -163,6 +163,7 @@ impl PlainWindow {
             Part::Picture => self.picture_bit(seen_from(point, self.origin)),
             Part::Control(_) => is_even(point.h),
             Part::List(_) => is_even(point.v),
+            Part::Text(_) => is_even(point.h) == is_even(point.v),
         }
     }
 }

@@ -19,6 +19,7 @@ pub struct Plain {
 fn is_of(serial: u64, kind: Kind, owner: Owner) -> bool {
     match owner {
         Owner::Content(of, Part::Picture) => of == serial && kind == Kind::Picture,
+        Owner::Content(of, Part::Text(_)) => of == serial && kind == Kind::Texts,
         Owner::Content(of, Part::List(_)) => of == serial && kind == Kind::Lists,
         Owner::Content(of, Part::Control(_)) => of == serial && kind == Kind::Controls,
         _ => false,
@@ -116,6 +117,7 @@ impl Plain {
     /// What is seen where all that is to be redrawn of the window is drawn.
     pub fn served(&self, alloc: Global, window: u64) -> Result<Plain, AllocError> {
         let drawn = self.redrawn(alloc, window, Kind::Picture)?;
+        let drawn = drawn.redrawn(alloc, window, Kind::Texts)?;
         let drawn = drawn.redrawn(alloc, window, Kind::Lists)?;
         drawn.redrawn(alloc, window, Kind::Controls)
     }

@@ -84,7 +84,7 @@ impl PlainWindow {
 
     /// Makes the layer of this part so.
     fn put(&mut self, layer: PlainLayer) {
-        for at in 0..3 {
+        for at in 0..4 {
             if self.layers[at].part == layer.part {
                 self.layers[at] = layer;
             }

@@ -29,10 +29,11 @@ use Rattle.script_text.specs.Replies.{refused_text}
 use Rattle.watched_io.specs.Writes.{Output, Sends}
 
 -- no controls and no lists show nothing
-none_show : (font : List ℕ) (part : Part) (p : Point) → controls_show (lists_show []) [] font part p ≡ false
+none_show : (font : List ℕ) (part : Part) (p : Point) → controls_show (lists_show (λ f q p. false) []) [] font part p ≡ false
 none_show font parts.Picture p = refl
 none_show font (parts.Control n) p = refl
 none_show font (parts.List n) p = refl
+none_show font (parts.Text n) p = refl
 
 -- the desk that the Toolbox made
 pub new_desk : {V : Type 0} {H : V → Type 0} (loan : TakenBox V H → WindowLoan) {W : Type 0} {K : W → Type 0} (menu_loan : TakenBox W K → MenuLoan) {U : Type 0} {J : U → Type 0} (control_loan : TakenBox U J → ControlLoan) {X : Type 0} {L : X → Type 0} (list_loan : TakenBox X L → ListLoan) (t : Toolbox V U W X H J K L) (font : List ℕ) (stocks : AllSlots) (size wanted : DeskSize) → size ≡ wanted
@@ -40,7 +41,7 @@ pub new_desk : {V : Type 0} {H : V → Type 0} (loan : TakenBox V H → WindowLo
 new_desk loan menu_loan control_loan list_loan t font stocks size wanted same empty begun =
     subst (λ s. IsNewDesk s font stocks (toolbox_state loan menu_loan control_loan list_loan t stocks)) same (record {
       desk =
-          (λ i. record (desk_of loan t.windows stocks.windows) { shows = controls_show (lists_show (begun.lists i)) (begun.controls i) t.windows.font })
+          (λ i. record (desk_of loan t.windows stocks.windows) { shows = controls_show (lists_show (λ f q p. false) (begun.lists i)) (begun.controls i) t.windows.font })
           ∙ (λ i. record (desk_of loan t.windows stocks.windows) { shows = λ part p. none_show t.windows.font part p i })
           ∙ empty.desk;
       idle = begun.idle;

@@ -5,3 +5,4 @@ pub mod TurnLemmas
 pub mod WrittenLemmas
 pub mod PolygonLemmas
 pub mod PolygonRowLemmas
+pub mod CrossLemmas

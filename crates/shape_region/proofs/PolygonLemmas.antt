@@ -1,7 +1,7 @@
 -- Polygons: their points and edges in two parts, and past their last point.
-use Rattle.std.proofs.Common.{◌≡◌, ◌&&◌, ◌||◌, Bool, true, false, ℕ, ◌-◌, ◌≤◌, List, [], ◌∷◌, ◌++◌, length, take, drop, slice_index_or, ℤ, pos, ◌≤ℤ◌, ◌<ℤ◌, refl, sym, ap, ◌∙◌, arith}
-use Rattle.std.specs.Prelude.{⊤, int_le, int_lt}
-use Rattle.std.proofs.lemmas.Int.{ints, by_lt_z}
+use Rattle.std.proofs.Common.{◌≡◌, ◌&&◌, ◌||◌, Bool, true, false, ℕ, ◌-◌, ◌≤◌, List, [], ◌∷◌, ◌++◌, length, take, drop, slice_index_or, ℤ, pos, ◌≤ℤ◌, refl, sym, ap, ◌∙◌, arith}
+use Rattle.std.specs.Prelude.{⊤, int_le}
+use Rattle.std.proofs.lemmas.Int.{ints}
 use Rattle.std.proofs.lemmas.Bool.{and_parts, and_from}
 use Rattle.std.proofs.lemmas.List.{take-append-drop, take_rest}
 use Rattle.std.specs.List.{list_all}
@@ -16,7 +16,7 @@ use Rattle.shape_strips.proofs.RangeLemmas.{coordinate_high}
 use Rattle.shape_strips.proofs.BandLemmas.{passes_right}
 use Rattle.shape_region.specs.Polygons.{odd_edges, polygon_holds, some_line, frame_polygon_holds}
 
-or_turned : (a b : Bool) → (a || b) ≡ (b || a)
+pub or_turned : (a b : Bool) → (a || b) ≡ (b || a)
 or_turned true true = refl
 or_turned true false = refl
 or_turned false true = refl
@@ -152,31 +152,10 @@ edges_past from xs to p f e t l =
     edges_by (λ x. in_plane x ≡ true) (λ x. int_le x.v p.v) p (λ a b m n. edge_past a b p (left_of_last a p m l) (left_of_last b p n l)) from xs to f (all_in_plane xs e) t
 
 -- past the last point each row has an even number of edges
-pub polygon_up_to : (x : Point) (xs : List Point) (p : Point) → in_plane x ≡ true → list_all in_plane xs ≡ true
-    → (odd_edges x xs x p && int_lt p.h (pos 16383)) ≡ polygon_holds (x ∷ xs) p
-polygon_up_to x xs p f e = by_lt_z p.h (pos 16383)
-    (λ l. all (odd_edges x xs x p) (int_lt p.h (pos 16383)) (before p.h l))
-    (λ l. none (odd_edges x xs x p) (int_lt p.h (pos 16383)) (edges_past x xs x p f e f l ∙ even (int_le x.v p.v)))
+pub none_past : (x : Point) (xs : List Point) (p : Point) → in_plane x ≡ true → list_all in_plane xs ≡ true → pos 16383 ≤ℤ p.h
+    → odd_edges x xs x p ≡ false
+none_past x xs p f e l = edges_past x xs x p f e f l ∙ even (int_le x.v p.v)
   where
-    before : (h : ℤ) → h <ℤ pos 16383 → int_lt h (pos 16383) ≡ true
-    before h l = grind (arith, ints)
-
-    all : (a r : Bool) → r ≡ true → (a && r) ≡ a
-    all true r e = e
-    all false r e = refl
-
-    none : (a r : Bool) → a ≡ false → (a && r) ≡ a
-    none true r e = absurd (cc)
-    none false r e = refl
-
     even : (a : Bool) → differ a a ≡ false
     even true = refl
     even false = refl
-
--- a polygon by its first point and the others
-pub closed_up_to : (xs : List Point) (d : Point) → 1 ≤ length xs → list_all in_plane xs ≡ true → (p : Point)
-    → (odd_edges (slice_index_or xs 0 d) (take (length xs - 1) (drop 1 xs)) (slice_index_or xs 0 d) p && int_lt p.h (pos 16383)) ≡ polygon_holds xs p
-closed_up_to [] d l e p = absurd (omega arith)
-closed_up_to (x ∷ xs) d l e p =
-    let both = and_parts (in_plane x) (list_all in_plane xs) e in
-    ap (λ ys. odd_edges x ys x p && int_lt p.h (pos 16383)) (take_rest (x ∷ xs) 1) ∙ polygon_up_to x xs p both.0 both.1

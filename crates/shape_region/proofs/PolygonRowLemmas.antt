@@ -1,9 +1,9 @@
 -- Polygons and their frames row by row: where edges turn a row, the lines that are put in, and the rectangles around both.
-use Rattle.std.proofs.Common.{◌≡◌, ◌&&◌, ◌||◌, Bool, true, false, inl, inr, ◌-◌, ◌≤◌, length, take, drop, slice_index_or, List, [], ◌∷◌, ℤ, pos, ◌-ℤ◌, ◌+ℤ◌, ◌*ℤ◌, ◌≤ℤ◌, ◌<ℤ◌, refl, sym, ap, ◌∙◌, subst, arith}
+use Rattle.std.proofs.Common.{◌≡◌, ◌&&◌, ◌||◌, Bool, true, false, inl, inr, ◌-◌, ◌≤◌, length, take, drop, slice_index_or, List, [], ◌∷◌, ℤ, pos, negsuc, ◌-ℤ◌, ◌*ℤ◌, ◌≤ℤ◌, ◌<ℤ◌, refl, sym, ap, ◌∙◌, arith}
 use Rattle.std.specs.Prelude.{int_le, int_lt}
 use Rattle.std.specs.List.{list_all}
 use Rattle.std.specs.Ordering.{int_eq}
-use Rattle.std.proofs.lemmas.Bool.{and_left, and_right, and_parts, or_cases, cases_Bool, false≢true, false_from_ne_true}
+use Rattle.std.proofs.lemmas.Bool.{and_parts, or_cases, false≢true}
 use Rattle.std.proofs.lemmas.Int.{ints, by_lt_z, clamps}
 use Rattle.std.proofs.lemmas.List.{take_rest}
 use Rattle.tb_geom.specs.declared.point.Point.{Point}
@@ -20,17 +20,16 @@ use Rattle.shape_strips.specs.Lines.{line_holds}
 use Rattle.shape_strips.specs.Runs.{run_holds}
 use Rattle.shape_strips.proofs.BandLemmas.{passes_above, passes_column, passes_left, passes_row}
 use Rattle.shape_strips.proofs.Products.{times_le}
-use Rattle.shape_strips.proofs.RangeLemmas.{coordinate_from, coordinate_high, coordinate_low, in_range_from, sides_in}
+use Rattle.shape_strips.proofs.RangeLemmas.{coordinate_high, coordinate_low, in_range_from, sides_in}
 use Rattle.shape_strips.proofs.RunLemmas.{between_before, between_past}
 use Rattle.pixel_rows.specs.declared.columns.Columns.{Columns}
 use Rattle.pixel_rows.specs.declared.combination.Combination.TheVariants.{Union}
 use Rattle.pixel_rows.specs.Columns.{has_column, is_edge}
 use Rattle.shape_region.specs.Polygons.{odd_edges, polygon_holds, single_point, some_line}
 use Rattle.pixel_rows.specs.Bounds.{AreBounds}
-use Rattle.pixel_rows.proofs.BoxLemmas.{both_bounds, from_false}
+use Rattle.pixel_rows.proofs.BoxLemmas.{both_bounds}
 use Rattle.pixel_rows.proofs.ColumnLemmas.{over}
 use Rattle.shape_region.proofs.PolygonLemmas.{edge_past, edges_by, AreAll}
-use Rattle.pixel_rows.proofs.RowLemmas.{between_same}
 
 -- ---- where an edge turns a row
 
@@ -79,6 +78,57 @@ module _ (a b : Point) (run : Run) (v : ℤ) (told : (h : ℤ) → run_holds run
           let last : ℤ = run.right -ℤ pos 1 in
           let turned = turned_before last (omega (arith, ints)) ∙ between-in run.left last run.right (omega (arith, ints)) (omega (arith, ints)) in
           false≢true (sym (turned_before run.right l ∙ between_past run.left run.right run.right (omega (arith, ints))) ∙ turns_on a b last run.right v (omega (arith, ints)) turned)
+
+  -- right of its first column the edge turns each pixel
+  pub turned_from : run.left <ℤ run.right → (h : ℤ) → h <ℤ pos 16383 → edge_turns a b (record { h = h; v = v }) ≡ int_le run.left h
+  turned_from some h l = turned_before h l ∙ up_to run.left h run.right (omega (arith, ints, reaches_last some))
+    where
+      up_to : (left h right : ℤ) → h <ℤ right → between left h right ≡ int_le left h
+      up_to left h right l = grind (arith, ints)
+
+  pub turned_none : run.right ≤ℤ run.left → (h : ℤ) → h <ℤ pos 16383 → edge_turns a b (record { h = h; v = v }) ≡ false
+  turned_none none h l = turned_before h l ∙ no_column h
+    where
+      no_column : (x : ℤ) → between run.left x run.right ≡ false
+      no_column x = grind (arith, ints)
+
+  -- the first column is one of a pixel, and no further left than the edge
+  pub first_high : run.left <ℤ run.right → run.left ≤ℤ pos 16382
+  first_high some = by_lt_z run.left (pos 16383) (λ l. omega (arith, ints)) (λ m. absurd (false≢true (sym (past m) ∙ here)))
+    where
+      here : band_holds a b (pos 16383) (record { h = run.left; v = v }) ≡ true
+      here = sym (told run.left) ∙ between-in run.left run.left run.right (omega (arith, ints)) some
+
+      past : pos 16383 ≤ℤ run.left → band_holds a b (pos 16383) (record { h = run.left; v = v }) ≡ false
+      past m = none (edge_turns a b (record { h = run.left; v = v })) (int_lt run.left (pos 16383)) (not_less run.left m)
+        where
+          not_less : (h : ℤ) → pos 16383 ≤ℤ h → int_lt h (pos 16383) ≡ false
+          not_less h m = grind (arith, ints)
+
+          none : (x y : Bool) → y ≡ false → (x && y) ≡ false
+          none true y e = e
+          none false y e = refl
+
+  pub first_low : in_plane a ≡ true → in_plane b ≡ true → run.left <ℤ run.right → negsuc 16384 <ℤ run.left
+  first_low e f some = by_lt_z run.left (negsuc 16383) (λ l. absurd (false≢true (sym (nothing l) ∙ here))) (λ m. omega (arith, ints))
+    where
+      q : Point
+      q = record { h = run.left; v = v }
+
+      a_low : negsuc 16383 ≤ℤ a.h
+      a_low = coordinate_low a.h (and_parts (is_coordinate a.h) (is_coordinate a.v) e).0
+
+      b_low : negsuc 16383 ≤ℤ b.h
+      b_low = coordinate_low b.h (and_parts (is_coordinate b.h) (is_coordinate b.v) f).0
+
+      nothing : run.left <ℤ negsuc 16383 → edge_turns a b q ≡ false
+      nothing l =
+          let one : run.left <ℤ a.h = omega (arith, ints, a_low) in
+          let two : run.left <ℤ b.h = omega (arith, ints, b_low) in
+          λ i. passes_left a b q one two i || passes_left b a q two one i
+
+      here : edge_turns a b q ≡ true
+      here = (and_parts (edge_turns a b q) (int_lt run.left (pos 16383)) (sym (told run.left) ∙ between-in run.left run.left run.right (omega (arith, ints)) some)).0
 
   pub turn_here : run.left <ℤ run.right → (h : ℤ) → h <ℤ pos 16383 → int_eq run.left h ≡ is_edge (edge_turns a b) h v
   turn_here some h l = sym ((λ i. differ (turned_before h l i) (turned_before (h -ℤ pos 1) (omega (arith, ints)) i)) ∙ first run.left run.right h (omega (arith, ints, reaches_last some)))
@@ -227,6 +277,19 @@ module _ (r : Rect) (q : Point) where
       let m = s.right in
       let n = t.right in
       edge_past a b q (omega (arith, ints)) (omega (arith, ints))
+
+-- an edge whose ends both lie in a row or above it, or both below, turns no pixel there
+pub edge_beside : (a b p : Point) → differ (int_le a.v p.v) (int_le b.v p.v) ≡ false → edge_turns a b p ≡ false
+edge_beside a b p e = by_lt_z p.v a.v
+    (λ l. by_lt_z p.v b.v
+    (λ m. λ i. passes_above a b p (inl l) i || passes_above b a p (inl m) i)
+    (λ m. absurd (false≢true (sym e ∙ (λ i. differ (le_no a.v p.v l i) (le_yes b.v p.v m i))))))
+    (λ l. by_lt_z p.v b.v
+    (λ m. absurd (false≢true (sym e ∙ (λ i. differ (le_yes a.v p.v l i) (le_no b.v p.v m i)))))
+    (λ m. λ i. passes_above a b p (inr m) i || passes_above b a p (inr l) i))
+  where
+    le_no : (x y : ℤ) → y <ℤ x → int_le x y ≡ false
+    le_no x y l = grind (arith, ints)
 
 even : (a : Bool) → differ a a ≡ false
 even true = refl

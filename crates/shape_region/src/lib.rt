@@ -7,9 +7,11 @@
 //! one, it adds the row's inversion points: the columns that are an edge of one of the two alone, eight at most, which
 //! are found without memory (`turns`). So no pixel is looked at. `form_bytes` goes the same way, and writes the points.
 //!
-//! A polygon is the odd sum of the bands of its edges, and its frame the union of their lines. Both are made of the first
-//! half of the edges and the second one, so that each edge is in few regions on the way. The bytes of both are written row
-//! by row, with no region made (`pixel_rows`).
+//! A polygon of few points is made in one pass too (`pass`). In each row the first columns that its edges turn are put in
+//! order, and those that an even number of edges has cancel: they are the row's edges, 33 at most. A polygon of more points
+//! is the odd sum of two, which a chord cuts off each other. The frame of a polygon is the union of the lines of the first
+//! half of its edges and those of the second one, so that each line is in few regions on the way. The bytes of both are
+//! written row by row, with no region made (`pixel_rows`).
 //!
 //! Rectangles are in the coordinate space of the call that uses the region. Each call that takes a rectangle refuses one
 //! with a side outside -16384..=16383 as OutOfRange, as `Region::from_rect` does; those that take a shape refuse for
@@ -21,7 +23,9 @@ mod frame;
 mod frame_polygon_rows;
 pub mod laws;
 mod line;
+mod long_turns;
 mod making;
+mod pass;
 mod polygon;
 mod polygon_rows;
 mod round;

@@ -1,13 +1,12 @@
 //! Regions of polygons.
-ghost use Rattle.std.specs.Prelude.{◌≡◌, ◌&&◌, true, false, pos, IfOk, IfErr, Err, IsTrue, ◌↔◌, All, int_lt};
+ghost use Rattle.std.specs.Prelude.{◌≡◌, true, false, IfOk, IfErr, Err};
 ghost use Rattle.tb_geom.specs.declared.point.Point.{Point};
 ghost use Rattle.tb_geom.specs.Rects.{in_plane};
 ghost use Rattle.tb_geom.specs.Pixels.{holds};
 ghost use Rattle.shape_region.specs.Polygons.{are_in_plane, odd_edges, polygon_holds};
 
-use crate::strip_region;
+use crate::pass::pass_region;
 use scan_region::Region;
-use shape_strips::BandStrip;
 use std::alloc::{AllocError, Global};
 use tb_geom::{Point, Refusal};
 
@@ -25,7 +24,7 @@ pub fn polygon_region(alloc: Global, points: &[Point]) -> Result<Region, Refusal
     let [first, rest @ ..] = points else {
         return Ok(Region::empty(alloc));
     };
-    Ok(edges_region(alloc, *first, rest, *first)?)
+    Ok(closed_region(alloc, *first, rest)?)
 }
 
 /// Whether all points lie in -16384..=16383.
@@ -35,29 +34,21 @@ pub fn are_in_range(points: &[Point]) -> bool
     points.iter().all(|point| point.is_in_range())
 }
 
-/// The right side of every band, so that of an even number of bands none is left past the last point.
-const RIGHT: i32 = 16383;
+/// How many points a polygon may have beside its first one whose region is made in one pass.
+const FEW: usize = 31;
 
-/// What an odd number of edges turns, on the way from one point along others to a last one, up to `RIGHT`: the odd sum
-/// of what the first half of them turns and what the second half does.
-fn edges_region(
-    alloc: Global,
-    from: Point,
-    others: &[Point],
-    to: Point,
-) -> Result<Region, AllocError>
-    requires from_in { in_plane from ≡ true }
+/// The region of a polygon by its first point and the others: in one pass where these are few, and else the odd sum of
+/// what a chord from the first point leaves on either side.
+fn closed_region(alloc: Global, first: Point, others: &[Point]) -> Result<Region, AllocError>
+    requires first_in { in_plane first ≡ true }
     requires others_in { are_in_plane others.now ≡ true }
-    requires to_in { in_plane to ≡ true }
-    ensures { IfOk result (λ region. (p : Point)
-        → holds region p ≡ (odd_edges from others.now to p && int_lt p.h (pos 16383))) }
+    ensures { IfOk result (λ region. (p : Point) → holds region p ≡ odd_edges first others.now first p) }
 {
-    let (before, after) = others.split_at(others.len() / 2);
-    let [middle, after @ ..] = after else {
-        let right = RIGHT;
-        return strip_region(alloc, &BandStrip { from, to, right });
-    };
-    let first = edges_region(alloc, from, before, *middle)?;
-    let second = edges_region(alloc, *middle, after, to)?;
-    first.xor(alloc, &second)
+    if others.len() <= FEW {
+        return pass_region(alloc, first, others);
+    }
+    let middle = others.len() / 2;
+    let before = closed_region(alloc, first, &others[..middle + 1])?;
+    let after = closed_region(alloc, first, &others[middle..])?;
+    before.xor(alloc, &after)
 }

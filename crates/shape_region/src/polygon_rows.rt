@@ -49,7 +49,7 @@ fn polygon_bounds(points: &[Point]) -> Rect
 }
 
 /// The smallest rectangle around the points of a polygon, which has no pixel in the column or the row of the last ones.
-fn bounds_around(first: Point, others: &[Point]) -> Rect
+pub fn bounds_around(first: Point, others: &[Point]) -> Rect
     requires first_in { in_plane first ≡ true }
     requires others_in { are_in_plane others.now ≡ true }
     ensures { AreBounds (odd_edges first others.now first) result }

@@ -38,10 +38,13 @@ pub fn turn_points(above: &Edges, row: &Edges) -> Turns
     points
 }
 
-/// Adds columns, for which there is room.
+/// Adds columns, which are few, and for which there is room.
+#[inline(always)]
 fn push_all(points: &mut Turns, columns: &[i32])
     requires { length points.old.items + length columns.now ≤ 8 }
     ensures { points.new.items ≡ points.old.items ++ columns.now }
 {
-    points.try_extend_from_slice(columns).unwrap();
+    for &column in columns {
+        points.push(column);
+    }
 }

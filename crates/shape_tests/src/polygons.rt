@@ -3,6 +3,7 @@
 use crate::regions::{EIGHT, shows};
 use crate::slow_lines::{Polygon, PolygonFrame, turns};
 use crate::strips::are_rows;
+use scan_region::Region;
 use shape_region::{frame_polygon_region, polygon_region};
 use shape_strips::{BandStrip, Pen};
 use std::alloc::Global;
@@ -113,6 +114,38 @@ fn polygons_are_made_of_their_pixels(rt: HostRuntime) -> Result<(), Fail> {
         assert!(rt; is_polygon(alloc, &points[..4])?);
         assert!(rt; is_polygon(alloc, &points[..3])?);
     }
+    Ok(())
+}
+
+#[test]
+fn polygons_of_many_points_are_made_of_their_pixels(rt: HostRuntime) -> Result<(), Fail> {
+    let alloc = rt.alloc();
+    let mut lot = Lot(3);
+    for _ in 0..20 {
+        let mut points = [point!(0, 0); 100];
+        for point in points.iter_mut() {
+            *point = lot.point();
+        }
+        assert!(rt; is_polygon(alloc, &points)?);
+        assert!(rt; is_polygon(alloc, &points[..65])?);
+        assert!(rt; is_polygon(alloc, &points[..33])?);
+        assert!(rt; is_polygon(alloc, &points[..32])?);
+        assert!(rt; is_polygon(alloc, &points[..31])?);
+    }
+    Ok(())
+}
+
+#[test]
+fn polygons_reach_the_last_column(rt: HostRuntime) -> Result<(), Fail> {
+    let alloc = rt.alloc();
+    let points = [
+        point!(16380, 1),
+        point!(16383, 1),
+        point!(16383, 5),
+        point!(16380, 5),
+    ];
+    let all = Region::from_rect(alloc, rect!(16380, 1, 16383, 5))?;
+    assert!(rt; polygon_region(alloc, &points)?.equals(&all));
     Ok(())
 }
 

@@ -17,8 +17,8 @@ use shape_strips::RoundStrip;
 use std::alloc::{AllocError, Global};
 use tb_geom::{Point, Rect};
 
-/// The definition of a window with round corners (rDocProc: *Inside Macintosh* I, "The Window Manager", "Window Types"),
-/// 16 pixels wide and high. It keeps what it is told: of a title the first 255 characters.
+/// The definition of a window with round corners, 16 pixels wide and high (rDocProc: *Inside Macintosh* I, "The
+/// Window Manager", "Window Types"). It keeps what it is told: of a title the first 255 characters.
 #[derive(Drop)]
 pub struct RoundWindow {
     stage: Stage,

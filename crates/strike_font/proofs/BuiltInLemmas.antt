@@ -4,7 +4,7 @@ use Rattle.std.specs.Prelude.{int_le}
 use Rattle.std.proofs.lemmas.Bool.{cases_eq, cases_lt, lt-ltb}
 use Rattle.std.proofs.lemmas.Int.{ints}
 use Rattle.strike_font.specs.declared.built_in.TheConstants.{RECORD}
-use Rattle.strike_font.specs.Record.{is_font, word, first_char, last_char, last_symbol, strike_words, location, entry, good_fields, good_head, has_tables, good_tables, kern, ascent, descent, height, gap}
+use Rattle.strike_font.specs.Record.{is_font, word, first_char, last_char, last_symbol, strike_words, location, entry, good_fields, good_head, has_tables, good_tables, kern, leading, ascent, descent, height, gap}
 use Rattle.strike_font.specs.Text.{image_bit, symbol_of, glyph_of, glyph_bit, glyph_pixel}
 use Rattle.strike_font.specs.BuiltIn.{columns, low_bit, place_of, table_bit, IsBuiltIn}
 
@@ -62,6 +62,7 @@ record IsTable (font : List ℕ) : Type 0 where
   kerning : kern font ≡ pos 0
   up : ascent font ≡ 7
   down : descent font ≡ 1
+  apart : leading font ≡ 2
   tall : height font ≡ 8
   entries : (s : ℕ) → s < 96 → entry font s ≡ 6
   locations : (s : ℕ) → s < 97 → location font s ≡ 5 * s
@@ -79,6 +80,7 @@ record_is = record {
   kerning = refl;
   up = refl;
   down = refl;
+  apart = refl;
   tall = refl;
   entries = λ s h. eq-of (entry RECORD s) 6 (below-at 96 (λ s. nat_eq (entry RECORD s) 6) s entries_are h);
   locations = λ s h. eq-of (location RECORD s) (5 * s) (below-at 97 (λ s. nat_eq (location RECORD s) (5 * s)) s locations_are h);
@@ -170,6 +172,7 @@ pub record_looks : IsBuiltIn RECORD
 record_looks = record {
   up = record_is.up;
   down = record_is.down;
+  apart = record_is.apart;
   rows = record_is.tall;
   flush = record_is.kerning;
   near = λ c. ap (λ g. g.offset) (glyph-place RECORD record_is c);

@@ -1,6 +1,6 @@
 -- The built-in font: its glyphs, as a table.
 use Rattle.std.specs.Prelude.{◌≡◌, ℕ, ◌+◌, ◌-◌, ◌*◌, ◌/◌, ◌%◌, ◌^◌, ℤ, pos, negsuc, ◌+ℤ◌, Bool, false, cond, ◌&&◌, nat_lt, nat_le, nat_eq, List, [], ◌∷◌, slice_index}
-use Rattle.strike_font.specs.Record.{ascent, descent, height, kern}
+use Rattle.strike_font.specs.Record.{ascent, descent, height, kern, leading}
 use Rattle.strike_font.specs.Text.{glyph_of, glyph_pixel}
 
 -- five columns for each of the characters 32 .. 126, from left to right, and then five for any other character, a
@@ -47,11 +47,13 @@ table_bit c (pos k) (pos r) = (nat_lt k 5 && nat_lt r 8) && low_bit (slice_index
 table_bit c (negsuc k) r = false
 table_bit c (pos k) (negsuc r) = false
 
--- a font that looks as the table says: seven rows of each glyph lie above the baseline and one below it, glyphs begin
+-- a font that looks as the table says: seven rows of each glyph lie above the baseline and one below it, two rows lie
+-- between lines, glyphs begin
 -- at the pen and have five columns, and every character is 6 wide
 pub record IsBuiltIn (font : List ℕ) : Type 0 where
   pub up : ascent font ≡ 7
   pub down : descent font ≡ 1
+  pub apart : leading font ≡ 2
   pub rows : height font ≡ 8
   pub flush : kern font ≡ pos 0
   pub near : (c : ℕ) → (glyph_of font c).offset ≡ 0

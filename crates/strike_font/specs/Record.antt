@@ -42,6 +42,10 @@ ascent bs = word bs 9
 abbrev pub descent : List ℕ → ℕ
 descent bs = word bs 10
 
+-- leading, none where the word is no number of so few rows
+abbrev pub leading : List ℕ → ℕ
+leading bs = cond (nat_lt (word bs 11) 128) (word bs 11) 0
+
 abbrev pub words_of_row : List ℕ → ℕ
 words_of_row bs = word bs 12
 

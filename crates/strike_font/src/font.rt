@@ -6,7 +6,7 @@ ghost use Rattle.tb_geom.specs.Points.{minus};
 ghost use Rattle.tb_geom.specs.Rects.{rect_holds};
 ghost use Rattle.bit_map.specs.Words.{bit_in};
 ghost use Rattle.strike_font.specs.BuiltIn.{IsBuiltIn};
-ghost use Rattle.strike_font.specs.Record.{is_font, words_of_row, height, ascent, descent, kern};
+ghost use Rattle.strike_font.specs.Record.{is_font, words_of_row, height, ascent, descent, kern, leading};
 ghost use Rattle.strike_font.specs.Text.{glyph_of, text_width, text_holds, glyph_pixel, glyphs_pixel, glyph_rect, IsSized, IsTextPixel};
 ghost use Rattle.strike_font.specs.Tiles.{IsTile};
 
@@ -55,7 +55,7 @@ impl Font {
     }
 
     /// The font that is built in, for the characters 32 to 126: each is 6 pixels wide, with 5 columns
-    /// of 8 rows, of which 7 lie above the baseline.
+    /// of 8 rows, of which 7 lie above the baseline. Its leading is 2.
     pub fn built_in(alloc: Global) -> Result<Font, AllocError>
         ensures { IfOk result IsBuiltIn }
     {
@@ -94,6 +94,16 @@ impl Font {
         ensures small { result < 128 }
     {
         word(&self.bytes, 10)
+    }
+
+    /// How many rows lie between the descent of a line of text and the ascent of the next: the field leading where that is
+    /// 0..=127, and else none.
+    pub fn leading(&self) -> u16
+        ensures value { result ≡ leading self.now }
+        ensures small { result < 128 }
+    {
+        let leading = word(&self.bytes, 11);
+        if leading < 128 { leading } else { 0 }
     }
 
     /// The glyph that a character is drawn by: its own, or that of the missing symbol where the font

@@ -1,3 +1,3 @@
--- What the contracts speak of: what the controls and lists of the tests show, and what layers a window may get.
+-- What the contracts speak of: what the controls, lists and text records of the tests show, and what layers a window may get.
 pub mod Striped
 pub mod Relaying

@@ -1,4 +1,4 @@
-//! The layers of a window of the library changed, as whoever keeps its controls and lists would.
+//! The layers of a window of the library changed, as whoever keeps its controls, its lists and its text records would.
 ghost use Rattle.std.specs.Prelude.{◌≡◌, ◌<◌, ◌≤◌, length, List, IfOk};
 ghost use Rattle.def_iface.specs.WindowSlots.{WindowSlot};
 ghost use Rattle.window_list.specs.Holders.{ArePartsApart, IsLayerAt};
@@ -49,11 +49,12 @@ fn layer_of(
     }
 }
 
-/// Where a layer of this part goes among others: controls before lists, and the oldest first.
+/// Where a layer of this part goes among others: controls before lists, these before text records, and the oldest first.
 fn rank(part: Part) -> u64 {
     match part {
         Part::Control(serial) => serial,
         Part::List(_) => 10,
+        Part::Text(_) => 15,
         Part::Picture => 20,
     }
 }

@@ -1,4 +1,4 @@
-//! Controls and lists that nobody but these tests keeps.
+//! Controls, lists and text records that nobody but these tests keeps.
 ghost use Rattle.std.specs.Prelude.{◌≡◌};
 ghost use Rattle.bit_map.specs.Patterns.{pattern_bit};
 ghost use Rattle.striped_layers.specs.Striped.{stripes_of};
@@ -8,16 +8,20 @@ use desk_layers::Part;
 use draw_port::Canvas;
 use window_paint::Showing;
 
-/// Controls that show black columns, and lists that show black rows: every other one, from the window's 0 0.
+/// Controls that show black columns, and lists that show black rows, every other one, and text records that show every other pixel
+/// black, from the window's 0 0.
 #[derive(Clone, Copy)]
 pub struct Stripes;
 
-/// The stripes of a control or a list.
+/// The stripes of a control or a list, or the squares of a text record.
 fn stripes_of(part: Part) -> Pattern
     ensures { result ≡ stripes_of part }
 {
     match part {
         Part::Control(_) => Pattern { rows: [0xAA; 8] },
+        Part::Text(_) => Pattern {
+            rows: [0xAA, 0x55, 0xAA, 0x55, 0xAA, 0x55, 0xAA, 0x55],
+        },
         Part::Picture | Part::List(_) => Pattern {
             rows: [0xFF, 0, 0xFF, 0, 0xFF, 0, 0xFF, 0],
         },

@@ -1,7 +1,7 @@
 -- The name and the number of each refusal, and which of several is told.
 use Rattle.std.specs.Prelude.{ℕ, ◌+◌, ◌==◌, Bool, true, ◌&&◌, if◌then◌else◌, nat_le, List, [], ◌∷◌, Option, None, Some, codes}
 use Rattle.tb_geom.specs.declared.refusal.Refusal.{Refusal}
-use Rattle.tb_geom.specs.declared.refusal.Refusal.TheVariants.{NoMemory, NoSuchWindow, NoSuchControl, NoSuchMenu, NoSuchList, NoSuchItem, NoSuchCell, OutOfRange, TooMany, TooLong, Busy, NotBusy, BadFont, BadRegion, BadSyntax, NoDefinition, StalePixels, ReadFault, WriteFault, NoSuchName}
+use Rattle.tb_geom.specs.declared.refusal.Refusal.TheVariants.{NoMemory, NoSuchWindow, NoSuchControl, NoSuchMenu, NoSuchList, NoSuchItem, NoSuchCell, OutOfRange, TooMany, TooLong, Busy, NotBusy, BadFont, BadRegion, BadSyntax, NoDefinition, StalePixels, ReadFault, WriteFault, NoSuchName, NoSuchText}
 
 abbrev pub name_of : Refusal → List ℕ
 name_of NoMemory = codes "NoMemory"
@@ -24,6 +24,7 @@ name_of StalePixels = codes "StalePixels"
 name_of ReadFault = codes "ReadFault"
 name_of WriteFault = codes "WriteFault"
 name_of NoSuchName = codes "NoSuchName"
+name_of NoSuchText = codes "NoSuchText"
 
 abbrev pub number_of : Refusal → ℕ
 number_of NoMemory = 1
@@ -46,13 +47,14 @@ number_of StalePixels = 17
 number_of ReadFault = 18
 number_of WriteFault = 19
 number_of NoSuchName = 20
+number_of NoSuchText = 21
 
 -- the written order: of several reasons to refuse a call, the one is told that stands first here. The others come from no
 -- call, but from a font, from reading and from writing.
 abbrev pub refusal_order : List Refusal
 refusal_order =
     BadSyntax ∷ NoSuchName ∷ BadRegion ∷ Busy ∷ NotBusy
-    ∷ NoSuchWindow ∷ NoSuchControl ∷ NoSuchList ∷ NoSuchCell ∷ NoSuchMenu ∷ NoSuchItem
+    ∷ NoSuchWindow ∷ NoSuchControl ∷ NoSuchList ∷ NoSuchText ∷ NoSuchCell ∷ NoSuchMenu ∷ NoSuchItem
     ∷ OutOfRange ∷ TooLong ∷ TooMany ∷ NoDefinition ∷ StalePixels ∷ NoMemory ∷ []
 
 -- how many refusals of a list stand before this one

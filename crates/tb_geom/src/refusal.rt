@@ -68,12 +68,15 @@ pub enum Refusal {
     /// No kind, mode or pattern has this name.
     #[error("20 NoSuchName")]
     NoSuchName = 20,
+    /// The window has no text record of this number.
+    #[error("21 NoSuchText")]
+    NoSuchText = 21,
 }
 
 impl Refusal {
     ghost use Rattle.tb_geom.specs.Refusals.{name_of, number_of};
 
-    /// The number that a reply gives, 1..=20.
+    /// The number that a reply gives, 1..=21.
     pub fn number(self) -> u8
         ensures { result ≡ number_of self }
     {
@@ -105,6 +108,7 @@ impl Refusal {
             Refusal::ReadFault => "ReadFault",
             Refusal::WriteFault => "WriteFault",
             Refusal::NoSuchName => "NoSuchName",
+            Refusal::NoSuchText => "NoSuchText",
         }
     }
 }

@@ -20,12 +20,19 @@ pub same_part-turned : (a b : Part) → same_part a b ≡ same_part b a
 same_part-turned part.Picture part.Picture = refl
 same_part-turned part.Picture (part.Control b) = refl
 same_part-turned part.Picture (part.List b) = refl
+same_part-turned part.Picture (part.Text b) = refl
 same_part-turned (part.Control a) part.Picture = refl
 same_part-turned (part.Control a) (part.Control b) = same_number-turned a b
 same_part-turned (part.Control a) (part.List b) = refl
+same_part-turned (part.Control a) (part.Text b) = refl
 same_part-turned (part.List a) part.Picture = refl
 same_part-turned (part.List a) (part.Control b) = refl
 same_part-turned (part.List a) (part.List b) = same_number-turned a b
+same_part-turned (part.List a) (part.Text b) = refl
+same_part-turned (part.Text a) part.Picture = refl
+same_part-turned (part.Text a) (part.Control b) = refl
+same_part-turned (part.Text a) (part.List b) = refl
+same_part-turned (part.Text a) (part.Text b) = same_number-turned a b
 
 -- the layer in front is no picture, and another part than each behind it, which are apart too
 pub record IsFrontApart (l : Layer) (ls : List Layer) : Type 0 where

@@ -82,6 +82,7 @@ module _ {V : Type 0} {H : V → Type 0} (loan : TakenBox V H → WindowLoan) (t
       by_part part.Picture = refl
       by_part (part.Control n) = refl
       by_part (part.List n) = refl
+      by_part (part.Text n) = refl
 
   distinct : layers.IsDesk desk
   distinct = distinct_showing shows (desk_of loan t slots) whole.sound.distinct

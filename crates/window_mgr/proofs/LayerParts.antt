@@ -72,6 +72,7 @@ not_picture : (look : Look) (c : PixelSet) (w : WindowRecord) (part : Part) (ls 
 not_picture look c w part.Picture [] none = absurd (cc)
 not_picture look c w (part.Control n) [] none = refl
 not_picture look c w (part.List n) [] none = refl
+not_picture look c w (part.Text n) [] none = refl
 not_picture look c w part (l ∷ ls) none = not_picture look c w part ls (not_first (layers.same_part l.part part) (content_layer look c l) (layers.layer_of part (layers_with look c ls w)) none).1
 
 -- layers that are apart have parts apart

@@ -98,6 +98,7 @@ module _ {V : Type 0} {H : V → Type 0} (loan : TakenBox V H → WindowLoan) (t
       by_part part.Picture e = absurd (false≢true (sym e))
       by_part (part.Control n) e = refl
       by_part (part.List n) e = refl
+      by_part (part.Text n) e = refl
 
   module _ (p : Point) (on : layers.on_screen desk p ≡ true) where
     abbrev its : Owner

@@ -161,6 +161,7 @@ module _ (desk : FullDesk) (s : ℕ) (picture : WindowRecord → List Op) (origi
       and_true false = refl
   others_show (Content t (part.Control n)) p e = layer_same (look_of desk) s picture origin t (part.Control n) desk.windows p refl
   others_show (Content t (part.List n)) p e = layer_same (look_of desk) s picture origin t (part.List n) desk.windows p refl
+  others_show (Content t (part.Text n)) p e = layer_same (look_of desk) s picture origin t (part.Text n) desk.windows p refl
 
   pub after_is_desk : layers.IsDesk (layered_desk desk) → layers.IsDesk (layered_desk after)
   after_is_desk distinct = windows_same (look_of desk) s picture origin desk.windows distinct

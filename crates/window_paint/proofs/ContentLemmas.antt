@@ -70,6 +70,7 @@ module _ {V : Type 0} {H : V → Type 0} (font : List ℕ) (shows : Part → Pix
   picture_is part.Picture p e = refl
   picture_is (part.Control n) p e = absurd (cc)
   picture_is (part.List n) p e = absurd (cc)
+  picture_is (part.Text n) p e = absurd (cc)
 
   -- what a layer shows
   pub layer_is : (q k : Part) (p : Point) → same_part k part.Picture ≡ false → same_part q k ≡ true → shows k (minus p w.place) ≡ part_shown font shows w q p
@@ -79,6 +80,7 @@ module _ {V : Type 0} {H : V → Type 0} (font : List ℕ) (shows : Part → Pix
       by_kind part.Picture f = absurd (cc)
       by_kind (part.Control n) f = refl
       by_kind (part.List n) f = refl
+      by_kind (part.Text n) f = refl
 
   -- the picture, where no layer hides it
   pub picture_drawn : (old new : Bits) → ArePartsApart w.layers.layers

@@ -13,7 +13,7 @@ use Rattle.desk_layers.specs.declared.part.Part.TheVariants as part
 use Rattle.desk_layers.specs.Desk.{same_part}
 use Rattle.desk_layers.proofs.Owning.{same_part-self, same_part-true}
 use Rattle.desk_call.specs.declared.update.LayerKind.{LayerKind}
-use Rattle.desk_call.specs.declared.update.LayerKind.TheVariants.{Picture, Lists, Controls}
+use Rattle.desk_call.specs.declared.update.LayerKind.TheVariants.{Picture, Texts, Lists, Controls}
 use Rattle.window_list.specs.declared.layer.Layer.{Layer}
 use Rattle.window_list.specs.Holders.{layer_has, part_at, belongs_to, ArePartsApart}
 use Rattle.window_list.specs.declared.window.Window.{Window}
@@ -27,6 +27,8 @@ pub picture_kind : (kind : LayerKind) (q : Part) → is_of kind part.Picture ≡
 picture_kind Picture part.Picture e = refl
 picture_kind Picture (part.Control n) e = refl
 picture_kind Picture (part.List n) e = refl
+picture_kind Picture (part.Text n) e = refl
+picture_kind Texts q e = absurd (false≢true e)
 picture_kind Lists q e = absurd (false≢true e)
 picture_kind Controls q e = absurd (false≢true e)
 

@@ -1,4 +1,4 @@
-//! The layers of one kind: a window's picture, its lists or its controls.
+//! The layers of one kind: a window's picture, its text records, its lists or its controls.
 ghost use Rattle.std.specs.Prelude.{◌≡◌, ◌&&◌, true};
 ghost use Rattle.tb_geom.specs.Pixels.{holds};
 ghost use Rattle.tb_geom.specs.Rects.{in_plane};
@@ -23,6 +23,7 @@ pub fn is_of(kind: LayerKind, part: Part) -> bool
 {
     match (kind, part) {
         (LayerKind::Picture, Part::Picture) => true,
+        (LayerKind::Texts, Part::Text(_)) => true,
         (LayerKind::Lists, Part::List(_)) => true,
         (LayerKind::Controls, Part::Control(_)) => true,
         _ => false,

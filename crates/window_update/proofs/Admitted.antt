@@ -3,7 +3,7 @@ use Rattle.std.proofs.Common.{◌≡◌, ℕ, ◌==◌, Bool, true, false, if◌
 use Rattle.std.proofs.lemmas.Bool.{eqb-true}
 use Rattle.tb_geom.specs.declared.refusal.Refusal.TheVariants.{NotBusy}
 use Rattle.desk_call.specs.declared.activity.Activity.{Activity}
-use Rattle.desk_call.specs.declared.activity.Activity.TheVariants.{Idle, Updating, Tracking, Pulling, TrackingControl, Dragging, Growing}
+use Rattle.desk_call.specs.declared.activity.Activity.TheVariants.{Idle, Updating, Tracking, Pulling, TrackingControl, Dragging, Growing, Selecting}
 use Rattle.desk_call.specs.declared.activity.Standing.TheVariants.{Updates, Changes}
 use Rattle.desk_call.specs.declared.update.UpdateCall.{UpdateCall}
 use Rattle.desk_call.specs.Gates.{gate, update_standing}
@@ -20,6 +20,7 @@ changes_idle a call admitted changes = by_activity a (ap (gate a) (sym changes) 
     by_activity (TrackingControl c) e = absurd (cc)
     by_activity (Dragging d) e = absurd (cc)
     by_activity (Growing g) e = absurd (cc)
+    by_activity (Selecting k) e = absurd (cc)
 
 -- so the update of no window is
 pub no_update : (a : Activity) → a ≡ Idle → (s : ℕ) → a ≡ Updating s → ⊥
@@ -41,3 +42,4 @@ updates_open a s call admitted updates = by_activity a (ap (gate a) (sym updates
     by_activity (TrackingControl c) e = absurd (cc)
     by_activity (Dragging d) e = absurd (cc)
     by_activity (Growing g) e = absurd (cc)
+    by_activity (Selecting k) e = absurd (cc)

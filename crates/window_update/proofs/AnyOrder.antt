@@ -8,7 +8,7 @@ use Rattle.desk_layers.specs.Owner.{Owner}
 use Rattle.desk_layers.specs.Owner.Owner.{Desktop, Bar, Frame, Content}
 use Rattle.desk_call.specs.declared.activity.Activity.TheVariants.{Idle}
 use Rattle.desk_call.specs.declared.update.LayerKind.{LayerKind}
-use Rattle.desk_call.specs.declared.update.LayerKind.TheVariants.{Picture, Lists, Controls}
+use Rattle.desk_call.specs.declared.update.LayerKind.TheVariants.{Picture, Texts, Lists, Controls}
 use Rattle.desk_call.specs.declared.update.UpdateCall.TheVariants.{Serve, End}
 use Rattle.desk_call.specs.declared.window.WindowReply.TheVariants.{Done}
 use Rattle.vis_update.specs.Areas.{is_content_of}
@@ -57,6 +57,7 @@ among_is_of [] kind a e wrong = absurd wrong
 
 each_part : (kinds : List LayerKind) → ((kind : LayerKind) → IsAmong kind kinds) → (a : Part) → is_of_these kinds a ≡ true
 each_part kinds all part.Picture = among_is_of kinds Picture part.Picture refl (all Picture)
+each_part kinds all (part.Text n) = among_is_of kinds Texts (part.Text n) refl (all Texts)
 each_part kinds all (part.List n) = among_is_of kinds Lists (part.List n) refl (all Lists)
 each_part kinds all (part.Control n) = among_is_of kinds Controls (part.Control n) refl (all Controls)
 

@@ -26,7 +26,7 @@ drawing s layers = Draw (record { window = s; layers = layers })
 abbrev pub update_drawing : ℕ → List LayerKind → List UpdateCall
 update_drawing s kinds = Begin s ∷ map (drawing s) kinds ++ End s ∷ []
 
--- the picture, the lists and the controls are all among these layers, in whichever order, each once or more
+-- the picture, the text records, the lists and the controls are all among these layers, in whichever order, each once or more
 abbrev pub AreAllKinds : List LayerKind → Type 0
 AreAllKinds kinds = (kind : LayerKind) → Contains kinds kind
 

@@ -1,5 +1,5 @@
 //! What is left of a window's update region, for each choice of the kinds of layers that are drawn of it.
-ghost use Rattle.std.specs.Prelude.{◌≡◌, ◌&&◌, not, true, false, IfOk};
+ghost use Rattle.std.specs.Prelude.{◌≡◌, ◌&&◌, ◌||◌, not, true, false, IfOk};
 ghost use Rattle.tb_geom.specs.declared.point.Point.{Point};
 ghost use Rattle.tb_geom.specs.Pixels.{holds};
 ghost use Rattle.desk_layers.specs.declared.part.Part.TheVariants as part;
@@ -18,6 +18,7 @@ use window_paint::is_of;
 #[derive(Clone, Copy)]
 pub struct Kinds {
     pub(crate) picture: bool,
+    pub(crate) texts: bool,
     pub(crate) lists: bool,
     pub(crate) controls: bool,
 }
@@ -25,22 +26,29 @@ pub struct Kinds {
 /// An update region, cut in two, on the screen.
 #[derive(Drop)]
 pub struct Split {
-    /// What of it the layers of one kind have.
+    /// What of it the layers of one kind have, or of two.
     pub(crate) own: Region,
     /// What the others have.
     pub(crate) rest: Region,
 }
 
 /// While an update is open, the kinds that were drawn so far, and what is left of the update region once others are
-/// drawn too. Two kinds leave what the third has, one leaves what the others have, and all leave nothing; so each draw
-/// finds its region ready, and takes no memory.
+/// drawn too. Three kinds leave what the fourth has, two leave what the two others have, one leaves what the others have, and all
+/// leave nothing; so each draw finds its region ready, and takes no memory.
 #[derive(Drop)]
 pub struct Choices {
     pub(crate) alloc: Global,
     pub(crate) drawn: Kinds,
     pub(crate) picture: Split,
+    pub(crate) texts: Split,
     pub(crate) lists: Split,
     pub(crate) controls: Split,
+    /// Cut in what the picture and the text records have, and the rest.
+    pub(crate) with_texts: Split,
+    /// Cut in what the picture and the lists have, and the rest.
+    pub(crate) with_lists: Split,
+    /// Cut in what the picture and the controls have, and the rest.
+    pub(crate) with_controls: Split,
 }
 
 impl Split {
@@ -60,6 +68,22 @@ impl Split {
         let rest = update.diff(alloc, &own)?;
         Ok(Split { own, rest })
     }
+
+    /// That of a region, of which these two are cut, in what the two kinds have and the rest.
+    fn joined(
+        alloc: Global,
+        update: &Region,
+        one: &Split,
+        other: &Split,
+    ) -> Result<Split, AllocError>
+        ensures own { IfOk result (λ s. (p : Point) → holds s.own p ≡ (holds one.now.own p || holds other.now.own p)) }
+        ensures rest { IfOk result (λ s. (p : Point) → holds s.rest p
+            ≡ (holds update.now p && not (holds one.now.own p || holds other.now.own p))) }
+    {
+        let own = one.own.union(alloc, &other.own)?;
+        let rest = update.diff(alloc, &own)?;
+        Ok(Split { own, rest })
+    }
 }
 
 impl Choices {
@@ -69,12 +93,17 @@ impl Choices {
             alloc,
             drawn: Kinds {
                 picture: false,
+                texts: false,
                 lists: false,
                 controls: false,
             },
             picture: Split::empty(alloc),
+            texts: Split::empty(alloc),
             lists: Split::empty(alloc),
             controls: Split::empty(alloc),
+            with_texts: Split::empty(alloc),
+            with_lists: Split::empty(alloc),
+            with_controls: Split::empty(alloc),
         }
     }
 
@@ -84,18 +113,31 @@ impl Choices {
         ensures { IfOk result (AreChoicesOf window.now update.now) }
     {
         let picture = update.diff(alloc, window.layers.covered())?;
+        let texts = part_of(alloc, window, LayerKind::Texts, update)?;
         let lists = part_of(alloc, window, LayerKind::Lists, update)?;
         let controls = part_of(alloc, window, LayerKind::Controls, update)?;
+        let picture = Split::of(alloc, update, picture)?;
+        let texts = Split::of(alloc, update, texts)?;
+        let lists = Split::of(alloc, update, lists)?;
+        let controls = Split::of(alloc, update, controls)?;
+        let with_texts = Split::joined(alloc, update, &picture, &texts)?;
+        let with_lists = Split::joined(alloc, update, &picture, &lists)?;
+        let with_controls = Split::joined(alloc, update, &picture, &controls)?;
         Ok(Choices {
             alloc,
             drawn: Kinds {
                 picture: false,
+                texts: false,
                 lists: false,
                 controls: false,
             },
-            picture: Split::of(alloc, update, picture)?,
-            lists: Split::of(alloc, update, lists)?,
-            controls: Split::of(alloc, update, controls)?,
+            picture,
+            texts,
+            lists,
+            controls,
+            with_texts,
+            with_lists,
+            with_controls,
         })
     }
 
@@ -105,6 +147,7 @@ impl Choices {
     {
         match kind {
             LayerKind::Picture => self.drawn.picture,
+            LayerKind::Texts => self.drawn.texts,
             LayerKind::Lists => self.drawn.lists,
             LayerKind::Controls => self.drawn.controls,
         }
@@ -119,6 +162,7 @@ impl Choices {
     {
         match kind {
             LayerKind::Picture => self.drawn.picture = true,
+            LayerKind::Texts => self.drawn.texts = true,
             LayerKind::Lists => self.drawn.lists = true,
             LayerKind::Controls => self.drawn.controls = true,
         }
@@ -134,22 +178,31 @@ impl Choices {
         let nothing = Region::empty(self.alloc);
         let Kinds {
             picture,
+            texts,
             lists,
             controls,
         } = self.drawn;
-        match (picture, lists, controls) {
-            (true, false, false) => mem::replace(&mut self.picture.rest, nothing),
-            (false, true, false) => mem::replace(&mut self.lists.rest, nothing),
-            (false, false, true) => mem::replace(&mut self.controls.rest, nothing),
-            (true, true, false) => mem::replace(&mut self.controls.own, nothing),
-            (true, false, true) => mem::replace(&mut self.lists.own, nothing),
-            (false, true, true) => mem::replace(&mut self.picture.own, nothing),
+        match (picture, texts, lists, controls) {
+            (true, false, false, false) => mem::replace(&mut self.picture.rest, nothing),
+            (false, true, false, false) => mem::replace(&mut self.texts.rest, nothing),
+            (false, false, true, false) => mem::replace(&mut self.lists.rest, nothing),
+            (false, false, false, true) => mem::replace(&mut self.controls.rest, nothing),
+            (true, true, false, false) => mem::replace(&mut self.with_texts.rest, nothing),
+            (true, false, true, false) => mem::replace(&mut self.with_lists.rest, nothing),
+            (true, false, false, true) => mem::replace(&mut self.with_controls.rest, nothing),
+            (false, true, true, false) => mem::replace(&mut self.with_controls.own, nothing),
+            (false, true, false, true) => mem::replace(&mut self.with_lists.own, nothing),
+            (false, false, true, true) => mem::replace(&mut self.with_texts.own, nothing),
+            (false, true, true, true) => mem::replace(&mut self.picture.own, nothing),
+            (true, false, true, true) => mem::replace(&mut self.texts.own, nothing),
+            (true, true, false, true) => mem::replace(&mut self.lists.own, nothing),
+            (true, true, true, false) => mem::replace(&mut self.controls.own, nothing),
             _ => nothing,
         }
     }
 }
 
-/// What of a region of the screen a window's lists have, or its controls.
+/// What of a region of the screen a window's text records have, its lists or its controls.
 fn part_of(
     alloc: Global,
     window: &Window,

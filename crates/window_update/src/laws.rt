@@ -35,8 +35,8 @@ pub fn serving_a_window_leaves_the_others()
         → (other ≡ window → ⊥) → (p : Point) → update_of other after.windows p ≡ update_of other before.windows p }
 {}
 
-/// A window's update is served where it was begun, its picture, its lists and its controls were drawn, in whichever order and
-/// however often, and it was ended.
+/// A window's update is served where it was begun, its picture, its text records, its lists and its controls were drawn, in
+/// whichever order and however often, and it was ended.
 #[tactic(auto, using(crate::proofs::AnyOrder::drawn_in_any_order_is_served))]
 pub fn an_update_drawn_in_any_order_is_served()
     ensures { (window : ℕ) (kinds : List LayerKind) (before after : DeskState) → AreAllKinds kinds

@@ -7,7 +7,7 @@
 //!
 //! What is right, `Rightness` says: a pixel of the content that shows and has the value that painting the desk from
 //! nothing gives. `Validate` is refused where a pixel is not; to know, the window's content is drawn into a map that
-//! `Updates::new` made, so that asking takes no memory. What controls and lists show is known to whoever keeps them
+//! `Updates::new` made, so that asking takes no memory. What controls, lists and text records show is known to whoever keeps them
 //! (`Showing`, of window_paint), and is handed in with each call.
 //!
 //! Between begin and end nothing but the activity changes: what is to be redrawn stays in one set, the update set, in

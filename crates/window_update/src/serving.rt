@@ -55,8 +55,8 @@ impl Updates {
         Ok(WindowReply::Done)
     }
 
-    /// Draws what is to be redrawn of a window's picture, of its lists or of its controls, in its update. What was drawn
-    /// in it is not drawn again.
+    /// Draws what is to be redrawn of a window's picture, of its text records, of its lists or of its controls, in its update.
+    /// What was drawn in it is not drawn again.
     pub(crate) fn draw<S: Showing>(
         &mut self,
         windows: &mut WindowManager,

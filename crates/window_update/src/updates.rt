@@ -56,7 +56,7 @@ impl Updates {
         }
     }
 
-    /// Performs one call, which may come while this is open, on these windows, whose controls and lists show what `layers`
+    /// Performs one call, which may come while this is open, on these windows, whose layers show what `layers`
     /// says, and gives its answer. A refused call changes nothing; which refusal comes first where several would do stands with the call.
     pub fn perform<S: Showing>(
         &mut self,

@@ -1,6 +1,6 @@
 use Rattle.std.proofs.Common.{sym, ◌∙◌, subst}
 use Rattle.std.proofs.lemmas.List.{at_drop_all}
-use Rattle.shape_region.specs.Polygons.{odd_edges, single_point}
+use Rattle.shape_region.specs.Polygons.{odd_edges}
 use Rattle.pixel_rows.specs.Bounds.{AreBounds}
 use Rattle.shape_region.proofs.PolygonRowLemmas.{polygon_beside, reaching}
 use Rattle.shape_region.proofs.polygon_rows.bounds_around.Goals as goal

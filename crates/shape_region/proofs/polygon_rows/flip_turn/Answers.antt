@@ -1,6 +1,5 @@
-use Rattle.std.proofs.Common.{◌≡◌, ◌&&◌, ◌≤ℤ◌, ◌<ℤ◌, sym, ap, ◌∙◌, rules, SFits, w32}
+use Rattle.std.proofs.Common.{◌&&◌, ◌≤ℤ◌, ◌<ℤ◌, sym, ap, ◌∙◌, rules, SFits, w32}
 use Rattle.std.proofs.lemmas.Int.{ints, to_z-of_z}
-use Rattle.std.specs.Ordering.{int_eq}
 use Rattle.region_rows.specs.Edges.{differ}
 use Rattle.shape_strips.proofs.RangeLemmas.{coordinate_from}
 use Rattle.pixel_rows.specs.Columns.{has_column}

@@ -1,6 +1,5 @@
 use Rattle.std.proofs.Common.{pos, ◌-ℤ◌, ◌∙◌}
 use Rattle.std.proofs.lemmas.Int.{to_z-of_z}
-use Rattle.tb_geom.specs.declared.point.Point.{Point}
 use Rattle.region_bytes.proofs.Rows.{differ-false}
 use Rattle.region_rows.specs.Edges.{differ}
 use Rattle.pixel_rows.specs.Columns.{is_edge}

@@ -6,6 +6,7 @@ use Rattle.def_iface.specs.contracts.taken_control.TakenControlDefined.TheImpl a
 use Rattle.def_iface.specs.contracts.taken_list.TakenListDefined.TheImpl as taken_list
 use Rattle.window_mgr.specs.DeskStates.{desk_state}
 use Rattle.window_update.specs.WholeUpdates.{opened}
+use Rattle.window_paint.specs.White.{all_white}
 use Rattle.control_mgr.specs.ControlDesks.{controls_show}
 use Rattle.control_mgr.specs.WholeControls.{records_of}
 use Rattle.list_mgr.specs.ListDesks.{lists_show}
@@ -22,12 +23,13 @@ returns-clause-whole g c stocks whole = record {
   menus = whole.managers.menus;
   front = whole.managers.front;
   lists = whole.managers.lists;
+  known = whole.managers.known;
 }
 
 pub returns-clause-step : goal.returns-clause-step
 returns-clause-step g c stocks =
     let self = c.args.self.now in
-    let shows = controls_show (lists_show (lists.records_of (taken_list.loan-value g.dyn-4).it self.lists)) (records_of (taken_control.loan-value g.dyn-2).it self.controls) in
+    let shows = controls_show (lists_show (λ font. all_white) (lists.records_of (taken_list.loan-value g.dyn-4).it self.lists)) (records_of (taken_control.loan-value g.dyn-2).it self.controls) in
     record {
       desk = record { windows = record { desk = refl; stale = λ p on. refl; image = λ p on. refl }; activity = refl; begun = refl };
       controls = refl;

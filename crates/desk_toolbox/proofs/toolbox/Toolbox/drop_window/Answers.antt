@@ -26,4 +26,5 @@ returns-clause-whole g c =
       menus = beside.menus;
       front = beside.front;
       lists = whole.lists;
+      known = whole.known;
     }

@@ -7,12 +7,13 @@ use Rattle.def_iface.specs.contracts.taken_list.TakenListDefined.TheImpl as take
 use Rattle.window_mgr.specs.DeskStates.{Opened, desk_with}
 use Rattle.window_mgr.specs.Records.{state_of}
 use Rattle.window_frame.proofs.FramesShowing.{frame_step_showing}
+use Rattle.window_paint.specs.White.{all_white}
 use Rattle.control_mgr.specs.ControlDesks.{controls_show}
 use Rattle.control_mgr.specs.WholeControls.{records_of}
 use Rattle.list_mgr.specs.ListDesks.{lists_show}
 use Rattle.list_mgr.specs.WholeLists as lists
 use Rattle.menu_mgr.proofs.MenusShowing.{menu_step_showing}
-use Rattle.desk_toolbox.proofs.ContentsBeside.{frames_leave, frames_leave_lists, menus_leave, menus_leave_lists}
+use Rattle.desk_toolbox.proofs.ContentsBeside.{frames_leave, frames_leave_lists, frames_leave_known, menus_leave, menus_leave_lists, menus_leave_known}
 use Rattle.desk_toolbox.proofs.MenuStands.{menu_outlines_none, menu_trackable}
 use Rattle.desk_toolbox.proofs.TrackedControls.{frame_trackable}
 use Rattle.desk_toolbox.proofs.MenusBeside.{frame_whole}
@@ -40,6 +41,7 @@ returns-in-Frame-clause-whole g c =
       updates = updates_after_frame _ c.args.self.now.windows c.perform.new.windows c.args.self.now.updates _ _ before after c.in-Frame.call c.perform.result may done.1 c.requires.whole.managers.updates;
       controls = frames_leave c.in-Frame.call c.perform.result _ _ _ done.1 c.requires.whole.managers.controls;
       lists = frames_leave_lists c.in-Frame.call c.perform.result _ _ _ done.1 c.requires.whole.managers.lists;
+      known = frames_leave_known c.in-Frame.call c.perform.result _ _ done.1 c.requires.whole.managers.known;
       trackable = frame_trackable _ _ _ c.requires.whole.managers.trackable c.in-Frame.call c.perform.result done.1;
       menus = menus.menus;
       front = menus.front;
@@ -55,7 +57,7 @@ returns-in-Frame-clause-step g c =
       c.perform.result,
       search rules,
       (
-        frame_step_showing (controls_show (lists_show (lists.records_of (taken_list.loan-value g.dyn-4).it c.args.self.now.lists)) (records_of (taken_control.loan-value g.dyn-2).it c.args.self.now.controls)) c.in-Frame.call c.perform.result (desk_with before (state_of (taken.loan-value g.dyn-1).it c.args.self.now.windows _)) (desk_with after (state_of (taken.loan-value g.dyn-1).it c.perform.new.windows _))
+        frame_step_showing (controls_show (lists_show (λ font. all_white) (lists.records_of (taken_list.loan-value g.dyn-4).it c.args.self.now.lists)) (records_of (taken_control.loan-value g.dyn-2).it c.args.self.now.controls)) c.in-Frame.call c.perform.result (desk_with before (state_of (taken.loan-value g.dyn-1).it c.args.self.now.windows _)) (desk_with after (state_of (taken.loan-value g.dyn-1).it c.perform.new.windows _))
             c.requires.whole.managers.windows.sound.distinct done.1,
         record { events = refl; controls = refl; lists = refl; menus = refl },
       ),
@@ -73,6 +75,7 @@ returns-in-Menu-clause-whole g c =
       updates = updates_after_menu _ c.args.self.now.windows c.perform-in-Menu.new.windows c.args.self.now.updates _ _ before after _ _ c.in-Menu.call c.perform-in-Menu.result may done.2 c.requires.whole.managers.updates;
       controls = menus_leave c.in-Menu.call c.perform-in-Menu.result _ _ _ done.2 c.requires.whole.managers.controls;
       lists = menus_leave_lists c.in-Menu.call c.perform-in-Menu.result _ _ _ done.2 c.requires.whole.managers.lists;
+      known = menus_leave_known c.in-Menu.call c.perform-in-Menu.result _ _ done.2 c.requires.whole.managers.known;
       trackable = menu_trackable c.in-Menu.call c.perform-in-Menu.result _ _ _ may done.2;
       menus = done.1;
       front = record { menu = c.perform-in-Menu.ensures.front; kept = none.0; outline = none.1 };
@@ -85,7 +88,7 @@ returns-in-Menu-clause-step g c =
       c.perform-in-Menu.result,
       search rules,
       record {
-        step = menu_step_showing (controls_show (lists_show (lists.records_of (taken_list.loan-value g.dyn-4).it c.args.self.now.lists)) (records_of (taken_control.loan-value g.dyn-2).it c.args.self.now.controls)) _ _ c.requires.whole.managers.windows.sound.distinct c.in-Menu.call c.perform-in-Menu.result done.2;
+        step = menu_step_showing (controls_show (lists_show (λ font. all_white) (lists.records_of (taken_list.loan-value g.dyn-4).it c.args.self.now.lists)) (records_of (taken_control.loan-value g.dyn-2).it c.args.self.now.controls)) _ _ c.requires.whole.managers.windows.sound.distinct c.in-Menu.call c.perform-in-Menu.result done.2;
         events = refl;
         controls = refl;
         lists = refl;

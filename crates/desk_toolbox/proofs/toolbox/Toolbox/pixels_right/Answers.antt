@@ -10,6 +10,7 @@ returns-clause-whole g c stocks whole = record {
     menus = whole.managers.menus;
     front = whole.managers.front;
     lists = whole.managers.lists;
+    known = whole.managers.known;
   };
   right = whole.right;
 }

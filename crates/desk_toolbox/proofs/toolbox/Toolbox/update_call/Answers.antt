@@ -2,11 +2,12 @@ use Rattle.std.proofs.Common.{refl}
 use Rattle.def_iface.specs.contracts.taken_control.TakenControlDefined.TheImpl as taken_control
 use Rattle.def_iface.specs.contracts.taken_list.TakenListDefined.TheImpl as taken_list
 use Rattle.window_update.specs.WholeUpdates.{opened}
+use Rattle.window_paint.specs.White.{all_white}
 use Rattle.control_mgr.specs.ControlDesks.{controls_show}
 use Rattle.control_mgr.specs.WholeControls.{records_of}
 use Rattle.list_mgr.specs.ListDesks.{lists_show}
 use Rattle.list_mgr.specs.WholeLists as lists
-use Rattle.desk_toolbox.proofs.ContentsBeside.{updates_leave, updates_leave_lists}
+use Rattle.desk_toolbox.proofs.ContentsBeside.{updates_leave, updates_leave_lists, updates_leave_known}
 use Rattle.desk_toolbox.proofs.MenusBeside.{update_whole}
 use Rattle.desk_toolbox.proofs.TrackedControls.{update_trackable}
 use Rattle.desk_toolbox.proofs.toolbox.Toolbox.update_call.Goals as goal
@@ -17,7 +18,7 @@ returns-clause-whole g c stocks whole =
     let done = c.perform.ensures.step stocks.windows whole.managers.windows in
     let first = opened self.activity self.updates in
     let last = opened c.perform.new.activity c.perform.new.self in
-    let shows = controls_show (lists_show (lists.records_of (taken_list.loan-value g.dyn-4).it self.lists)) (records_of (taken_control.loan-value g.dyn-2).it self.controls) in
+    let shows = controls_show (lists_show (λ font. all_white) (lists.records_of (taken_list.loan-value g.dyn-4).it self.lists)) (records_of (taken_control.loan-value g.dyn-2).it self.controls) in
     let menus =
     update_whole _ _ self.windows c.perform.new.windows _ _ _ _ _ shows first last c.args.call.now c.perform.result c.requires.admitted done.1
     (record { menus = whole.managers.menus; front = whole.managers.front }) in
@@ -29,6 +30,7 @@ returns-clause-whole g c stocks whole =
       menus = menus.menus;
       front = menus.front;
       lists = updates_leave_lists c.args.call.now c.perform.result _ _ _ done.1 whole.managers.lists;
+      known = updates_leave_known c.args.call.now c.perform.result _ _ done.1 whole.managers.known;
     }
 
 pub returns-clause-step : goal.returns-clause-step

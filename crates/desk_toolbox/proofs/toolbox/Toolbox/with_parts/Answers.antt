@@ -2,6 +2,7 @@ use Rattle.std.proofs.Common.{rules, SFits, w32, ap}
 use Rattle.std.proofs.lemmas.Int.{to_z-of_z}
 use Rattle.def_iface.specs.contracts.taken_control.TakenControlDefined.TheImpl as taken_control
 use Rattle.def_iface.specs.contracts.taken_list.TakenListDefined.TheImpl as taken_list
+use Rattle.window_paint.specs.White.{all_white}
 use Rattle.control_mgr.specs.Seen.{all_seen}
 use Rattle.control_mgr.specs.ControlDesks.{controls_show}
 use Rattle.control_mgr.specs.WholeControls.{records_of}
@@ -13,7 +14,7 @@ use Rattle.desk_toolbox.proofs.MenusBeside.{menus_begin}
 use Rattle.desk_toolbox.proofs.UpdatesBeside.{updates_begin}
 use Rattle.window_mgr.specs.FullDesk.{FullDesk}
 use Rattle.list_mgr.specs.Seen as lists
-use Rattle.desk_toolbox.proofs.ListStands.{no_lists_whole}
+use Rattle.desk_toolbox.proofs.ListStands.{no_lists_whole, none_known}
 use Rattle.desk_toolbox.proofs.TrackedControls.{none_whole}
 use Rattle.desk_toolbox.proofs.toolbox.Toolbox.with_parts.Goals as goal
 
@@ -33,7 +34,7 @@ returns-in-Ok-clause-whole g c stocks full =
     let begun = simp to_z-of_z at c.in-Ok.ensures.begun in
     let empty = begun stocks.windows full.windows in
     let menus = menus_begin _ _ c.args.width c.args.height c.args.bar _ _ _ _ stocks.windows stocks.menus c.requires.menus c.requires.front empty (stocked_by_full stocks.menus full.menus) in
-    let shows = controls_show (lists_show (whole_lists.records_of (taken_list.loan-value g.dyn-4).it c.new-in-Ok-2.result)) (records_of (taken_control.loan-value g.dyn-3).it c.new-in-Ok.result) in
+    let shows = controls_show (lists_show (λ font. all_white) (whole_lists.records_of (taken_list.loan-value g.dyn-4).it c.new-in-Ok-2.result)) (records_of (taken_control.loan-value g.dyn-3).it c.new-in-Ok.result) in
     record {
       managers = record {
         windows = empty.whole;
@@ -41,6 +42,7 @@ returns-in-Ok-clause-whole g c stocks full =
         controls = none_whole _ _ (ap (λ (d : FullDesk). d.windows) empty.desk) (ap (all_seen _) c.new-in-Ok.ensures.controls) c.new-in-Ok.ensures.next full.controls;
         trackable = tt;
         lists = no_lists_whole _ _ (ap (λ (d : FullDesk). d.windows) empty.desk) (ap (lists.all_seen _) c.new-in-Ok-2.ensures.lists) c.new-in-Ok-2.ensures.next full.lists;
+        known = none_known _ (ap (λ (d : FullDesk). d.windows) empty.desk);
         menus = menus.menus;
         front = menus.front;
       };

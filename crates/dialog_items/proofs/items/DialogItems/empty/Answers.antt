@@ -8,7 +8,7 @@ returns-then-self-number c =
     let x = c.index-item.result.now in
     let read : x ≡ get_or c.args.self.now.items (c.args.number - 1) x = c.index-item.ensures ∙ ap (λ (s : ItemList). get_or s.items (c.args.number - 1) x) c.self.view_is in
     let is : c.args.self.now.edited ≡ c.args.number = sym (ap (λ (s : ItemList). s.edited) (c.self-2.view_is ∙ c.put.ensures)) ∙ c.if-self-number.true in
-    ap (λ (s : ItemList). record s { edited = 0 }) (c.self-2.view_is ∙ c.put.ensures) ∙ emptied-edited c.args.self.now c.args.number x c.requires.some read is
+    c.stop_editing.ensures ∙ ap (λ (s : ItemList). record s { edited = 0 }) c.put.ensures ∙ emptied-edited c.args.self.now c.args.number x c.requires.some read is
 
 pub returns-else-self-number : goal.returns-else-self-number
 returns-else-self-number c =

@@ -35,7 +35,7 @@ returns-in_err-add_to_cell g c =
     short_over_right _ (list.loan-value g.dyn-1).it c.args.windows.now c.args.self.now (with_cells_there _ (list.loan-value g.dyn-1).it set.cell.list c.args.windows.now c.args.self.now c.in_ok-spot.spot c.in_ok-spot.ensures y c.index_mut.ensures.value c.add_to_cell.new.self)
     (kept_there _ (list.loan-value g.dyn-1).it set.cell.list c.args.windows.now c.args.self.now c.in_ok-spot.spot c.in_ok-spot.ensures y c.index_mut.ensures.value c.add_to_cell.new.self c.in_err-add_to_cell.ensures.cells)
     refl (asks.AddToCell set) c.from_residual-in_err-add_to_cell.result e.0 e.1 memory (λ kept. refl)
-    (λ o slots cs kept.
+    (λ others o slots cs kept.
     its_reasons _ _ set.cell.list c.args.windows.now c.args.self.now c.in_ok-spot.spot c.in_ok-spot.ensures (λ z. data_refusals z.kept.cells cell 0 (length set.text))
     (seen (list.loan-value g.dyn-1).it x) (list_read _ _ set.cell.list c.args.windows.now c.args.self.now c.in_ok-spot.spot c.in_ok-spot.ensures x c.index.ensures)
     ∙ subst (λ (text : List ℕ). first_refusal (data_refusals x.kept.cells cell 0 (length text)) ≡ None) c.as_slice-text.ensures free)
@@ -89,7 +89,7 @@ returns g c =
     let changes : not (length set.text == 0) ≡ not c.is_empty-changes.result =
     ap not (sym (c.is_empty-changes.ensures ∙ ap (λ (text : List ℕ). length text == 0) c.as_slice-text.ensures)) in
     right_as _ (list.loan-value g.dyn-1).it t c.show.new.windows m (with_cells_there _ (list.loan-value g.dyn-1).it set.cell.list t m spot is x read c.add_to_cell.new.self) (IsListChanged set.cell.list (with_grid (appended cell set.text))) (IsListStep (asks.AddToCell set) (Ok reply.Done))
-    (λ o slots cs kept done. (
+    (λ others o slots cs kept done. (
       its_reasons _ _ set.cell.list t m spot is (λ y. data_refusals y.kept.cells cell 0 (length set.text)) (seen (list.loan-value g.dyn-1).it x) (list_read _ _ set.cell.list t m spot is x read) ∙ allowed,
       (refl, done),
     ))

@@ -25,7 +25,7 @@ returns-in_err-mark g c =
     let e = err_from_is_err_and c.from_residual-in_err-mark.result c.from_residual-in_err-mark.ensures.1 in
     short_over_right _ (list.loan-value g.dyn-1).it c.args.windows.now c.args.self.now c.args.self.now refl refl (asks.ClearCell named) c.from_residual-in_err-mark.result e.0 e.1 e.2
     (λ kept. grows_off _ (list.loan-value g.dyn-1).it named.list c.args.windows.now c.args.self.now c.in_ok-spot.spot c.in_ok-spot.ensures c.in_err-mark.ensures kept)
-    (λ o slots cs kept.
+    (λ others o slots cs kept.
     cell_there _ _ named.list c.args.windows.now c.args.self.now c.in_ok-spot.spot c.in_ok-spot.ensures named.cell (seen (list.loan-value g.dyn-1).it x)
     (list_read _ _ named.list c.args.windows.now c.args.self.now c.in_ok-spot.spot c.in_ok-spot.ensures x c.index.ensures) (sym c.cell.ensures.found ∙ ap is_ok c.in_ok-cell.was))
 
@@ -72,7 +72,7 @@ returns g c =
     let has : is_cell x.kept.cells cell ≡ true = sym c.in_ok-clear_cell.ensures.found in
     let same : c.index.result.now ≡ x = one_item m.list.items.items spot.list c.index.result.now x is.low c.index.ensures read in
     right_as _ (list.loan-value g.dyn-1).it t c.show.new.windows m (with_cells_there _ (list.loan-value g.dyn-1).it named.list t m spot is x read c.clear_cell.new.self) (IsListChanged named.list (with_grid (λ (y : Grid). with_bytes y cell []))) (IsListStep (asks.ClearCell named) (Ok reply.Done))
-    (λ o slots cs kept done. (
+    (λ others o slots cs kept done. (
       cell_there _ _ named.list t m spot is cell (seen (list.loan-value g.dyn-1).it x) (list_read _ _ named.list t m spot is x read) has,
       (refl, done),
     ))

@@ -28,7 +28,7 @@ returns-in_err-cell g c =
     let x = c.index-2.result.now in
     let e = err_from_is_err_and c.from_residual-in_err-cell.result c.from_residual-in_err-cell.ensures.1 in
     refused_over_right _ (list.loan-value g.dyn-1).it c.args.windows.now c.args.self.now c.args.self.now refl refl (asks.SetCell set) c.from_residual-in_err-cell.result e.0 e.1
-    (λ o slots cs kept.
+    (λ others o slots cs kept.
     its_reasons _ _ set.cell.list c.args.windows.now c.args.self.now c.in_ok-spot.spot c.in_ok-spot.ensures (λ y. data_refusals y.kept.cells cell (length (content_of y.kept.cells cell).bytes) (length set.text))
     (seen (list.loan-value g.dyn-1).it x) (list_read _ _ set.cell.list c.args.windows.now c.args.self.now c.in_ok-spot.spot c.in_ok-spot.ensures x c.index-2.ensures)
     ∙ no_cell_refused x.kept.cells cell (length (content_of x.kept.cells cell).bytes) (length set.text) (sym c.in_err-cell.ensures.found)
@@ -41,7 +41,7 @@ returns-in_err-mark g c =
     let x = c.index.result.now in
     let e = err_from_is_err_and c.from_residual-in_err-mark.result c.from_residual-in_err-mark.ensures.1 in
     short_over_right _ (list.loan-value g.dyn-1).it c.args.windows.now c.args.self.now c.args.self.now refl refl (asks.SetCell set) c.from_residual-in_err-mark.result e.0 e.1 e.2 (λ kept. refl)
-    (λ o slots cs kept.
+    (λ others o slots cs kept.
     its_reasons _ _ set.cell.list c.args.windows.now c.args.self.now c.in_ok-spot.spot c.in_ok-spot.ensures (λ y. data_refusals y.kept.cells cell (length (content_of y.kept.cells cell).bytes) (length set.text))
     (seen (list.loan-value g.dyn-1).it x) (list_read _ _ set.cell.list c.args.windows.now c.args.self.now c.in_ok-spot.spot c.in_ok-spot.ensures x c.index.ensures)
     ∙ subst (λ (text : List ℕ). first_refusal (data_refusals x.kept.cells cell (length (content_of x.kept.cells cell).bytes) (length text)) ≡ None) c.as_slice-text.ensures (sym c.in_default.ensures))
@@ -61,7 +61,7 @@ returns-in_err-set_cell g c =
     short_over_right _ (list.loan-value g.dyn-1).it c.args.windows.now c.args.self.now (with_cells_there _ (list.loan-value g.dyn-1).it set.cell.list c.args.windows.now c.args.self.now c.in_ok-spot.spot c.in_ok-spot.ensures y c.index_mut.ensures.value c.set_cell.new.self)
     (kept_there _ (list.loan-value g.dyn-1).it set.cell.list c.args.windows.now c.args.self.now c.in_ok-spot.spot c.in_ok-spot.ensures y c.index_mut.ensures.value c.set_cell.new.self c.in_err-set_cell.ensures.cells)
     refl (asks.SetCell set) c.from_residual-in_err-set_cell.result e.0 e.1 memory (λ kept. refl)
-    (λ o slots cs kept.
+    (λ others o slots cs kept.
     its_reasons _ _ set.cell.list c.args.windows.now c.args.self.now c.in_ok-spot.spot c.in_ok-spot.ensures (λ z. data_refusals z.kept.cells cell (length (content_of z.kept.cells cell).bytes) (length set.text))
     (seen (list.loan-value g.dyn-1).it x) (list_read _ _ set.cell.list c.args.windows.now c.args.self.now c.in_ok-spot.spot c.in_ok-spot.ensures x c.index.ensures)
     ∙ subst (λ (text : List ℕ). first_refusal (data_refusals x.kept.cells cell (length (content_of x.kept.cells cell).bytes) (length text)) ≡ None) c.as_slice-text.ensures free)
@@ -116,7 +116,7 @@ returns g c =
     sym (c.differ-changes.ensures ∙ ap (λ (old : List ℕ). not (bytes_eq old c.as_slice-text.result.now)) (c.in_ok-cell.ensures.bytes ∙ ap (λ y. (content_of y.kept.cells cell).bytes) same)
     ∙ ap (λ (text : List ℕ). not (bytes_eq (content_of x.kept.cells cell).bytes text)) c.as_slice-text.ensures) in
     right_as _ (list.loan-value g.dyn-1).it t c.show.new.windows m (with_cells_there _ (list.loan-value g.dyn-1).it set.cell.list t m spot is x read c.set_cell.new.self) (IsListChanged set.cell.list (with_grid (λ (y : Grid). with_bytes y cell set.text))) (IsListStep (asks.SetCell set) (Ok reply.Done))
-    (λ o slots cs kept done. (
+    (λ others o slots cs kept done. (
       its_reasons _ _ set.cell.list t m spot is (λ y. data_refusals y.kept.cells cell (length (content_of y.kept.cells cell).bytes) (length set.text)) (seen (list.loan-value g.dyn-1).it x) (list_read _ _ set.cell.list t m spot is x read) ∙ allowed,
       (refl, done),
     ))

@@ -23,7 +23,7 @@ returns-in_err-spot g c =
     let m = c.args.self.now in
     let e = err_from_is_err_and c.from_residual.result c.from_residual.ensures.1 in
     refused_lines _ list_loan _ (call_of edit) t m c.args.controls.now c.from_residual.result e.0 e.1
-    (λ o slots cs kept. edit_missing _ list_loan edit.change edit.axis edit.lines t m c.in_err-spot.field-0.0 c.in_err-spot.ensures o slots cs kept ∙ ap Some (sym e.2))
+    (λ others o slots cs kept. edit_missing _ list_loan edit.change edit.axis edit.lines t m c.in_err-spot.field-0.0 c.in_err-spot.ensures others o slots cs kept ∙ ap Some (sym e.2))
 
 pub returns-in-Some : goal.returns-in-Some
 returns-in-Some g c =
@@ -32,7 +32,7 @@ returns-in-Some g c =
     let t = c.args.windows.now in
     let m = c.args.self.now in
     refused_lines _ list_loan _ (call_of edit) t m c.args.controls.now (Err c.in-Some.refusal) c.in-Some.refusal refl
-    (λ o slots cs kept. edit_judged _ list_loan edit.change edit.axis edit.lines t m c.in_ok-spot.spot c.in_ok-spot.ensures c.index.result.now c.index.ensures o slots cs kept ∙ sym c.in-Some.ensures)
+    (λ others o slots cs kept. edit_judged _ list_loan edit.change edit.axis edit.lines t m c.in_ok-spot.spot c.in_ok-spot.ensures c.index.result.now c.index.ensures others o slots cs kept ∙ sym c.in-Some.ensures)
 
 pub returns-in_err-mark : goal.returns-in_err-mark
 returns-in_err-mark g c =
@@ -45,7 +45,7 @@ returns-in_err-mark g c =
     let e = err_from_is_err_and c.from_residual-in_err-mark.result c.from_residual-in_err-mark.ensures.1 in
     short_lines _ list_loan _ (call_of edit) t m c.args.controls.now m refl refl c.from_residual-in_err-mark.result e.0 e.1 e.2
     (λ kept. edit_grows edit.change edit.axis edit.lines _ (grows_off _ list_loan edit.lines.list t m spot is c.in_err-mark.ensures kept))
-    (λ o slots cs kept. edit_judged _ list_loan edit.change edit.axis edit.lines t m spot is c.index.result.now c.index.ensures o slots cs kept ∙ sym c.in_default.ensures)
+    (λ others o slots cs kept. edit_judged _ list_loan edit.change edit.axis edit.lines t m spot is c.index.result.now c.index.ensures others o slots cs kept ∙ sym c.in_default.ensures)
 
 pub returns-in_err-first : goal.returns-in_err-first
 returns-in_err-first g c =
@@ -64,7 +64,7 @@ returns-in_err-first g c =
     short_lines _ list_loan _ (call_of edit) t m c.args.controls.now (with_cells_there _ list_loan edit.lines.list t m spot is x read c.perform.new.cells)
     (kept_there _ list_loan edit.lines.list t m spot is x read c.perform.new.cells c.in_err-first.ensures.1)
     refl c.from_residual-in_err-first.result e.0 e.1 (e.2 ∙ short.0) (λ kept. short.1 _)
-    (λ o slots cs kept. edit_judged _ list_loan edit.change edit.axis edit.lines t m spot is x read o slots cs kept ∙ none)
+    (λ others o slots cs kept. edit_judged _ list_loan edit.change edit.axis edit.lines t m spot is x read others o slots cs kept ∙ none)
 
 pub line_number-requires : goal.line_number-requires
 line_number-requires g c =
@@ -154,7 +154,7 @@ returns g c =
     let change = edit_change _ list_loan edit.lines.list t m spot is x read cells edit allowed done.1 n back.lists back.next in
     rw c.reply.ensures
     (relined_lines _ list_loan _ (call_of edit) t m c.args.controls.now edit.lines.list (with_edit edit) (reply_of edit.change c.in_ok-first.first) c.show_with_bars.new.windows c.show_with_bars.new.controls n
-    (λ o slots cs kept. edit_judged _ list_loan edit.change edit.axis edit.lines t m spot is x read o slots cs kept ∙ allowed)
+    (λ others o slots cs kept. edit_judged _ list_loan edit.change edit.axis edit.lines t m spot is x read others o slots cs kept ∙ allowed)
     (edit_effect _ list_loan edit.change edit.axis edit.lines t m spot is x read c.in_ok-first.first done.0)
     (relined_over _ list_loan edit.lines.list t m n spot (with_edit edit) change _ within
     (edit_shown _ list_loan edit.lines.list t m spot is x read edit cells done.1 allowed c.index-2.result.now c.index-2.ensures within c.scroll_back-scrolled.result

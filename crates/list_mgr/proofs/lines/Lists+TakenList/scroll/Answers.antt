@@ -75,7 +75,7 @@ returns g c =
     let change = scroll_change _ list_loan scrolled.list t m n spot scrolled.columns scrolled.rows is lists c.scroll_by-changes.ensures.next in
     let agree = simp to_z-of_z at c.scroll_by-changes.ensures.changes in
     relined_lines _ list_loan _ (asks.Scroll scrolled) t m c.args.controls.now scrolled.list (with_scroll scrolled.columns scrolled.rows) reply.Done c.show_with_bars.new.windows c.show_with_bars.new.controls n
-    (λ o slots cs kept. nothing_missing _ list_loan scrolled.list t m spot is)
+    (λ others o slots cs kept. nothing_missing _ list_loan scrolled.list t m spot is)
     (λ before after same done. (refl, done))
     (relined_over _ list_loan scrolled.list t m n spot (with_scroll scrolled.columns scrolled.rows) change _ c.rect-within.result
     (of_read _ list_loan scrolled.list t m spot is c.index.result.now c.index.ensures (λ y. IsSettledList y → IsSameOutside c.rect-within.result y (with_scroll scrolled.columns scrolled.rows y)) (λ settled. view_outside c.rect-within.result (seen list_loan c.index.result.now) (with_scroll scrolled.columns scrolled.rows (seen list_loan c.index.result.now)) c.rect-within.ensures.sides refl))

@@ -27,7 +27,7 @@ pub returns-in_err-spot : goal.returns-in_err-spot
 returns-in_err-spot g c =
     let e = err_from_is_err_and c.from_residual.result c.from_residual.ensures.1 in
     refused_over _ (list.loan-value g.dyn-1).it c.args.windows.now c.args.self.now c.args.self.now refl refl (asks.Click c.args.clicked) c.from_residual.result e.0 e.1
-    (λ o slots cs kept. click_missing _ _ c.args.clicked c.args.windows.now c.args.self.now c.in_err-spot.field-0.0 c.in_err-spot.ensures o slots cs kept ∙ ap Some (sym e.2))
+    (λ others o slots cs kept. click_missing _ _ c.args.clicked c.args.windows.now c.args.self.now c.in_err-spot.field-0.0 c.in_err-spot.ensures others o slots cs kept ∙ ap Some (sym e.2))
 
 pub returns-then-not-is_in_range : goal.returns-then-not-is_in_range
 returns-then-not-is_in_range g c =

@@ -23,7 +23,7 @@ returns-in_err-mark g c =
     let e = err_from_is_err_and c.from_residual-in_err-mark.result c.from_residual-in_err-mark.ensures.1 in
     short_over _ (list.loan-value g.dyn-1).it c.args.windows.now c.args.self.now c.args.self.now refl refl (asks.Select chosen) c.from_residual-in_err-mark.result e.0 e.1 e.2
     (λ kept. grows_off _ (list.loan-value g.dyn-1).it chosen.cell.list c.args.windows.now c.args.self.now c.in_ok-spot.spot c.in_ok-spot.ensures c.in_err-mark.ensures kept)
-    (λ o slots cs kept.
+    (λ others o slots cs kept.
     cell_there _ _ chosen.cell.list c.args.windows.now c.args.self.now c.in_ok-spot.spot c.in_ok-spot.ensures chosen.cell.cell (seen (list.loan-value g.dyn-1).it x)
     (list_read _ _ chosen.cell.list c.args.windows.now c.args.self.now c.in_ok-spot.spot c.in_ok-spot.ensures x c.index-list.ensures) (sym c.in-Some.ensures.found))
 
@@ -46,7 +46,7 @@ returns g c =
     let said : IsSelecting x.kept.cells (chosen_cell cell chosen.selected x.kept.flags.only_one x.kept.cells) c.in-Some.selecting =
     subst (λ z. IsSelecting z.kept.cells (chosen_cell cell chosen.selected z.kept.flags.only_one z.kept.cells) c.in-Some.selecting) same c.in-Some.ensures.after in
     changed_as _ (list.loan-value g.dyn-1).it t c.toggle.new.windows m (with_cells_there _ (list.loan-value g.dyn-1).it chosen.cell.list t m spot is x read c.select.new.self) (IsSelectionChanged chosen.cell.list (λ (flags : SelectionFlags). chosen_cell cell chosen.selected flags.only_one)) (IsListStep (asks.Select chosen) (Ok reply.Done))
-    (λ o slots cs kept done.
+    (λ others o slots cs kept done.
     (cell_there _ _ chosen.cell.list t m spot is cell (seen (list.loan-value g.dyn-1).it x) (list_read _ _ chosen.cell.list t m spot is x read) has, (refl, done)))
     (selected_so _ (list.loan-value g.dyn-1).it chosen.cell.list t m spot is x read (λ (flags : SelectionFlags). chosen_cell cell chosen.selected flags.only_one) c.select.new.self now c.in-Some.selecting said
     (chosen_single x.kept.flags.only_one x.kept.cells cell chosen.selected) c.in_ok-mark.mark c.in_ok-mark.ensures c.toggle.new.windows c.toggle.ensures)

@@ -1,4 +1,4 @@
-use Rattle.std.proofs.Common.{◌<ℤ◌, pos, arith}
+use Rattle.std.proofs.Common.{◌<ℤ◌, arith}
 use Rattle.std.proofs.lemmas.Int.{ints, to_z-of_z}
 use Rattle.shape_strips.proofs.RangeLemmas.{row_of, sides_in}
 use Rattle.shape_region.specs.Polygons.{polygon_holds}
