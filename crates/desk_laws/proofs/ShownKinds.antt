@@ -37,7 +37,7 @@ no_text_of_controls (c ∷ cs) q behind none = by_test (control_has c q) (no_tex
 
 -- so no pixel is a text record's
 pub shows_no_texts : (window : ℕ) (s : ToolboxState) → IsConsistent s → ShowsNone window Texts s.desk.windows
-shows_no_texts window s its p on =
+shows_no_texts window s its = λ p on.
     owners_laid (λ o other. is_of_kind Texts window o ≡ false) plain (with_lists s) (with_lists s) right right (record { windows = refl; rest = refl }) content p
   where
     right : IsRightAlone (with_lists s)
