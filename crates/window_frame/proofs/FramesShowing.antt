@@ -111,6 +111,7 @@ module _ (shows : List ℕ → Part → PixelSet) where
   caught_up_by_showing standing.TracksControl s t distinct it = caught_up_showing s t distinct it
   caught_up_by_showing standing.Drags s t distinct it = caught_up_showing s t distinct it
   caught_up_by_showing standing.Grows s t distinct it = caught_up_showing s t distinct it
+  caught_up_by_showing standing.Selects s t distinct it = caught_up_showing s t distinct it
   caught_up_by_showing standing.Changes s t distinct it = caught_up_showing s t distinct it
 
 -- ---- calls about frames

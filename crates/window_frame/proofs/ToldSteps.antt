@@ -5,7 +5,7 @@ use Rattle.def_iface.specs.Slots.{TakenBox}
 use Rattle.def_iface.specs.WindowMeaning.{WindowLoan}
 use Rattle.def_iface.specs.WindowNews.{told_title, told_highlighted, told_tracked}
 use Rattle.desk_call.specs.declared.activity.Standing.{Standing}
-use Rattle.desk_call.specs.declared.activity.Standing.TheVariants.{Asks, Updates, Tracks, Pulls, TracksControl, Drags, Grows, Changes}
+use Rattle.desk_call.specs.declared.activity.Standing.TheVariants.{Asks, Updates, Tracks, Pulls, TracksControl, Drags, Grows, Selects, Changes}
 use Rattle.desk_call.specs.declared.frame.FrameCall.{FrameCall}
 use Rattle.desk_call.specs.declared.frame.FrameCall.TheVariants.{SetTitle, Hilite, TrackGoAway, StepGoAway, EndGoAway}
 use Rattle.desk_call.specs.declared.frame.FrameReply.{FrameReply}
@@ -28,6 +28,7 @@ caught_up_cases Pulls before after told = inr told
 caught_up_cases TracksControl before after told = inr told
 caught_up_cases Drags before after told = inr told
 caught_up_cases Grows before after told = inr told
+caught_up_cases Selects before after told = inr told
 caught_up_cases Changes before after told = inr told
 
 -- after a call that does not just ask, definitions that know how their windows stand are told as after the call
