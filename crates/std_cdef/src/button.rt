@@ -1,22 +1,17 @@
 //! What a simple button looks like.
-ghost use Rattle.std.specs.Prelude.{◌≡◌, true, false};
-ghost use Rattle.std.specs.Str.{bytes_eq};
-ghost use Rattle.tb_geom.specs.declared.point.Point.{Point};
-ghost use Rattle.tb_geom.specs.Rects.{in_plane, rect_holds};
+ghost use Rattle.std.specs.Prelude.{◌≡◌, true};
 ghost use Rattle.def_iface.specs.ControlMeaning.{is_control_size};
-ghost use Rattle.looks.specs.Letters.{Lettering};
-ghost use Rattle.looks.specs.Marks.{look_bit};
 ghost use Rattle.std_cdef.specs.Looks.{button_look};
 ghost use Rattle.std_cdef.specs.Controls.{button_damaged, button_part, button_seen, same_value};
 ghost use Rattle.std_cdef.specs.Told.{fresh_button};
 
 use crate::control::{ControlLook, StdControl};
 use crate::rects::{is_control_size, middle};
-use crate::titles::same_title;
-use control_values::{ControlPart, Highlight};
-use def_iface::{ControlDef, KeptControl, Size, Stage};
+use crate::titles::titled_damage;
+use control_values::ControlPart;
+use def_iface::{ControlDef, KeptControl, Stage};
 use draw_port::Canvas;
-use looks::{Step, columns, damage_between, draw_look};
+use looks::{Step, columns, draw_look};
 use tb_geom::{Point, Rect};
 
 /// What a simple button looks like (pushButProc).
@@ -42,10 +37,11 @@ impl StdButton {
 
 /// The frame, the title in the middle, and what is put over all of it.
 #[tactic(auto, unfolding(crate::specs::Looks::button_look))]
-fn button_look(size: Size, highlight: Highlight) -> [Step; 4]
-    requires { is_control_size size ≡ true }
-    ensures { result ≡ button_look size highlight }
+fn button_look(kept: &KeptControl) -> [Step; 4]
+    requires { is_control_size kept.now.size ≡ true }
+    ensures { result ≡ button_look kept.now.size kept.now.highlight }
 {
+    let (size, highlight) = (kept.size, kept.highlight);
     let whole = size.rect();
     [
         Step::black_frame(whole),
@@ -53,27 +49,6 @@ fn button_look(size: Size, highlight: Highlight) -> [Step; 4]
         Step::inverted(whole).when(highlight.shows(ControlPart::Button)),
         Step::grayed(whole).when(highlight.is_inactive()),
     ]
-}
-
-/// The damage of a button (`ControlLook::damage`). The titles are equal where `same_title` says so.
-fn button_damage(old: &KeptControl, new: &KeptControl, same_title: bool) -> Rect
-    requires { is_control_size new.now.size ≡ true }
-    ensures alike { (u t : Lettering) → (same_title ≡ true → t ≡ u) → (p : Point) → in_plane p ≡ true
-        → rect_holds result p ≡ false
-        → look_bit t (button_look new.now.size new.now.highlight) p
-        ≡ look_bit u (button_look old.now.size old.now.highlight) p }
-    ensures small { (p : Point) → rect_holds result p ≡ true → same_title ≡ bytes_eq old.now.title new.now.title
-        → button_damaged old.now new.now p ≡ true }
-{
-    if is_control_size(old.size) {
-        damage_between(
-            &button_look(old.size, old.highlight),
-            &button_look(new.size, new.highlight),
-            same_title,
-        )
-    } else {
-        Rect::plane()
-    }
 }
 
 /// The part of a button that a point lies in: all of its rectangle is one.
@@ -97,7 +72,11 @@ impl ControlLook for ButtonLook {
     ghost damaged = { λ _. button_damaged };
 
     fn damage(&self, old: &KeptControl, new: &KeptControl) -> Rect {
-        button_damage(old, new, same_title(old, new))
+        if is_control_size(old.size) {
+            titled_damage(old, new, &button_look(old), &button_look(new))
+        } else {
+            Rect::plane()
+        }
     }
 
     fn hit(&self, kept: &KeptControl, point: Point) -> Option<ControlPart> {
@@ -109,7 +88,6 @@ impl ControlLook for ButtonLook {
     }
 
     fn draw(&self, kept: &KeptControl, canvas: &mut Canvas<'_>) {
-        let look = button_look(kept.size, kept.highlight);
-        draw_look(canvas, &look, kept.title.as_slice());
+        draw_look(canvas, &button_look(kept), kept.title.as_slice());
     }
 }

@@ -3,12 +3,14 @@ ghost use Rattle.std.specs.Prelude.{◌≡◌};
 ghost use Rattle.std_cdef.specs.Controls.{box_damaged, box_part, box_seen, same_value};
 ghost use Rattle.std_cdef.specs.Told.{fresh_check};
 
-use crate::boxes::{box_damage, draw_box};
+use crate::boxes::{check_look, radio_look};
 use crate::control::{ControlLook, StdControl};
-use crate::titles::same_title;
+use crate::rects::is_control_size;
+use crate::titles::titled_damage;
 use control_values::ControlPart;
 use def_iface::{ControlDef, KeptControl, Stage};
 use draw_port::Canvas;
+use looks::draw_look;
 use tb_geom::{Point, Rect};
 
 /// The look of a check box or of a radio button, with the numbers of their procedures (*Inside Macintosh* I, "The
@@ -48,7 +50,16 @@ impl ControlLook for Variation {
     ghost damaged = { box_damaged };
 
     fn damage(&self, old: &KeptControl, new: &KeptControl) -> Rect {
-        box_damage(*self, old, new, same_title(old, new))
+        if is_control_size(old.size) {
+            match *self {
+                Variation::CheckBox => titled_damage(old, new, &check_look(old), &check_look(new)),
+                Variation::RadioButton => {
+                    titled_damage(old, new, &radio_look(old), &radio_look(new))
+                }
+            }
+        } else {
+            Rect::plane()
+        }
     }
 
     fn hit(&self, kept: &KeptControl, point: Point) -> Option<ControlPart> {
@@ -64,6 +75,10 @@ impl ControlLook for Variation {
     }
 
     fn draw(&self, kept: &KeptControl, canvas: &mut Canvas<'_>) {
-        draw_box(canvas, *self, kept);
+        let title = kept.title.as_slice();
+        match *self {
+            Variation::CheckBox => draw_look(canvas, &check_look(kept), title),
+            Variation::RadioButton => draw_look(canvas, &radio_look(kept), title),
+        }
     }
 }

@@ -1,22 +1,17 @@
 //! What a default button looks like: a simple button within a ring.
-ghost use Rattle.std.specs.Prelude.{◌≡◌, true, false};
-ghost use Rattle.std.specs.Str.{bytes_eq};
-ghost use Rattle.tb_geom.specs.declared.point.Point.{Point};
-ghost use Rattle.tb_geom.specs.Rects.{in_plane, rect_holds};
+ghost use Rattle.std.specs.Prelude.{◌≡◌, true};
 ghost use Rattle.def_iface.specs.ControlMeaning.{is_control_size};
-ghost use Rattle.looks.specs.Letters.{Lettering};
-ghost use Rattle.looks.specs.Marks.{look_bit};
 ghost use Rattle.std_cdef.specs.Looks.{default_button_look, inset};
 ghost use Rattle.std_cdef.specs.Controls.{default_button_damaged, default_button_part, default_button_seen, same_value};
 ghost use Rattle.std_cdef.specs.Told.{fresh_default_button};
 
 use crate::control::{ControlLook, StdControl};
 use crate::rects::{is_control_size, middle};
-use crate::titles::same_title;
-use control_values::{ControlPart, Highlight};
+use crate::titles::titled_damage;
+use control_values::ControlPart;
 use def_iface::{ControlDef, KeptControl, Size, Stage};
 use draw_port::Canvas;
-use looks::{Step, columns, damage_between, draw_look, less, sides};
+use looks::{Step, columns, draw_look, less, sides};
 use tb_geom::{Point, Rect};
 
 /// What the button of a dialog looks like that the keys Return and Enter stand for (*Inside Macintosh* I, "The Dialog Manager",
@@ -56,10 +51,11 @@ fn inset(size: Size, by: u8) -> Rect
 
 /// The ring, the button in it as any other, inverted within the ring, and gray over all of it.
 #[tactic(auto, unfolding(crate::specs::Looks::default_button_look))]
-fn default_button_look(size: Size, highlight: Highlight) -> [Step; 6]
-    requires { is_control_size size ≡ true }
-    ensures { result ≡ default_button_look size highlight }
+fn default_button_look(kept: &KeptControl) -> [Step; 6]
+    requires { is_control_size kept.now.size ≡ true }
+    ensures { result ≡ default_button_look kept.now.size kept.now.highlight }
 {
+    let (size, highlight) = (kept.size, kept.highlight);
     let whole = size.rect();
     let button = inset(size, 4);
     [
@@ -72,27 +68,6 @@ fn default_button_look(size: Size, highlight: Highlight) -> [Step; 6]
     ]
 }
 
-/// The damage of such a button (`ControlLook::damage`). The titles are equal where `same_title` says so.
-fn default_button_damage(old: &KeptControl, new: &KeptControl, same_title: bool) -> Rect
-    requires { is_control_size new.now.size ≡ true }
-    ensures alike { (u t : Lettering) → (same_title ≡ true → t ≡ u) → (p : Point) → in_plane p ≡ true
-        → rect_holds result p ≡ false
-        → look_bit t (default_button_look new.now.size new.now.highlight) p
-        ≡ look_bit u (default_button_look old.now.size old.now.highlight) p }
-    ensures small { (p : Point) → rect_holds result p ≡ true → same_title ≡ bytes_eq old.now.title new.now.title
-        → default_button_damaged old.now new.now p ≡ true }
-{
-    if is_control_size(old.size) {
-        damage_between(
-            &default_button_look(old.size, old.highlight),
-            &default_button_look(new.size, new.highlight),
-            same_title,
-        )
-    } else {
-        Rect::plane()
-    }
-}
-
 impl ControlLook for DefaultButtonLook {
     ghost seen = { λ _. default_button_seen };
 
@@ -103,7 +78,16 @@ impl ControlLook for DefaultButtonLook {
     ghost damaged = { λ _. default_button_damaged };
 
     fn damage(&self, old: &KeptControl, new: &KeptControl) -> Rect {
-        default_button_damage(old, new, same_title(old, new))
+        if is_control_size(old.size) {
+            titled_damage(
+                old,
+                new,
+                &default_button_look(old),
+                &default_button_look(new),
+            )
+        } else {
+            Rect::plane()
+        }
     }
 
     fn hit(&self, kept: &KeptControl, point: Point) -> Option<ControlPart> {
@@ -119,7 +103,6 @@ impl ControlLook for DefaultButtonLook {
     }
 
     fn draw(&self, kept: &KeptControl, canvas: &mut Canvas<'_>) {
-        let look = default_button_look(kept.size, kept.highlight);
-        draw_look(canvas, &look, kept.title.as_slice());
+        draw_look(canvas, &default_button_look(kept), kept.title.as_slice());
     }
 }

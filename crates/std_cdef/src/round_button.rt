@@ -1,11 +1,6 @@
 //! What a button with rounded corners looks like.
-ghost use Rattle.std.specs.Prelude.{◌≡◌, true, false};
-ghost use Rattle.std.specs.Str.{bytes_eq};
-ghost use Rattle.tb_geom.specs.declared.point.Point.{Point};
-ghost use Rattle.tb_geom.specs.Rects.{in_plane, rect_holds};
+ghost use Rattle.std.specs.Prelude.{◌≡◌, true};
 ghost use Rattle.def_iface.specs.ControlMeaning.{is_control_size};
-ghost use Rattle.looks.specs.Letters.{Lettering};
-ghost use Rattle.looks.specs.Marks.{look_bit};
 ghost use Rattle.std_cdef.specs.Looks.{half_corner, round_button_look};
 ghost use Rattle.std_cdef.specs.Controls.{button_part, round_button_damaged, round_button_seen, same_value};
 ghost use Rattle.std_cdef.specs.Told.{fresh_round_button};
@@ -13,11 +8,11 @@ ghost use Rattle.std_cdef.specs.Told.{fresh_round_button};
 use crate::button::button_hit;
 use crate::control::{ControlLook, StdControl};
 use crate::rects::{is_control_size, middle};
-use crate::titles::same_title;
-use control_values::{ControlPart, Highlight};
+use crate::titles::titled_damage;
+use control_values::ControlPart;
 use def_iface::{ControlDef, KeptControl, Size, Stage};
 use draw_port::Canvas;
-use looks::{Step, columns, damage_between, draw_look};
+use looks::{Step, columns, draw_look};
 use shape_strips::Corner;
 use tb_geom::{Point, Rect};
 
@@ -56,10 +51,11 @@ fn half_corner(size: Size) -> Corner
 
 /// The rounded frame, the title in the middle, and what is put over the inside or over all of it.
 #[tactic(auto, unfolding(crate::specs::Looks::round_button_look))]
-fn round_button_look(size: Size, highlight: Highlight) -> [Step; 5]
-    requires { is_control_size size ≡ true }
-    ensures { result ≡ round_button_look size highlight }
+fn round_button_look(kept: &KeptControl) -> [Step; 5]
+    requires { is_control_size kept.now.size ≡ true }
+    ensures { result ≡ round_button_look kept.now.size kept.now.highlight }
 {
+    let (size, highlight) = (kept.size, kept.highlight);
     let whole = size.rect();
     let corner = half_corner(size);
     [
@@ -69,27 +65,6 @@ fn round_button_look(size: Size, highlight: Highlight) -> [Step; 5]
         Step::inverted_inside(whole, corner).when(highlight.shows(ControlPart::Button)),
         Step::grayed(whole).when(highlight.is_inactive()),
     ]
-}
-
-/// The damage of such a button (`ControlLook::damage`). The titles are equal where `same_title` says so.
-fn round_button_damage(old: &KeptControl, new: &KeptControl, same_title: bool) -> Rect
-    requires { is_control_size new.now.size ≡ true }
-    ensures alike { (u t : Lettering) → (same_title ≡ true → t ≡ u) → (p : Point) → in_plane p ≡ true
-        → rect_holds result p ≡ false
-        → look_bit t (round_button_look new.now.size new.now.highlight) p
-        ≡ look_bit u (round_button_look old.now.size old.now.highlight) p }
-    ensures small { (p : Point) → rect_holds result p ≡ true → same_title ≡ bytes_eq old.now.title new.now.title
-        → round_button_damaged old.now new.now p ≡ true }
-{
-    if is_control_size(old.size) {
-        damage_between(
-            &round_button_look(old.size, old.highlight),
-            &round_button_look(new.size, new.highlight),
-            same_title,
-        )
-    } else {
-        Rect::plane()
-    }
 }
 
 impl ControlLook for RoundButtonLook {
@@ -102,7 +77,11 @@ impl ControlLook for RoundButtonLook {
     ghost damaged = { λ _. round_button_damaged };
 
     fn damage(&self, old: &KeptControl, new: &KeptControl) -> Rect {
-        round_button_damage(old, new, same_title(old, new))
+        if is_control_size(old.size) {
+            titled_damage(old, new, &round_button_look(old), &round_button_look(new))
+        } else {
+            Rect::plane()
+        }
     }
 
     fn hit(&self, kept: &KeptControl, point: Point) -> Option<ControlPart> {
@@ -114,7 +93,6 @@ impl ControlLook for RoundButtonLook {
     }
 
     fn draw(&self, kept: &KeptControl, canvas: &mut Canvas<'_>) {
-        let look = round_button_look(kept.size, kept.highlight);
-        draw_look(canvas, &look, kept.title.as_slice());
+        draw_look(canvas, &round_button_look(kept), kept.title.as_slice());
     }
 }

@@ -4,9 +4,10 @@ ghost use Rattle.std_cdef.specs.Controls.{scroll_damaged, scroll_part, scroll_se
 ghost use Rattle.std_cdef.specs.Told.{fresh_scroll};
 
 use crate::control::{ControlLook, StdControl};
-use crate::scroll_bar::{scroll_damage, scroll_hit, scroll_look};
+use crate::rects::is_control_size;
+use crate::scroll_bar::{scroll_hit, scroll_look};
 use crate::thumb::thumb_value;
-use crate::titles::same_title;
+use crate::titles::titled_damage;
 use control_values::ControlPart;
 use def_iface::{ControlDef, KeptControl, Stage};
 use draw_port::Canvas;
@@ -44,7 +45,11 @@ impl ControlLook for ScrollLook {
     ghost damaged = { λ _. scroll_damaged };
 
     fn damage(&self, old: &KeptControl, new: &KeptControl) -> Rect {
-        scroll_damage(old, new, same_title(old, new))
+        if is_control_size(old.size) {
+            titled_damage(old, new, &scroll_look(old), &scroll_look(new))
+        } else {
+            Rect::plane()
+        }
     }
 
     fn hit(&self, kept: &KeptControl, point: Point) -> Option<ControlPart> {
@@ -56,7 +61,6 @@ impl ControlLook for ScrollLook {
     }
 
     fn draw(&self, kept: &KeptControl, canvas: &mut Canvas<'_>) {
-        let look = scroll_look(kept.size, kept.values, kept.highlight);
-        draw_look(canvas, &look, kept.title.as_slice());
+        draw_look(canvas, &scroll_look(kept), kept.title.as_slice());
     }
 }
