@@ -30,5 +30,7 @@ pub mod Stays
 pub mod Selected
 pub mod Clicks
 pub mod Performed
+pub mod Distinct
+pub mod TextsKept
 pub mod NewSteps
 pub mod ToldSteps

@@ -58,7 +58,7 @@ not_false true e = refl
 not_false false e = absurd (false≢true (sym e))
 
 -- a window that is not missing
-there_window : (o : Option WindowRecord) → is_none o ≡ false → (w : WindowRecord) × (o ≡ Some w)
+pub there_window : (o : Option WindowRecord) → is_none o ≡ false → (w : WindowRecord) × (o ≡ Some w)
 there_window None e = absurd (false≢true (sym e))
 there_window (Some w) e = (w, refl)
 
@@ -106,7 +106,7 @@ module _ (before after : TextDesk) (whole : AreWholeTexts before.desk.windows.de
     names : (item.item.window ≡ t.window) × (item.item.serial ≡ t.text)
     names = found_names t ts at found item.item item.there
 
-    window : (w : WindowRecord) × (record_with t.window ws ≡ Some w)
+    pub window : (w : WindowRecord) × (record_with t.window ws ≡ Some w)
     window = there_window (record_with t.window ws) (subst (λ n. is_missing n ws ≡ false) names.0 (All-there (λ (x : KeptText). is_missing x.window ws ≡ false) at ts item.item item.there whole.somewhere))
 
     joined : AreTextLayersOf (items_of t.window ts) window.0.layers
