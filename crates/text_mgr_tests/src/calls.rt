@@ -1,25 +1,15 @@
 //! The tests: calls in a row, and what they answer.
-ghost use Rattle.std.specs.Prelude.{◌≡◌, All, IfOk};
-ghost use Rattle.def_iface.specs.WindowSlots.{IsFull};
-ghost use Rattle.desk_call.specs.Gates.{text_standing};
-ghost use Rattle.text_mgr.specs.WholeTexts.{IsSelectable};
-
-use def_iface::{Size, Stocked, WindowDef, WindowStock};
+use crate::desk::{Desk, plain_stock};
+use def_iface::Size;
 use desk_call::{
-    Activity, ClickText, NewText, PlaceText, PointInText, ScrollText, SelectText, Standing,
-    TextBytes, TextCall, TextFlag, TextInfo, TextNumber, TextOf, TextPlace, TextReply,
+    ClickText, NewText, PlaceText, PointInText, ScrollText, SelectText, TextBytes, TextCall,
+    TextFlag, TextInfo, TextNumber, TextOf, TextPlace, TextReply,
 };
-use std::alloc::Global;
 use std::test::Fail;
-use std_wdef::{StdWindow, Variation};
-use strike_font::Font;
-use tb_geom::{BytesRef, Point, Refusal};
+use tb_geom::BytesRef;
 use test_pixels::point;
-use text_mgr::{DeskTexts, Texts};
-use window_list::{Ranks, WindowList};
-use window_mgr::{DeskWindows, NewWindow, WindowCall, WindowManager};
 
-/// The text record of these tests, the first one.
+/// The first text record of the window.
 const TEXT: TextOf = TextOf { window: 1, text: 1 };
 
 /// A destination of 61 columns, and a view of 62 columns and 40 rows.
@@ -34,107 +24,134 @@ const PLACE: TextPlace = TextPlace {
     },
 };
 
-/// A desk with one window, the text records, and what is open.
-#[derive(Drop)]
-struct Desk {
-    windows: WindowManager,
-    stock: WindowStock,
-    texts: Texts,
-    activity: Activity,
+/// A text record there, with lines that wrap.
+const NEW: TextCall<'static> = TextCall::New(NewText {
+    window: 1,
+    place: PLACE,
+    justification: 0,
+    wraps: true,
+});
+
+/// What is told of a text of so many bytes on so many lines that lies there, is shown and not active.
+fn told(start: u16, end: u16, length: u16, lines: u16) -> TextReply {
+    TextReply::Info(TextInfo {
+        start,
+        end,
+        active: false,
+        shown: true,
+        length,
+        lines,
+        left: 4,
+        top: 4,
+    })
 }
 
-/// A stock of one plain window.
-fn plain_stock(alloc: Global) -> Result<WindowStock, Refusal>
-    ensures { IfOk result (λ s. All IsFull (⟦<WindowStock as Stocked>⟧.slots s)) }
-{
-    let mut stock = WindowStock::new(alloc);
-    let window = Box::new(alloc, StdWindow::new(Variation::Plain))?;
-    let Ok(()) = stock.add(b"plain", window) else {
-        return Err(Refusal::NoMemory);
+fn set(bytes: &'static [u8]) -> TextCall<'static> {
+    TextCall::Set(TextBytes {
+        text: TEXT,
+        bytes: BytesRef::new(bytes),
+    })
+}
+
+fn number(number: i32) -> TextNumber {
+    TextNumber { text: TEXT, number }
+}
+
+fn click(h: i32, v: i32, mode: i32) -> TextCall<'static> {
+    TextCall::Click(ClickText {
+        text: TEXT,
+        point: point!(h, v),
+        mode,
+    })
+}
+
+#[test]
+fn the_font_is_measured(rt: HostRuntime) -> Result<(), Fail> {
+    let mut desk = Desk::new(rt.alloc(), plain_stock(rt.alloc())?)?;
+    assert!(rt; desk.says(&TextCall::FontInfo, TextReply::Font(7, 1, 2)));
+    assert!(rt; desk.says(&TextCall::Width(BytesRef::new(b"The quick")), TextReply::Width(54)));
+    assert!(rt; desk.says(&TextCall::SetScrap(BytesRef::new(b"fox")), TextReply::Done));
+    let TextReply::Bytes(scrap) = desk.answer(&TextCall::Scrap)? else {
+        return Ok(());
     };
-    Ok(stock)
+    assert!(rt; scrap.as_slice() == b"fox");
+    Ok(())
 }
 
-/// When a call may come.
-fn standing(call: &TextCall<'_>) -> Standing
-    ensures { result ≡ text_standing call.now }
-{
-    match call {
-        TextCall::Get(_)
-        | TextCall::Info(_)
-        | TextCall::Line(_)
-        | TextCall::PlaceOf(_)
-        | TextCall::OffsetAt(_)
-        | TextCall::Scrap
-        | TextCall::Width(_)
-        | TextCall::FontInfo => Standing::Asks,
-        TextCall::Step(_) | TextCall::End(_) => Standing::Selects,
-        _ => Standing::Changes,
-    }
+#[test]
+fn text_is_broken_into_lines(rt: HostRuntime) -> Result<(), Fail> {
+    let mut desk = Desk::new(rt.alloc(), plain_stock(rt.alloc())?)?;
+    assert!(rt; desk.says(&NEW, TextReply::Text(1)));
+    assert!(rt; desk.says(&set(b"The quick brown fox"), TextReply::Done));
+    assert!(rt; desk.says(&TextCall::Info(TEXT), told(19, 19, 19, 2)));
+    assert!(rt; desk.says(&TextCall::Line(number(1)), TextReply::Offsets(10, 19)));
+    assert!(rt; desk.says(&TextCall::PlaceOf(number(10)), TextReply::Place(point!(5, 24))));
+    let point = point!(30, 20);
+    let there = TextCall::OffsetAt(PointInText { text: TEXT, point });
+    assert!(rt; desk.says(&there, TextReply::Offset(14)));
+    Ok(())
 }
 
-impl Desk {
-    /// A desk with one window and no text record.
-    fn new(alloc: Global, stock: WindowStock) -> Result<Desk, Refusal>
-        requires { All IsFull (⟦<WindowStock as Stocked>⟧.slots stock) }
-        ensures whole { IfOk result (λ d. ⟦<WindowManager as DeskWindows>⟧.IsWhole d.windows d.stock) }
-        ensures beside { IfOk result (λ d. ⟦<Texts as DeskTexts>⟧.AreBeside d.windows d.texts) }
-        ensures selectable { IfOk result (λ d. IsSelectable d.activity d.texts.list.items.items) }
-    {
-        let mut stock = stock;
-        let list = WindowList::new(Ranks::new(alloc));
-        let font = Font::built_in(alloc)?;
-        let Ok(mut windows) = WindowManager::new(alloc, 128, 80, 0, font, list) else {
-            return Err(Refusal::NoMemory);
-        };
-        let _made = windows.perform(
-            &WindowCall::New(NewWindow {
-                kind: BytesRef::new(b"plain"),
-                place: point!(1, 1),
-                size: Size {
-                    width: 120,
-                    height: 70,
-                },
-                shown: true,
-                go_away: false,
-                title: BytesRef::new(b""),
-            }),
-            &mut stock,
-        )?;
-        Ok(Desk {
-            windows,
-            stock,
-            texts: Texts::new(alloc),
-            activity: Activity::Idle,
-        })
-    }
+#[test]
+fn the_mouse_selects(rt: HostRuntime) -> Result<(), Fail> {
+    let mut desk = Desk::new(rt.alloc(), plain_stock(rt.alloc())?)?;
+    assert!(rt; desk.says(&NEW, TextReply::Text(1)));
+    assert!(rt; desk.says(&set(b"The quick brown fox"), TextReply::Done));
+    assert!(rt; desk.says(&click(3, 8, 0), TextReply::Opened(false)));
+    assert!(rt; desk.says(&click(32, 8, 0), TextReply::Opened(true)));
+    assert!(rt; desk.says(&TextCall::Step(point!(60, 8)), TextReply::Offsets(5, 9)));
+    assert!(rt; desk.says(&TextCall::End(point!(5, 20)), TextReply::Offsets(5, 10)));
+    assert!(rt; desk.says(&click(40, 8, 2), TextReply::Opened(true)));
+    assert!(rt; desk.says(&TextCall::End(point!(5, 20)), TextReply::Offsets(4, 15)));
+    Ok(())
+}
 
-    /// What a call answers.
-    fn answer(&mut self, call: &TextCall<'_>) -> Result<TextReply, Refusal>
-        requires whole { ⟦<WindowManager as DeskWindows>⟧.IsWhole self.old.windows self.old.stock }
-        requires beside { ⟦<Texts as DeskTexts>⟧.AreBeside self.old.windows self.old.texts }
-        requires selectable { IsSelectable self.old.activity self.old.texts.list.items.items }
-        ensures whole { ⟦<WindowManager as DeskWindows>⟧.IsWhole self.new.windows self.new.stock }
-        ensures beside { ⟦<Texts as DeskTexts>⟧.AreBeside self.new.windows self.new.texts }
-        ensures selectable { IsSelectable self.new.activity self.new.texts.list.items.items }
-    {
-        self.activity.admit(standing(call))?;
-        self.texts
-            .perform(&mut self.windows, &mut self.activity, call)
-    }
+#[test]
+fn texts_are_edited(rt: HostRuntime) -> Result<(), Fail> {
+    let mut desk = Desk::new(rt.alloc(), plain_stock(rt.alloc())?)?;
+    assert!(rt; desk.says(&NEW, TextReply::Text(1)));
+    assert!(rt; desk.says(&set(b"brown fox"), TextReply::Done));
+    let first = SelectText {
+        text: TEXT,
+        start: 0,
+        end: 6,
+    };
+    assert!(rt; desk.says(&TextCall::Select(first), TextReply::Done));
+    assert!(rt; desk.says(&TextCall::Cut(TEXT), TextReply::Done));
+    assert!(rt; desk.says(&TextCall::Info(TEXT), told(0, 0, 3, 1)));
+    assert!(rt; desk.says(&TextCall::Paste(TEXT), TextReply::Done));
+    assert!(rt; desk.says(&TextCall::Key(number(33)), TextReply::Done));
+    assert!(rt; desk.says(&TextCall::Info(TEXT), told(7, 7, 10, 1)));
+    assert!(rt; desk.says(&TextCall::Copy(TEXT), TextReply::Done));
+    assert!(rt; desk.says(&TextCall::Delete(TEXT), TextReply::Done));
+    Ok(())
+}
 
-    /// Whether a call answers this.
-    fn says(&mut self, call: &TextCall<'_>, wanted: TextReply) -> bool
-        requires whole { ⟦<WindowManager as DeskWindows>⟧.IsWhole self.old.windows self.old.stock }
-        requires beside { ⟦<Texts as DeskTexts>⟧.AreBeside self.old.windows self.old.texts }
-        requires selectable { IsSelectable self.old.activity self.old.texts.list.items.items }
-        ensures whole { ⟦<WindowManager as DeskWindows>⟧.IsWhole self.new.windows self.new.stock }
-        ensures beside { ⟦<Texts as DeskTexts>⟧.AreBeside self.new.windows self.new.texts }
-        ensures selectable { IsSelectable self.new.activity self.new.texts.list.items.items }
-    {
-        match self.answer(call) {
-            Ok(answer) => answer == wanted,
-            Err(_) => false,
-        }
-    }
+#[test]
+fn texts_are_changed_and_ended(rt: HostRuntime) -> Result<(), Fail> {
+    let mut desk = Desk::new(rt.alloc(), plain_stock(rt.alloc())?)?;
+    assert!(rt; desk.says(&NEW, TextReply::Text(1)));
+    let flag = TextFlag {
+        text: TEXT,
+        flag: true,
+    };
+    assert!(rt; desk.says(&TextCall::Activate(flag), TextReply::Done));
+    assert!(rt; desk.says(&TextCall::Idle(number(32)), TextReply::Done));
+    assert!(rt; desk.says(&TextCall::Justify(number(1)), TextReply::Done));
+    let by = ScrollText {
+        text: TEXT,
+        columns: 2,
+        rows: -3,
+    };
+    assert!(rt; desk.says(&TextCall::Scroll(by), TextReply::Done));
+    assert!(rt; desk.says(&TextCall::ShowSelection(TEXT), TextReply::Done));
+    let place = PlaceText {
+        text: TEXT,
+        place: PLACE,
+    };
+    assert!(rt; desk.says(&TextCall::Place(place), TextReply::Done));
+    assert!(rt; desk.says(&TextCall::Hide(TEXT), TextReply::Done));
+    assert!(rt; desk.says(&TextCall::Show(TEXT), TextReply::Done));
+    assert!(rt; desk.says(&TextCall::Dispose(TEXT), TextReply::Done));
+    Ok(())
 }
