@@ -145,12 +145,12 @@ module _ {V : Type 0} {H : V → Type 0} (loan : TakenBox V H → WindowLoan) (k
   pub step_outside : in_plane p ≡ false → (o : Opened) → LeavesTexts loan (IsWhereRight (IsTextStep (asks.Step p) (Err OutOfRange))) t o m t o m
   step_outside e o =
       where_right loan (IsTextStep (asks.Step p) (Err OutOfRange)) t t m m o o
-      (refused_by loan (asks.Step p) (Err OutOfRange) OutOfRange t o m refl (λ others slots i. first_refusal ((not (e i), OutOfRange) ∷ [])))
+      (refused_by loan (asks.Step p) (Err OutOfRange) OutOfRange t o m refl (λ others slots. (λ i. first_refusal ((not (e i), OutOfRange) ∷ []))))
 
   pub end_outside : in_plane p ≡ false → (o : Opened) → LeavesTexts loan (IsWhereRight (IsTextStep (asks.End p) (Err OutOfRange))) t o m t o m
   end_outside e o =
       where_right loan (IsTextStep (asks.End p) (Err OutOfRange)) t t m m o o
-      (refused_by loan (asks.End p) (Err OutOfRange) OutOfRange t o m refl (λ others slots i. first_refusal ((not (e i), OutOfRange) ∷ [])))
+      (refused_by loan (asks.End p) (Err OutOfRange) OutOfRange t o m refl (λ others slots. (λ i. first_refusal ((not (e i), OutOfRange) ∷ []))))
 
   module _ (s : TextAt) (is : IsSpotOf loan k.text t m s) (inside : in_plane p ≡ true) (u : WindowManager V H) (n : Texts) (put : (o r : Opened) → LeavesTexts loan (IsPut k.text (extended_to k.anchor k.mode p)) t o m u r n)
       (answer : TextReply) (told_is : answer ≡ offsets_of (extended k.anchor k.mode p (record_there loan k.text t m s is).item.kept)) (begun : PixelSet) where

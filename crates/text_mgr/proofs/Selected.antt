@@ -119,17 +119,15 @@ module _ {V : Type 0} {H : V → Type 0} (loan : TakenBox V H → WindowLoan) (k
   pub not_missing : AreBeside loan t m → first_refusal (missing_refusals k.text (desk_of loan t []) m.list.items.items) ≡ None
   not_missing beside = by_index (index_of k.text m.list.items.items) refl selectable.1
     where
-      abbrev ts : List KeptText
-      ts = m.list.items.items
-
-      by_index : (o : Option ℕ) → index_of k.text ts ≡ o → option_and_then (slice_get ts) o ≡ Some selectable.0 → first_refusal (missing_refusals k.text (desk_of loan t []) ts) ≡ None
+      by_index : (o : Option ℕ) → index_of k.text m.list.items.items ≡ o → option_and_then (slice_get m.list.items.items) o ≡ Some selectable.0
+          → first_refusal (missing_refusals k.text (desk_of loan t []) m.list.items.items) ≡ None
       by_index None e h = absurd (cc)
       by_index (Some at) e h =
-          let names = found_names k.text ts at e selectable.0 h in
+          let names = found_names k.text m.list.items.items at e selectable.0 h in
           let there : is_missing k.text.window (desk_of loan t []).windows ≡ false =
-          subst (λ w. is_missing w (desk_of loan t []).windows ≡ false) names.0 (All-there (λ (z : KeptText). is_missing z.window (desk_of loan t []).windows ≡ false) at ts selectable.0 h beside.somewhere) in
-          first_fails (is_missing k.text.window (desk_of loan t []).windows) NoSuchWindow ((is_none (index_of k.text ts), NoSuchText) ∷ []) there
-          ∙ one_fails (is_none (index_of k.text ts)) NoSuchText (ap is_none e)
+          subst (λ w. is_missing w (desk_of loan t []).windows ≡ false) names.0 (All-there (λ (z : KeptText). is_missing z.window (desk_of loan t []).windows ≡ false) at m.list.items.items selectable.0 h beside.somewhere) in
+          first_fails (is_missing k.text.window (desk_of loan t []).windows) NoSuchWindow ((is_none (index_of k.text m.list.items.items), NoSuchText) ∷ []) there
+          ∙ one_fails (is_none (index_of k.text m.list.items.items)) NoSuchText (ap is_none e)
 
   -- and has the anchor
   pub within_open : (s : TextAt) (is : IsSpotOf loan k.text t m s) → IfSome (slice_get m.list.items.items s.text) (λ z. k.anchor.end ≤ length z.kept.text.bytes)

@@ -45,7 +45,7 @@ use Rattle.text_mgr.specs.WholeTexts.{AreWholeTexts}
 use Rattle.text_mgr.proofs.Distinct.{last_apart, none_new, shaped_apart, without_apart}
 use Rattle.text_mgr.proofs.SerialsStay.{stay_anew, stay_changed, stay_pushed, stay_removed}
 use Rattle.text_mgr.proofs.TextBits.{StayTexts, same_own}
-use Rattle.text_mgr.proofs.TextsWhole.{there_window, window}
+use Rattle.text_mgr.proofs.TextsWhole.{there_window, window_at}
 use Rattle.text_mgr.proofs.Whole.{AreJoined}
 
 -- ---- what any call leaves of what is shown
@@ -79,7 +79,7 @@ module _ (before after : TextDesk) (was : AreWholeTexts before.desk.windows.desk
     afresh = Some (part.Text t.text);
     laid = done.laid;
     stay = stay_changed t f before.texts.scrap before after was.apart apart_now done.changed;
-    there = window before after was t done.changed.at done.changed.found;
+    there = window_at before after was t done.changed.at done.changed.found;
     apart = shaped_apart (part.Text t.text) done.shape _;
   }))
 
@@ -136,7 +136,7 @@ module _ (before after : TextDesk) (was : AreWholeTexts before.desk.windows.desk
     afresh = None;
     laid = gone.laid;
     stay = stay_removed (is_part_afresh t.window None) before.texts.texts after.texts.texts gone.at was.apart (ap (λ (s : TextsState). s.texts) gone.texts);
-    there = window before after was t gone.at gone.found;
+    there = window_at before after was t gone.at gone.found;
     apart = without_apart (part.Text t.text) _;
   }))
   effect_leaves (call.Show t) answer none (is, done) = laid_leaves t _ done

@@ -69,7 +69,12 @@ fn click(h: i32, v: i32, mode: i32) -> TextCall<'static> {
 fn the_font_is_measured(rt: HostRuntime) -> Result<(), Fail> {
     let mut desk = Desk::new(rt.alloc(), plain_stock(rt.alloc())?)?;
     assert!(rt; desk.says(&TextCall::FontInfo, TextReply::Font(7, 1, 2)));
-    assert!(rt; desk.says(&TextCall::Width(BytesRef::new(b"The quick")), TextReply::Width(54)));
+    assert!(rt;
+        desk.says(
+            &TextCall::Width(BytesRef::new(b"The quick")),
+            TextReply::Width(54)
+        )
+    );
     assert!(rt; desk.says(&TextCall::SetScrap(BytesRef::new(b"fox")), TextReply::Done));
     let TextReply::Bytes(scrap) = desk.answer(&TextCall::Scrap)? else {
         return Ok(());
@@ -85,7 +90,12 @@ fn text_is_broken_into_lines(rt: HostRuntime) -> Result<(), Fail> {
     assert!(rt; desk.says(&set(b"The quick brown fox"), TextReply::Done));
     assert!(rt; desk.says(&TextCall::Info(TEXT), told(19, 19, 19, 2)));
     assert!(rt; desk.says(&TextCall::Line(number(1)), TextReply::Offsets(10, 19)));
-    assert!(rt; desk.says(&TextCall::PlaceOf(number(10)), TextReply::Place(point!(5, 24))));
+    assert!(rt;
+        desk.says(
+            &TextCall::PlaceOf(number(10)),
+            TextReply::Place(point!(5, 24))
+        )
+    );
     let point = point!(30, 20);
     let there = TextCall::OffsetAt(PointInText { text: TEXT, point });
     assert!(rt; desk.says(&there, TextReply::Offset(14)));
