@@ -5,7 +5,7 @@ use Rattle.tb_geom.specs.Points.{PixelSet}
 use Rattle.def_iface.specs.Slots.{TakenBox}
 use Rattle.def_iface.specs.WindowMeaning.{WindowLoan}
 use Rattle.desk_call.specs.declared.activity.Activity.{Activity}
-use Rattle.desk_call.specs.declared.activity.Activity.TheVariants as open
+use Rattle.desk_call.specs.declared.activity.Activity.TheVariants as activity
 use Rattle.desk_call.specs.declared.activity.Standing.TheVariants.{Changes}
 use Rattle.desk_call.specs.declared.text.TextCall.{TextCall}
 use Rattle.desk_call.specs.declared.text.TextCall.TheVariants as call
@@ -43,21 +43,21 @@ module _ {V : Type 0} {H : V → Type 0} (loan : TakenBox V H → WindowLoan) wh
 -- ---- what is open
 
 -- nothing is open where what changes may come
-pub idle : (a : Activity) → gate a Changes ≡ None → a ≡ open.Idle
-idle open.Idle e = refl
-idle (open.Updating s) e = absurd (cc)
-idle (open.Tracking s) e = absurd (cc)
-idle (open.Pulling m) e = absurd (cc)
-idle (open.TrackingControl k) e = absurd (cc)
-idle (open.Dragging d) e = absurd (cc)
-idle (open.Growing g) e = absurd (cc)
-idle (open.Selecting k) e = absurd (cc)
+pub idle : (a : Activity) → gate a Changes ≡ None → a ≡ activity.Idle
+idle activity.Idle e = refl
+idle (activity.Updating s) e = absurd (cc)
+idle (activity.Tracking s) e = absurd (cc)
+idle (activity.Pulling m) e = absurd (cc)
+idle (activity.TrackingControl k) e = absurd (cc)
+idle (activity.Dragging d) e = absurd (cc)
+idle (activity.Growing g) e = absurd (cc)
+idle (activity.Selecting k) e = absurd (cc)
 
-pub idle_selectable : (a : Activity) (ts : List KeptText) → a ≡ open.Idle → IsSelectable a ts
+pub idle_selectable : (a : Activity) (ts : List KeptText) → a ≡ activity.Idle → IsSelectable a ts
 idle_selectable a ts e = subst (λ b. IsSelectable b ts) (sym e) tt
 
 -- nor where a call may come that edits
-pub edits_idle : (c : TextCall) (t : TextOf) (a : Activity) → text_edited c ≡ Some t → gate a (text_standing c) ≡ None → a ≡ open.Idle
+pub edits_idle : (c : TextCall) (t : TextOf) (a : Activity) → text_edited c ≡ Some t → gate a (text_standing c) ≡ None → a ≡ activity.Idle
 edits_idle (call.Set b) t a e g = idle a g
 edits_idle (call.Insert b) t a e g = idle a g
 edits_idle (call.Delete x) t a e g = idle a g
