@@ -20,9 +20,9 @@ ghost use Rattle.desk_toolbox.specs.ToolboxStates.{ToolboxState};
 
 use crate::events::Events;
 use crate::{
-    Call, Contents, ControlCall, ControlReply, Desk, EventCall, EventReply, Found, ListCall, ListReply,
-    PointInWindow, Reply, TextCall, TextReply, Toolbox, UpdateCall, WindowCall, WindowPart,
-    WindowReply,
+    Call, Contents, ControlCall, ControlReply, Desk, EventCall, EventReply, Found, ListCall,
+    ListReply, PointInWindow, Reply, TextCall, TextReply, Toolbox, UpdateCall, WindowCall,
+    WindowPart, WindowReply,
 };
 use control_mgr::{Controls, ControlsOnStock};
 use def_iface::{ControlStock, ListStock, Stock, Stocked, StockedAll, TakenControl, TakenList};

@@ -1,7 +1,8 @@
 //! The lines of a call that was done, of a number, and of bytes.
 ghost use Rattle.std.specs.Prelude.{◌≡◌, false};
 ghost use Rattle.std.specs.List.{list_all};
-ghost use Rattle.line_words.specs.Replies.{bytes_text, done_text, flag_number, flag_text, is_text_byte, number_text, quoted_text};
+ghost use Rattle.line_words.specs.Replies.{bytes_text, done_text, flag_number, flag_text, number_text};
+ghost use Rattle.line_words.specs.Replies.{is_text_byte, quoted_text};
 ghost use Rattle.watched_io.specs.Writes.{Sends};
 
 use crate::write_region;
@@ -53,9 +54,7 @@ fn write_quoted<S: Sink>(sink: &mut S, bytes: &[u8]) -> Result<(), Refusal>
 fn are_text_bytes(bytes: &[u8]) -> bool
     ensures { result ≡ list_all is_text_byte bytes.now }
 {
-    bytes
-        .iter()
-        .all(|b| b' ' <= *b && *b <= b'~' && *b != b'"')
+    bytes.iter().all(|b| b' ' <= *b && *b <= b'~' && *b != b'"')
 }
 
 /// A flag as a line has it.

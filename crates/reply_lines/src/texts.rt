@@ -97,12 +97,7 @@ fn write_place<S: Sink>(sink: &mut S, place: Point) -> Result<(), Refusal>
 }
 
 /// Writes the line of the height of a font.
-fn write_font<S: Sink>(
-    sink: &mut S,
-    ascent: u16,
-    descent: u16,
-    leading: u16,
-) -> Result<(), Refusal>
+fn write_font<S: Sink>(sink: &mut S, ascent: u16, descent: u16, leading: u16) -> Result<(), Refusal>
     requires { (S.output sink.old).has_failed ≡ false }
     ensures { Sends (S.output sink.old) (S.output sink.new) result (font_text ascent descent leading) }
 {

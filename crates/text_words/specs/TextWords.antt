@@ -20,13 +20,16 @@ record_at rest =
 abbrev pub place_at : Option (List ℕ) → Field TextPlace
 place_at rest =
     number_at rest >>= λ left. number_at left.1 >>= λ top. number_at top.1 >>= λ width. point_at width.1 >>= λ view.
-    number_at view.1 >>= λ wide. number_at wide.1 >>= λ high. Ok (record {
-      left = left.0;
-      top = top.0;
-      width = width.0;
-      view = view.0;
-      view_size = record { width = wide.0; height = high.0 };
-    }, high.1)
+    number_at view.1 >>= λ wide. number_at wide.1 >>= λ high. Ok (
+      record {
+        left = left.0;
+        top = top.0;
+        width = width.0;
+        view = view.0;
+        view_size = record { width = wide.0; height = high.0 };
+      },
+      high.1,
+    )
 
 -- W X
 abbrev pub of_record : {A : Type 0} → (TextOf → Shape A) → Shape A
