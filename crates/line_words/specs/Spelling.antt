@@ -14,5 +14,5 @@ IsSpelled (number next) rest r = (word : List ℕ) × (more : Option (List ℕ))
 IsSpelled (flag next) rest r = (word : List ℕ) × (more : Option (List ℕ)) × (b : Bool) × (rest ≡ Some (word ++ follows more)) × IsFlag word b × IsSpelled (next b) more r
 IsSpelled (name next) rest r = (word : List ℕ) × (more : Option (List ℕ)) × (rest ≡ Some (word ++ follows more)) × IsName word × IsSpelled (next word) more r
 IsSpelled (text next) rest r = (t : List ℕ) × (more : Option (List ℕ)) × (rest ≡ Some (34 ∷ (t ++ 34 ∷ follows more))) × IsPlainText t × IsSpelled (next t) more r
-IsSpelled (hex next) rest r = (word : List ℕ) × (more : Option (List ℕ)) × (bytes : List ℕ) × (rest ≡ Some (word ++ follows more)) × IsHex word bytes × IsSpelled (next bytes) more r
+IsSpelled (hex next) rest r = (word : List ℕ) × (more : Option (List ℕ)) × (said : List ℕ) × (rest ≡ Some (word ++ follows more)) × IsHex word said × IsSpelled (next said) more r
 IsSpelled (bytes next) rest r = (word : List ℕ) × (more : Option (List ℕ)) × (said : List ℕ) × (rest ≡ Some (word ++ follows more)) × IsBytes word said × IsSpelled (next said) more r
