@@ -14,10 +14,10 @@ use tb_geom::{BytesRef, Point};
 /// that the list owns is to be redrawn.
 #[derive(Drop)]
 pub enum ListCall<'a> {
-    /// Makes a list of a window, with drawing on (LNew). It lies behind the controls and the lists that the window has already,
-    /// and all that it and its scroll bars then own is drawn. OutOfRange where a number of it is out of its range, TooMany where
-    /// it would have more than 4096 cells, or the window has 8 lists, or too many controls with its bars; NoDefinition where the
-    /// stock has no definition of its kind left, or none for a bar.
+    /// Makes a list of a window, with drawing on (LNew). It lies behind the controls, the lists and the text records that the
+    /// window has already, and all that it and its scroll bars then own is drawn. OutOfRange where a number of it is out of its
+    /// range, TooMany where it would have more than 4096 cells, or the window has 8 lists, or too many controls with its bars;
+    /// NoDefinition where the stock has no definition of its kind left, or none for a bar.
     New(NewList<'a>),
     /// Ends a list and the scroll bars that it has still: their definitions are disposed of, and go back Closed into their slots
     /// (LDispose).

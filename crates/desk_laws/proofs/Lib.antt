@@ -31,6 +31,7 @@ pub mod WindowChanges
 pub mod ManagerChanges
 pub mod ListChanges
 pub mod MadeLists
+pub mod ShownKinds
 pub mod GoneParts
 pub mod GoneLists
 pub mod HiddenControls

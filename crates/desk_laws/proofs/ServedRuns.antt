@@ -13,6 +13,7 @@ use Rattle.desk_call.specs.declared.call.Call.TheVariants as calls
 use Rattle.desk_call.specs.declared.call.Reply.{Reply}
 use Rattle.desk_call.specs.declared.call.Reply.TheVariants as reply
 use Rattle.desk_call.specs.declared.update.LayerKind.{LayerKind}
+use Rattle.desk_call.specs.declared.update.LayerKind.TheVariants.{Picture}
 use Rattle.desk_call.specs.declared.update.UpdateCall.{UpdateCall}
 use Rattle.desk_call.specs.declared.update.UpdateCall.TheVariants as update
 use Rattle.desk_call.specs.declared.window.WindowCall.{WindowCall}
@@ -110,39 +111,51 @@ module _ (s : ℕ) where
   drawn_before (calls.Outline call) answer kinds kind here = here
   drawn_before (Event call) answer kinds kind here = here
 
-  -- of the windows no more changed than that all layers were drawn
+  drawn_or_later : (call : Call) (answer : Result Reply Refusal) (kinds : List LayerKind) (kind : LayerKind) (cs : List Call) (answers : List (Result Reply Refusal))
+      → IsAmong kind kinds ⊎ IsDrawnIn s kind (call ∷ cs) (answer ∷ answers) → IsAmong kind (with_drawn call answer kinds) ⊎ IsDrawnIn s kind cs answers
+  drawn_or_later call answer kinds kind cs answers some =
+      ⊎_elim (λ here. inl (drawn_before call answer kinds kind here)) (λ later. ⊎_elim (λ (is, did). inl (drawn_now call answer kinds kind is did)) (λ more. inr more) later) some
+
+  -- of the windows no more changed than that layers were drawn, those that had been before, and those that these calls draw
   drawn_meanwhile : (start : FullState) (kinds : List LayerKind) (first last : ToolboxState) (cs : List Call) (answers : List (Result Reply Refusal)) → IsConsistent first → IsNotEnded s cs → first.desk.activity ≡ Updating s
-      → ((kind : LayerKind) → IsAmong kind kinds ⊎ IsDrawnIn s kind cs answers) → AreDrawnSince s kinds start first.desk.windows → IsRunOfCalls first cs answers last
-      → (all : List LayerKind) × ((kind : LayerKind) → IsAmong kind all) × AreDrawnSince s all start last.desk.windows
-  drawn_meanwhile start kinds first last [] [] was rests opened some drawn run =
-      (kinds, (λ kind. ⊎_elim (λ here. here) (λ wrong. absurd wrong) (some kind)), subst (λ (x : ToolboxState). AreDrawnSince s kinds start x.desk.windows) (sym run) drawn)
-  drawn_meanwhile start kinds first last [] (answer ∷ answers) was rests opened some drawn run = absurd run
-  drawn_meanwhile start kinds first last (call ∷ cs) [] was rests opened some drawn run = absurd run
-  drawn_meanwhile start kinds first last (call ∷ cs) (answer ∷ answers) was rests opened some drawn (next, step, run) =
+      → AreDrawnSince s kinds start first.desk.windows → IsRunOfCalls first cs answers last
+      → (all : List LayerKind) × ((kind : LayerKind) → IsAmong kind kinds ⊎ IsDrawnIn s kind cs answers → IsAmong kind all) × AreDrawnSince s all start last.desk.windows
+  drawn_meanwhile start kinds first last [] [] was rests opened drawn run =
+      (kinds, (λ kind some. ⊎_elim (λ here. here) (λ wrong. absurd wrong) some), subst (λ (x : ToolboxState). AreDrawnSince s kinds start x.desk.windows) (sym run) drawn)
+  drawn_meanwhile start kinds first last [] (answer ∷ answers) was rests opened drawn run = absurd run
+  drawn_meanwhile start kinds first last (call ∷ cs) [] was rests opened drawn run = absurd run
+  drawn_meanwhile start kinds first last (call ∷ cs) (answer ∷ answers) was rests opened drawn (next, step, run) =
       let goes = step_goes_on s call answer first next step opened (All-head (λ c. c ≢ Update (update.End s)) call cs rests) in
-      drawn_meanwhile start (with_drawn call answer kinds) next last cs answers (step_keeps_consistent call answer first next was step)
-      (All-tail (λ c. c ≢ Update (update.End s)) call cs rests) goes.activity
-      (λ kind. ⊎_elim (λ here. inl (drawn_before call answer kinds kind here)) (λ later. ⊎_elim (λ (is, did). inl (drawn_now call answer kinds kind is did)) (λ more. inr more) later) (some kind))
-      (goes.drawn was.contents.shown kinds start drawn) run
+      let more = drawn_meanwhile start (with_drawn call answer kinds) next last cs answers (step_keeps_consistent call answer first next was step)
+      (All-tail (λ c. c ≢ Update (update.End s)) call cs rests) goes.activity (goes.drawn was.contents.shown kinds start drawn) run in
+      (more.0, (λ kind some. more.1 kind (drawn_or_later call answer kinds kind cs answers some)), more.2)
 
 -- ---- an update that was served
 
-pub drawn_update_is_served : (window : ℕ) (first last : ToolboxState) (cs : List Call) (answers : List (Result Reply Refusal)) → IsConsistent first → IsNotEnded window cs → IsAllDrawn window cs answers
+pub drawn_update_is_served : (window : ℕ) (first last : ToolboxState) (cs : List Call) (answers : List (Result Reply Refusal)) → IsConsistent first → IsNotEnded window cs → IsAllDrawn window first.desk.windows cs answers
     → IsRunOfCalls first (begun_until window cs (Update (update.End window))) (answered_until answers done) last → IsUpdateStep (update.Serve window) (Ok Done) first.desk last.desk
 drawn_update_is_served window first last cs answers was rests all (begun, begin, run) =
     let opening = update_made (update.Begin window) Done first begun begin in
     let split = split_run begun last cs answers (Update (update.End window)) done run in
     let opened = opening.step.1.1 in
-    let meanwhile = drawn_meanwhile window first.desk.windows [] begun split.0 cs answers (step_keeps_consistent (Update (update.Begin window)) done first begun was begin) rests opened.opened
-    (λ kind. inr (all kind)) opened.windows split.1 in
-    let ending = (update_made (update.End window) Done split.0 last split.2).step.1.1 in
-    (opening.step.0, (refl, (ending.0, all_drawn window meanwhile.0 first.desk.windows last.desk.windows meanwhile.1 (drawn_stay window meanwhile.0 first.desk.windows split.0.desk.windows last.desk.windows meanwhile.2 ending.1))))
+    let meanwhile = drawn_meanwhile window first.desk.windows [] begun split.0 cs answers (step_keeps_consistent (Update (update.Begin window)) done first begun was begin) rests opened.opened opened.windows split.1 in
+    let ending = (update_made (update.End window) Done split.0 last split.2).step.1.1 in (
+      opening.step.0,
+      (
+        refl,
+        (
+          ending.0,
+          all_drawn window meanwhile.0 first.desk.windows last.desk.windows (meanwhile.1 Picture (inr all.picture))
+              (λ kind. ⊎_elim (λ some. inl (meanwhile.1 kind (inr some))) (λ none. inr none) (all.others kind)) (drawn_stay window meanwhile.0 first.desk.windows split.0.desk.windows last.desk.windows meanwhile.2 ending.1),
+        ),
+      ),
+    )
 
-pub drawn_update_leaves_nothing : (window : ℕ) (first last : ToolboxState) (cs : List Call) (answers : List (Result Reply Refusal)) → IsConsistent first → IsNotEnded window cs → IsAllDrawn window cs answers
+pub drawn_update_leaves_nothing : (window : ℕ) (first last : ToolboxState) (cs : List Call) (answers : List (Result Reply Refusal)) → IsConsistent first → IsNotEnded window cs → IsAllDrawn window first.desk.windows cs answers
     → IsRunOfCalls first (begun_until window cs (Update (update.End window))) (answered_until answers done) last → IsEmpty (update_of window last.desk.windows)
 drawn_update_leaves_nothing window first last cs answers was rests all run = served_has_nothing window first.desk last.desk (drawn_update_is_served window first last cs answers was rests all run)
 
-pub drawn_update_leaves_others : (window other : ℕ) (first last : ToolboxState) (cs : List Call) (answers : List (Result Reply Refusal)) → IsConsistent first → IsNotEnded window cs → IsAllDrawn window cs answers
+pub drawn_update_leaves_others : (window other : ℕ) (first last : ToolboxState) (cs : List Call) (answers : List (Result Reply Refusal)) → IsConsistent first → IsNotEnded window cs → IsAllDrawn window first.desk.windows cs answers
     → IsRunOfCalls first (begun_until window cs (Update (update.End window))) (answered_until answers done) last → other ≢ window → (p : Point) → update_of other last.desk.windows p ≡ update_of other first.desk.windows p
 drawn_update_leaves_others window other first last cs answers was rests all run = served_leaves_others window other first.desk last.desk (drawn_update_is_served window first last cs answers was rests all run)
 
@@ -166,7 +179,7 @@ all_done (c ∷ cs) first last (next, step, run) =
     let rest = all_done cs next last run in
     ((next.desk, made.step, rest.0), rest_kept first next last made.rest rest.1)
 
-pub drawn_in_order_is_served : (window : ℕ) (kinds : List LayerKind) (first last : ToolboxState) → AreAllKinds kinds → IsRunOfCalls first (map Update (update_drawing window kinds)) (map (λ c. done) (update_drawing window kinds)) last → IsStep (Update (update.Serve window)) done first last
+pub drawn_in_order_is_served : (window : ℕ) (kinds : List LayerKind) (first last : ToolboxState) → AreAllKinds window first.desk.windows kinds → IsRunOfCalls first (map Update (update_drawing window kinds)) (map (λ c. done) (update_drawing window kinds)) last → IsStep (Update (update.Serve window)) done first last
 drawn_in_order_is_served window kinds first last all run =
     let every = all_done (update_drawing window kinds) first last run in
     made_is_step (update.Serve window) first last (update_made (update.Begin window) Done first run.0 run.1).may

@@ -6,9 +6,11 @@ use Rattle.desk_call.specs.declared.call.Call.TheVariants.{Update}
 use Rattle.desk_call.specs.declared.call.Reply.{Reply}
 use Rattle.desk_call.specs.declared.call.Reply.TheVariants as reply
 use Rattle.desk_call.specs.declared.update.LayerKind.{LayerKind}
+use Rattle.desk_call.specs.declared.update.LayerKind.TheVariants.{Picture}
 use Rattle.desk_call.specs.declared.update.UpdateCall.TheVariants.{Begin, End}
 use Rattle.desk_call.specs.declared.window.WindowReply.TheVariants.{Done}
-use Rattle.window_update.specs.Served.{drawing}
+use Rattle.window_mgr.specs.FullDesk.{FullState}
+use Rattle.window_update.specs.Served.{ShowsNone, drawing}
 
 -- what a call answers that is done, and has nothing to tell
 abbrev pub done : Result Reply Refusal
@@ -31,6 +33,8 @@ IsDrawnIn window kind (call ∷ calls) (answer ∷ answers) =
     ((call ≡ Update (drawing window kind)) × (answer ≡ done)) ⊎ IsDrawnIn window kind calls answers
 IsDrawnIn window kind _ _ = ⊥
 
--- they drew its picture, its text records, its lists and its controls, in whichever order, each once or more
-abbrev pub IsAllDrawn : ℕ → List Call → List (Result Reply Refusal) → Type 0
-IsAllDrawn window calls answers = (kind : LayerKind) → IsDrawnIn window kind calls answers
+-- they drew its picture, and its text records, its lists and its controls, but for those of which it showed none before; in
+-- whichever order, each once or more
+pub record IsAllDrawn (window : ℕ) (before : FullState) (calls : List Call) (answers : List (Result Reply Refusal)) : Type 0 where
+  pub picture : IsDrawnIn window Picture calls answers
+  pub others : (kind : LayerKind) → IsDrawnIn window kind calls answers ⊎ ShowsNone window kind before

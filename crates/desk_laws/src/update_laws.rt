@@ -8,6 +8,7 @@ ghost use Rattle.desk_call.specs.declared.call.Call.TheVariants.{Update, Window}
 ghost use Rattle.desk_call.specs.declared.call.Reply.{Reply};
 ghost use Rattle.desk_call.specs.declared.call.Reply.TheVariants as reply;
 ghost use Rattle.desk_call.specs.declared.update.LayerKind.{LayerKind};
+ghost use Rattle.desk_call.specs.declared.update.LayerKind.TheVariants.{Texts};
 ghost use Rattle.desk_call.specs.declared.update.UpdateCall.TheVariants.{End, Serve};
 ghost use Rattle.desk_call.specs.declared.window.WindowCall.TheVariants.{UpdateRegion, VisibleRegion};
 ghost use Rattle.desk_call.specs.declared.window.WindowReply.{WindowReply};
@@ -15,7 +16,7 @@ ghost use Rattle.desk_call.specs.declared.window.WindowReply.TheVariants.{Done};
 ghost use Rattle.window_mgr.specs.DeskStates.{is_updating};
 ghost use Rattle.window_mgr.specs.FullDesk.{FullState, IsRightState, layered_desk};
 ghost use Rattle.window_mgr.specs.Telling.{IsRegionTold, update_of, visible_of};
-ghost use Rattle.window_update.specs.Served.{AreAllKinds, update_drawing};
+ghost use Rattle.window_update.specs.Served.{AreAllKinds, ShowsNone, update_drawing};
 ghost use Rattle.window_update.specs.UpdateSteps.{IsUpdateStep};
 ghost use Rattle.window_update.specs.Waiting.{IsEmpty};
 ghost use Rattle.desk_laws.specs.OpenUpdates.{IsAllDrawn, IsNotEnded, answered_until, begun_until, done};
@@ -26,29 +27,37 @@ ghost use Rattle.desk_toolbox.specs.ToolboxStates.{ToolboxState};
 
 /// A window's update is served where it was begun, its picture, its text records, its lists and its controls were drawn, in
 /// whichever order and whatever else was called meanwhile, and it was ended: its update region is empty then, and those of the
-/// other windows are as they were at the begin.
+/// other windows are as they were at the begin. Text records, lists or controls of which it showed none need no draw.
 #[tactic(auto, using(crate::proofs::ServedRuns::drawn_update_is_served, crate::proofs::ServedRuns::drawn_update_leaves_nothing, crate::proofs::ServedRuns::drawn_update_leaves_others))]
 pub fn an_update_whose_layers_were_drawn_is_served()
     ensures served { (window : ℕ) (first last : ToolboxState) (calls : List Call)
         (answers : List (Result Reply Refusal))
-        → IsConsistent first → IsNotEnded window calls → IsAllDrawn window calls answers
+        → IsConsistent first → IsNotEnded window calls → IsAllDrawn window first.desk.windows calls answers
         → IsRunOfCalls first (begun_until window calls (Update (End window))) (answered_until answers done) last
         → IsUpdateStep (Serve window) (Ok Done) first.desk last.desk }
     ensures empty { (window : ℕ) (first last : ToolboxState) (calls : List Call) (answers : List (Result Reply Refusal))
-        → IsConsistent first → IsNotEnded window calls → IsAllDrawn window calls answers
+        → IsConsistent first → IsNotEnded window calls → IsAllDrawn window first.desk.windows calls answers
         → IsRunOfCalls first (begun_until window calls (Update (End window))) (answered_until answers done) last
         → IsEmpty (update_of window last.desk.windows) }
     ensures others { (window other : ℕ) (first last : ToolboxState) (calls : List Call)
         (answers : List (Result Reply Refusal))
-        → IsConsistent first → IsNotEnded window calls → IsAllDrawn window calls answers
+        → IsConsistent first → IsNotEnded window calls → IsAllDrawn window first.desk.windows calls answers
         → IsRunOfCalls first (begun_until window calls (Update (End window))) (answered_until answers done) last
         → other ≢ window → (p : Point) → update_of other last.desk.windows p ≡ update_of other first.desk.windows p }
+{}
+
+/// In a state that a run reaches no window shows text records, since no call makes one: there an update is served where its
+/// picture, its lists and its controls were drawn.
+#[tactic(auto, using(crate::proofs::ShownKinds::shows_no_texts))]
+pub fn no_window_shows_text_records()
+    ensures { (window : ℕ) (state : ToolboxState) → IsConsistent state → ShowsNone window Texts state.desk.windows }
 {}
 
 /// Where no other call came between, the Toolbox is left as serving the update at once leaves it.
 #[tactic(auto, using(crate::proofs::ServedRuns::drawn_in_order_is_served))]
 pub fn an_update_drawn_in_any_order_is_served()
-    ensures { (window : ℕ) (kinds : List LayerKind) (first last : ToolboxState) → AreAllKinds kinds
+    ensures { (window : ℕ) (kinds : List LayerKind) (first last : ToolboxState)
+        → AreAllKinds window first.desk.windows kinds
         → IsRunOfCalls first (map Update (update_drawing window kinds))
         (map (λ call. done) (update_drawing window kinds)) last
         → IsStep (Update (Serve window)) done first last }

@@ -13,7 +13,7 @@ use Rattle.shape_strips.specs.Lines.{line_holds, pen_fits}
 use Rattle.shape_strips.proofs.BandLemmas.{passes_above, passes_left}
 use Rattle.shape_strips.proofs.RangeLemmas.{coordinate_from, coordinate_high, coordinate_low}
 use Rattle.shape_region.specs.Polygons.{are_in_plane, frame_polygon_holds, odd_edges, polygon_holds, some_line}
-use Rattle.shape_region.proofs.PolygonLemmas.{polygon_up_to}
+use Rattle.shape_region.proofs.PolygonLemmas.{none_past}
 
 -- a pixel that lies out of range, and not past the last column, is passed by no edge
 passes_away : (a b p : Point) → in_plane a ≡ true → in_plane b ≡ true → in_plane p ≡ false → p.h <ℤ pos 16383 → passes a b p ≡ false
@@ -49,14 +49,7 @@ polygon_away (x ∷ xs) p all out =
     let parts = and_parts (in_plane x) (list_all in_plane xs) all in
     by_lt_z p.h (pos 16383)
     (λ short. edges_away x xs x p parts.0 parts.1 parts.0 out short)
-    (λ past. sym (polygon_up_to x xs p parts.0 parts.1) ∙ none (odd_edges x xs x p) (int_lt p.h (pos 16383)) (beyond p.h past))
-  where
-    beyond : (h : ℤ) → pos 16383 ≤ℤ h → int_lt h (pos 16383) ≡ false
-    beyond h l = grind (arith, ints)
-
-    none : (a b : Bool) → b ≡ false → (a && b) ≡ false
-    none true b e = e
-    none false b e = refl
+    (λ past. none_past x xs p parts.0 parts.1 past)
 
 -- lines that have no pixel out of range
 module _ (pen : Pen) (p : Point) (away : (a b : Point) → pen_fits pen a ≡ true → pen_fits pen b ≡ true → line_holds a b pen p ≡ false) where

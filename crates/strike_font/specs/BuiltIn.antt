@@ -48,8 +48,7 @@ table_bit c (negsuc k) r = false
 table_bit c (pos k) (negsuc r) = false
 
 -- a font that looks as the table says: seven rows of each glyph lie above the baseline and one below it, two rows lie
--- between lines, glyphs begin
--- at the pen and have five columns, and every character is 6 wide
+-- between lines, glyphs begin at the pen and have five columns, and every character is 6 wide
 pub record IsBuiltIn (font : List ℕ) : Type 0 where
   pub up : ascent font ≡ 7
   pub down : descent font ≡ 1

@@ -18,6 +18,9 @@ near_to x e = grind (arith, ints)
 span_of : (low high : ℤ) → is_span low high ≡ true → (low +ℤ pos 1) ≤ℤ high
 span_of low high e = grind (arith, ints)
 
+span_to : (low high : ℤ) → is_span low high ≡ true → high ≤ℤ (low +ℤ pos 1024)
+span_to low high e = grind (arith, ints)
+
 width_from : (n : ℕ) → is_width n ≡ true → 1 ≤ n
 width_from n e = grind (arith, nat_tests)
 
@@ -79,6 +82,8 @@ placing_numbers framed p e =
       view_bottom_to = v.bottom;
       view_columns = span_of p.view.left p.view.right spans.0;
       view_rows = span_of p.view.top p.view.bottom spans.1;
+      view_columns_to = span_to p.view.left p.view.right spans.0;
+      view_rows_to = span_to p.view.top p.view.bottom spans.1;
     }
 
 pub on_placing : (b framed : Bool) (p : Placing) → b ≡ is_placing framed p → OnTrue b (IsPlacing p.left p.top p.width p.view)

@@ -51,3 +51,5 @@ pub record IsPlacing (left top : ℤ) (width : ℕ) (view : Rect) : Type 0 where
   pub view_bottom_to : view.bottom ≤ℤ pos 16383
   pub view_columns : (view.left +ℤ pos 1) ≤ℤ view.right
   pub view_rows : (view.top +ℤ pos 1) ≤ℤ view.bottom
+  pub view_columns_to : view.right ≤ℤ (view.left +ℤ pos 1024)
+  pub view_rows_to : view.bottom ≤ℤ (view.top +ℤ pos 1024)

@@ -205,6 +205,7 @@ impl TextRecord {
         requires { number < length (lines_of self.now.text) }
         ensures value { result ≡ offset_on self.now number h }
         ensures within { result ≤ length self.now.text.bytes }
+        ensures short { result ≤ 32000 }
     {
         let start = usize::from(self.line(number).start);
         let ahead = i64::from(h) - i64::from(self.pen(number));
@@ -216,6 +217,7 @@ impl TextRecord {
     pub fn offset_at(&self, point: Point) -> usize
         ensures value { result ≡ offset_at self.now point }
         ensures within { result ≤ length self.now.text.bytes }
+        ensures short { result ≤ 32000 }
     {
         self.offset_on(self.line_at_row(point.v), point.h)
     }

@@ -1,6 +1,6 @@
 //! A text record.
 ghost use Rattle.std.specs.Prelude.{◌≡◌, ◌≤◌, ◌≤ℤ◌, ◌+ℤ◌, true, length, IfOk, IfErr, if◌then◌else◌, pos, negsuc};
-ghost use Rattle.text_record.specs.Placings.{is_placing, box_of};
+ghost use Rattle.text_record.specs.Placings.{is_placing, box_of, IsPlacing};
 ghost use Rattle.text_record.specs.Texts.{placing_of, new_record, lines_of};
 
 use crate::lined::LinedText;
@@ -107,7 +107,8 @@ impl TextRecord {
 
     /// Where the text stands.
     pub fn placing(&self) -> Placing
-        ensures { result ≡ placing_of self.now }
+        ensures value { result ≡ placing_of self.now }
+        ensures numbers { IsPlacing result.left result.top result.width result.view }
     {
         Placing {
             left: self.left,

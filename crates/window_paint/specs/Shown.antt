@@ -11,7 +11,8 @@ use Rattle.window_list.specs.declared.window.Window.{Window}
 abbrev pub picture_shown : {V : Type 0} {H : V → Type 0} → List ℕ → Window V H → PixelSet
 picture_shown font w p = picture_bit font w.picture (minus (minus p w.place) w.origin)
 
--- a part of the content: the picture, or a control, list or text record, of which `shows` says what it shows in the window's coordinates
+-- a part of the content: the picture, or a control, list or text record, of which `shows` says what it shows in the
+-- window's coordinates
 abbrev pub part_shown : {V : Type 0} {H : V → Type 0} → List ℕ → (Part → PixelSet) → Window V H → Part → PixelSet
 part_shown font shows w part.Picture p = picture_shown font w p
 part_shown font shows w (part.Control n) p = shows (part.Control n) (minus p w.place)

@@ -166,6 +166,19 @@ refreshed_since these a b c same done = record {
     as_was : (p : Point) → on_screen (layered_desk c.desk) p ≡ true → at b p ≡ at a p
     as_was p on = λ i. record { desk = same.desk i; stale = λ q. same.stale p (on_before p on) i; image = λ q. same.image p (on_before p on) i }
 
+-- layers that each pixel of the screen is of, or is not, alike
+pub refreshed_alike : (these others : Owner → Bool) (a b : FullState) → ((p : Point) → on_screen (layered_desk a.desk) p ≡ true → these (owner (layered_desk a.desk) p) ≡ others (owner (layered_desk a.desk) p)) → IsRefreshed these a b → IsRefreshed others a b
+refreshed_alike these others a b alike done = record {
+  desk = done.desk;
+  pixels = record {
+    stale = λ p on. done.pixels.stale p on ∙ ap (λ (drawn : Bool). stale_by (refresh_change (λ o. drawn) a) (layered_state a) (owner (layered_desk b.desk) p) p) (there p on);
+    image = λ p on. done.pixels.image p on ∙ ap (λ (drawn : Bool). image_by (refresh_change (λ o. drawn) a) (layered_state a) (layered_desk b.desk) (owner (layered_desk b.desk) p) p) (there p on);
+  };
+}
+  where
+    there : (p : Point) → on_screen (layered_desk b.desk) p ≡ true → these (owner (layered_desk b.desk) p) ≡ others (owner (layered_desk b.desk) p)
+    there = subst (λ (d : FullDesk). (p : Point) → on_screen (layered_desk d) p ≡ true → these (owner (layered_desk d) p) ≡ others (owner (layered_desk d) p)) (sym done.desk) alike
+
 -- what is stale of content, and what it shows, once these layers are drawn
 module _ (these : Owner → Bool) (x : FullState) (p : Point) (on : on_screen (layered_desk x.desk) p ≡ true) (content : is_content (owner (layered_desk x.desk) p) ≡ true) where
   abbrev its : Owner

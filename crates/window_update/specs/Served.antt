@@ -1,14 +1,17 @@
 -- Updates that were served, and the desk once all are.
-use Rattle.std.specs.Prelude.{◌≡◌, ℕ, true, List, [], ◌∷◌, ◌++◌, map, Contains, Ok}
+use Rattle.std.specs.Prelude.{◌≡◌, ◌⊎◌, ℕ, true, false, List, [], ◌∷◌, ◌++◌, map, Contains, Ok}
 use Rattle.tb_geom.specs.declared.point.Point.{Point}
 use Rattle.desk_layers.specs.Desk.{on_screen}
+use Rattle.desk_layers.specs.Owner.{owner}
 use Rattle.desk_layers.specs.Scratch.{scratch}
 use Rattle.desk_call.specs.declared.update.LayerKind.{LayerKind}
+use Rattle.desk_call.specs.declared.update.LayerKind.TheVariants.{Picture}
 use Rattle.desk_call.specs.declared.update.UpdateCall.{UpdateCall}
 use Rattle.desk_call.specs.declared.update.UpdateCall.TheVariants.{Begin, Draw, End}
 use Rattle.desk_call.specs.declared.window.WindowReply.TheVariants.{Done}
 use Rattle.window_mgr.specs.FullDesk.{FullState, layered_desk}
 use Rattle.window_mgr.specs.Telling.{update_of}
+use Rattle.window_mgr.specs.Updating.{is_of_kind}
 use Rattle.window_mgr.specs.DeskStates.{DeskState}
 use Rattle.window_update.specs.UpdateSteps.{IsUpdateStep}
 use Rattle.window_update.specs.Waiting.{IsEmpty}
@@ -26,9 +29,16 @@ drawing s layers = Draw (record { window = s; layers = layers })
 abbrev pub update_drawing : ℕ → List LayerKind → List UpdateCall
 update_drawing s kinds = Begin s ∷ map (drawing s) kinds ++ End s ∷ []
 
--- the picture, the text records, the lists and the controls are all among these layers, in whichever order, each once or more
-abbrev pub AreAllKinds : List LayerKind → Type 0
-AreAllKinds kinds = (kind : LayerKind) → Contains kinds kind
+-- no pixel of the screen is one of these layers of the window
+abbrev pub ShowsNone : ℕ → LayerKind → FullState → Type 0
+ShowsNone s kind state = let desk = layered_desk state.desk in
+    (p : Point) → on_screen desk p ≡ true → is_of_kind kind s (owner desk p) ≡ false
+
+-- the picture is among these layers, and so are the text records, the lists and the controls, but for those of which the window
+-- shows none; in whichever order, each once or more
+pub record AreAllKinds (s : ℕ) (state : FullState) (kinds : List LayerKind) : Type 0 where
+  pub picture : Contains kinds Picture
+  pub others : (kind : LayerKind) → Contains kinds kind ⊎ ShowsNone s kind state
 
 -- no window's update region has a pixel
 abbrev pub AreAllServed : FullState → Type 0

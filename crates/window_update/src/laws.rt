@@ -36,10 +36,11 @@ pub fn serving_a_window_leaves_the_others()
 {}
 
 /// A window's update is served where it was begun, its picture, its text records, its lists and its controls were drawn, in
-/// whichever order and however often, and it was ended.
+/// whichever order and however often, and it was ended. Text records, lists or controls of which it shows none need no draw.
 #[tactic(auto, using(crate::proofs::AnyOrder::drawn_in_any_order_is_served))]
 pub fn an_update_drawn_in_any_order_is_served()
-    ensures { (window : ℕ) (kinds : List LayerKind) (before after : DeskState) → AreAllKinds kinds
+    ensures { (window : ℕ) (kinds : List LayerKind) (before after : DeskState)
+        → AreAllKinds window before.windows kinds
         → AreDone (update_drawing window kinds) before after → IsUpdateStep (Serve window) (Ok Done) before after }
 {}
 

@@ -13,7 +13,7 @@ returns-clause-drawn c =
     let canvas = c.args.canvas.now in
     let r = c.args.text.now in
     placed_over canvas c.placed_within-clip.result r.view (λ p d. with_selection r (canvas_point canvas p) (with_lines canvas.font.now r (canvas_point canvas p) d)) canvas.map.now c.draw_text.new.canvas.map.now
-    (λ p. c.placed_within-clip.ensures p ∙ ap (λ (s : Placing). rect_holds canvas.clip p && rect_holds s.view (minus p canvas.origin)) c.placing.ensures)
+    (λ p. c.placed_within-clip.ensures p ∙ ap (λ (s : Placing). rect_holds canvas.clip p && rect_holds s.view (minus p canvas.origin)) c.placing.ensures.value)
     c.draw_text.ensures.drawn
 
 pub returns-clause-same_frame : goal.returns-clause-same_frame
