@@ -26,5 +26,11 @@ pub mod Edited
 pub mod LaysSo
 pub mod LaidSteps
 pub mod PlacedSo
+pub mod Stays
+pub mod Selected
+pub mod Clicks
+pub mod Performed
+pub mod Distinct
+pub mod TextsKept
 pub mod NewSteps
 pub mod ToldSteps

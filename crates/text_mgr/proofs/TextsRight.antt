@@ -3,7 +3,9 @@ use Rattle.std.proofs.Common.{◌≡◌, ⊎_elim, inl, inr, ◌⊎◌, ℕ, Boo
 use Rattle.std.proofs.lemmas.Bool.{and_parts}
 use Rattle.tb_geom.specs.declared.point.Point.{Point}
 use Rattle.tb_geom.specs.declared.refusal.Refusal.{Refusal}
+use Rattle.tb_geom.specs.declared.refusal.Refusal.TheVariants.{NoSuchWindow}
 use Rattle.tb_geom.specs.Points.{PixelSet}
+use Rattle.tb_geom.specs.Refusals.{first_refusal}
 use Rattle.desk_layers.specs.declared.part.Part.{Part}
 use Rattle.desk_layers.specs.declared.part.Part.TheVariants as part
 use Rattle.desk_layers.specs.Change as plain
@@ -15,27 +17,35 @@ use Rattle.desk_layers.proofs.Owning.{same_owner-true}
 use Rattle.desk_call.specs.declared.activity.Activity.{Activity}
 use Rattle.desk_call.specs.declared.activity.Activity.TheVariants.{Idle, Selecting}
 use Rattle.desk_call.specs.declared.text.ClickText.{ClickText}
+use Rattle.desk_call.specs.declared.text.NewText.{NewText}
 use Rattle.desk_call.specs.declared.text.TextCall.{TextCall}
 use Rattle.desk_call.specs.declared.text.TextCall.TheVariants as call
 use Rattle.desk_call.specs.declared.text.TextOf.{TextOf}
 use Rattle.desk_call.specs.declared.text.TextReply.{TextReply}
 use Rattle.text_record.specs.Texts.{Record}
 use Rattle.text_edits.specs.declared.selecting.ClickMode.{ClickMode}
-use Rattle.window_items.specs.Items.{AreApart}
+use Rattle.window_items.specs.Items.{AreApart, are_before}
 use Rattle.window_list.specs.declared.layer.Layer.{Layer}
+use Rattle.window_list.specs.Holders.{ArePartsApart}
 use Rattle.vis_update.specs.Records.{WindowRecord}
 use Rattle.vis_update.specs.Relayings.{afresh_change, is_part_afresh, with_layers_of}
 use Rattle.window_mgr.proofs.EachChanged.{numbered_map}
 use Rattle.window_mgr.proofs.Running.{unchanged_stays_right}
 use Rattle.window_mgr.specs.Effects.{IsUnchanged}
+use Rattle.window_mgr.specs.Finding.{record_with}
 use Rattle.window_mgr.specs.FullDesk.{AreSerials, FullDesk, FullState, IsRightState, layered_desk, layered_state}
+use Rattle.window_mgr.specs.Refused.{is_missing}
 use Rattle.control_mgr.proofs.ControlBits.{bare, bare_laid}
+use Rattle.control_mgr.proofs.Steps.{none_hold}
 use Rattle.text_mgr.specs.TextDesks.{IsTextDeskUnchanged, KeptText, ShowsTexts, TextDesk, TextsState, texts_show}
 use Rattle.text_mgr.specs.TextLayers.{with_last, with_shape_of, without_part}
-use Rattle.text_mgr.specs.TextSteps.{AreTextsLaid, AreTextsShownAnew, IsOpenedIf, IsScrapSet, IsSelected, IsTextEdited, IsTextEffect, IsTextLaid, IsTextStep}
+use Rattle.text_mgr.specs.TextRefusals.{text_refusals}
+use Rattle.text_mgr.specs.TextSteps.{AreTextsLaid, AreTextsShownAnew, IsOpenedIf, IsScrapSet, IsSelected, IsTextEdited, IsTextEffect, IsTextLaid, IsTextMade, IsTextStep}
 use Rattle.text_mgr.specs.WholeTexts.{AreWholeTexts}
+use Rattle.text_mgr.proofs.Distinct.{last_apart, none_new, shaped_apart, without_apart}
 use Rattle.text_mgr.proofs.SerialsStay.{stay_anew, stay_changed, stay_pushed, stay_removed}
 use Rattle.text_mgr.proofs.TextBits.{StayTexts, same_own}
+use Rattle.text_mgr.proofs.TextsWhole.{there_window, window_at}
 use Rattle.text_mgr.proofs.Whole.{AreJoined}
 
 -- ---- what any call leaves of what is shown
@@ -53,19 +63,24 @@ pub record IsRelaidDesk (before after : TextDesk) : Type 0 where
   pub afresh : Option Part
   pub laid : AreTextsLaid window relaid afresh before after
   pub stay : StayTexts (is_part_afresh window afresh) before.texts.texts after.texts.texts
+  -- the window is there, and its layers stay apart
+  pub there : (w : WindowRecord) × (record_with window before.desk.windows.desk.windows ≡ Some w)
+  pub apart : ArePartsApart there.0.layers → ArePartsApart (relaid there.0.layers)
 
 -- nothing that is shown changed, or a window's layers were set, or text records were shown anew
 abbrev pub LeavesShown : TextDesk → TextDesk → Type 0
 LeavesShown before after = IsStillDesk before after ⊎ (IsRelaidDesk before after ⊎ AreTextsShownAnew before after)
 
-module _ (before after : TextDesk) (apart : AreApart before.texts.texts) (apart_now : AreApart after.texts.texts) where
+module _ (before after : TextDesk) (was : AreWholeTexts before.desk.windows.desk.windows before.texts) (apart_now : AreApart after.texts.texts) where
   laid_leaves : (t : TextOf) (f : Record → Record) → IsTextLaid t f before after → LeavesShown before after
   laid_leaves t f done = inr (inl (record {
     window = t.window;
     relaid = with_shape_of (part.Text t.text) done.shape;
     afresh = Some (part.Text t.text);
     laid = done.laid;
-    stay = stay_changed t f before.texts.scrap before after apart apart_now done.changed;
+    stay = stay_changed t f before.texts.scrap before after was.apart apart_now done.changed;
+    there = window_at before after was t done.changed.at done.changed.found;
+    apart = shaped_apart (part.Text t.text) done.shape _;
   }))
 
   same_leaves : IsTextDeskUnchanged before after → LeavesShown before after
@@ -93,52 +108,67 @@ module _ (before after : TextDesk) (apart : AreApart before.texts.texts) (apart_
   selected_leaves (Selecting k) now p answer done = inr (inr done.1.2.1.shown)
   selected_leaves a now p answer wrong = absurd wrong
 
-  effect_leaves : (c : TextCall) (answer : TextReply) → IsTextEffect c answer before after → LeavesShown before after
-  effect_leaves (call.New n) answer (serial, is, made) = inr (inl (record {
+  -- a new text record is in a window that is there, of which no layer is of its serial
+  new_there : (n : NewText) → first_refusal (text_refusals (call.New n) before.desk.windows.desk before.texts) ≡ None → (w : WindowRecord) × (record_with n.window before.desk.windows.desk.windows ≡ Some w)
+  new_there n none = there_window (record_with n.window before.desk.windows.desk.windows) (none_hold (is_missing n.window before.desk.windows.desk.windows) NoSuchWindow _ none).0
+
+  new_apart : (n : NewText) (serial : ℕ) (made : IsTextMade n serial before after) (w : (v : WindowRecord) × (record_with n.window before.desk.windows.desk.windows ≡ Some v))
+      → ArePartsApart w.0.layers → ArePartsApart (with_last made.layer w.0.layers)
+  new_apart n serial made w =
+      let its : serial ≡ made.text.serial = ap (λ (x : KeptText). x.serial) (sym made.made) in
+      let given : are_before (Some made.text.serial) before.texts.texts ≡ true = subst (λ o. are_before o before.texts.texts ≡ true) (made.serials ∙ ap Some its) was.given in
+      last_apart made.text made.layer w.0.layers made.is (none_new made.text n.window before.texts.texts before.desk.windows.desk.windows w.0 given was.joined w.1)
+
+  effect_leaves : (c : TextCall) (answer : TextReply) → first_refusal (text_refusals c before.desk.windows.desk before.texts) ≡ None → IsTextEffect c answer before after → LeavesShown before after
+  effect_leaves (call.New n) answer none (serial, is, made) = inr (inl (record {
     window = n.window;
     relaid = with_last made.layer;
     afresh = Some (part.Text serial);
     laid = made.laid;
     stay = stay_pushed (is_part_afresh n.window (Some (part.Text serial))) before.texts.texts after.texts.texts made.text (ap (λ (s : TextsState). s.texts) made.texts);
+    there = new_there n none;
+    apart = new_apart n serial made (new_there n none);
   }))
-  effect_leaves (call.Place p) answer (is, done) = laid_leaves p.text _ done
-  effect_leaves (call.Dispose t) answer (is, gone) = inr (inl (record {
+  effect_leaves (call.Place p) answer none (is, done) = laid_leaves p.text _ done
+  effect_leaves (call.Dispose t) answer none (is, gone) = inr (inl (record {
     window = t.window;
     relaid = without_part (part.Text t.text);
     afresh = None;
     laid = gone.laid;
-    stay = stay_removed (is_part_afresh t.window None) before.texts.texts after.texts.texts gone.at apart (ap (λ (s : TextsState). s.texts) gone.texts);
+    stay = stay_removed (is_part_afresh t.window None) before.texts.texts after.texts.texts gone.at was.apart (ap (λ (s : TextsState). s.texts) gone.texts);
+    there = window_at before after was t gone.at gone.found;
+    apart = without_apart (part.Text t.text) _;
   }))
-  effect_leaves (call.Show t) answer (is, done) = laid_leaves t _ done
-  effect_leaves (call.Hide t) answer (is, done) = laid_leaves t _ done
-  effect_leaves (call.Set b) answer done = edited_leaves b.text (call.Set b) answer done
-  effect_leaves (call.Insert b) answer done = edited_leaves b.text (call.Insert b) answer done
-  effect_leaves (call.Delete t) answer done = edited_leaves t (call.Delete t) answer done
-  effect_leaves (call.Key n) answer done = edited_leaves n.text (call.Key n) answer done
-  effect_leaves (call.Cut t) answer done = edited_leaves t (call.Cut t) answer done
-  effect_leaves (call.Copy t) answer (is, (x, there, set)) = scrap_leaves _ set
-  effect_leaves (call.Paste t) answer done = edited_leaves t (call.Paste t) answer done
-  effect_leaves (call.Select z) answer done = edited_leaves z.text (call.Select z) answer done
-  effect_leaves (call.Activate f) answer done = edited_leaves f.text (call.Activate f) answer done
-  effect_leaves (call.Idle n) answer done = edited_leaves n.text (call.Idle n) answer done
-  effect_leaves (call.Justify n) answer done = edited_leaves n.text (call.Justify n) answer done
-  effect_leaves (call.Scroll z) answer done = edited_leaves z.text (call.Scroll z) answer done
-  effect_leaves (call.ShowSelection t) answer done = edited_leaves t (call.ShowSelection t) answer done
-  effect_leaves (call.Click c) answer (mode, is, (x, there, done)) = opened_leaves _ c mode x.kept answer done
-  effect_leaves (call.Step p) answer done = selected_leaves before.desk.activity before.desk.activity p answer done
-  effect_leaves (call.End p) answer done = selected_leaves before.desk.activity Idle p answer done
-  effect_leaves (call.Get t) answer (x, there, (told, same)) = same_leaves same
-  effect_leaves (call.Info t) answer (x, there, (told, same)) = same_leaves same
-  effect_leaves (call.Line n) answer (x, there, (told, same)) = same_leaves same
-  effect_leaves (call.PlaceOf n) answer (x, there, (told, same)) = same_leaves same
-  effect_leaves (call.OffsetAt p) answer (x, there, (told, same)) = same_leaves same
-  effect_leaves call.Scrap answer (told, same) = same_leaves same
-  effect_leaves (call.SetScrap bytes) answer (is, set) = scrap_leaves bytes set
-  effect_leaves (call.Width bytes) answer (told, same) = same_leaves same
-  effect_leaves call.FontInfo answer (told, same) = same_leaves same
+  effect_leaves (call.Show t) answer none (is, done) = laid_leaves t _ done
+  effect_leaves (call.Hide t) answer none (is, done) = laid_leaves t _ done
+  effect_leaves (call.Set b) answer none done = edited_leaves b.text (call.Set b) answer done
+  effect_leaves (call.Insert b) answer none done = edited_leaves b.text (call.Insert b) answer done
+  effect_leaves (call.Delete t) answer none done = edited_leaves t (call.Delete t) answer done
+  effect_leaves (call.Key n) answer none done = edited_leaves n.text (call.Key n) answer done
+  effect_leaves (call.Cut t) answer none done = edited_leaves t (call.Cut t) answer done
+  effect_leaves (call.Copy t) answer none (is, (x, there, set)) = scrap_leaves _ set
+  effect_leaves (call.Paste t) answer none done = edited_leaves t (call.Paste t) answer done
+  effect_leaves (call.Select z) answer none done = edited_leaves z.text (call.Select z) answer done
+  effect_leaves (call.Activate f) answer none done = edited_leaves f.text (call.Activate f) answer done
+  effect_leaves (call.Idle n) answer none done = edited_leaves n.text (call.Idle n) answer done
+  effect_leaves (call.Justify n) answer none done = edited_leaves n.text (call.Justify n) answer done
+  effect_leaves (call.Scroll z) answer none done = edited_leaves z.text (call.Scroll z) answer done
+  effect_leaves (call.ShowSelection t) answer none done = edited_leaves t (call.ShowSelection t) answer done
+  effect_leaves (call.Click c) answer none (mode, is, (x, there, done)) = opened_leaves _ c mode x.kept answer done
+  effect_leaves (call.Step p) answer none done = selected_leaves before.desk.activity before.desk.activity p answer done
+  effect_leaves (call.End p) answer none done = selected_leaves before.desk.activity Idle p answer done
+  effect_leaves (call.Get t) answer none (x, there, (told, same)) = same_leaves same
+  effect_leaves (call.Info t) answer none (x, there, (told, same)) = same_leaves same
+  effect_leaves (call.Line n) answer none (x, there, (told, same)) = same_leaves same
+  effect_leaves (call.PlaceOf n) answer none (x, there, (told, same)) = same_leaves same
+  effect_leaves (call.OffsetAt p) answer none (x, there, (told, same)) = same_leaves same
+  effect_leaves call.Scrap answer none (told, same) = same_leaves same
+  effect_leaves (call.SetScrap bytes) answer none (is, set) = scrap_leaves bytes set
+  effect_leaves (call.Width bytes) answer none (told, same) = same_leaves same
+  effect_leaves call.FontInfo answer none (told, same) = same_leaves same
 
   pub step_leaves : (c : TextCall) (result : Result TextReply Refusal) → IsTextStep c result before after → LeavesShown before after
-  step_leaves c (Ok answer) step = effect_leaves c answer step.1
+  step_leaves c (Ok answer) step = effect_leaves c answer step.0 step.1
   step_leaves c (Err e) step = same_leaves step.1
 
 -- ---- what is right stays so
@@ -217,11 +247,11 @@ pub text_right : (c : TextCall) (result : Result TextReply Refusal) (before afte
     → AreWholeTexts before.desk.windows.desk.windows before.texts → AreWholeTexts after.desk.windows.desk.windows after.texts → IsDesk (layered_desk after.desk.windows.desk)
     → IsTextStep c result before after → IsRightState after.desk.windows
 text_right c result before after right shows was are distinct step =
-    leaves_right before after right shows was.joined are.joined distinct was.apart are.apart (step_leaves before after was.apart are.apart c result step)
+    leaves_right before after right shows was.joined are.joined distinct was.apart are.apart (step_leaves before after was are.apart c result step)
 
 -- the windows show the text records after any such call
-pub text_shows : (c : TextCall) (result : Result TextReply Refusal) (before after : TextDesk) → AreApart before.texts.texts → AreApart after.texts.texts → ShowsTexts before → IsTextStep c result before after → ShowsTexts after
-text_shows c result before after apart apart_now shows step = ⊎_elim
+pub text_shows : (c : TextCall) (result : Result TextReply Refusal) (before after : TextDesk) → AreWholeTexts before.desk.windows.desk.windows before.texts → AreApart after.texts.texts → ShowsTexts before → IsTextStep c result before after → ShowsTexts after
+text_shows c result before after was apart_now shows step = ⊎_elim
     (λ still. subst (λ (x : FullDesk × List KeptText × (List ℕ → Part → PixelSet)). x.0.shows ≡ texts_show x.2 x.1 x.0.font) (λ i. (sym still.windows.desk i, sym still.texts i, sym still.others i)) shows)
     (λ other. ⊎_elim (λ its. its.laid.shows) (λ its. its.shows) other)
-    (step_leaves before after apart apart_now c result step)
+    (step_leaves before after was apart_now c result step)

@@ -58,7 +58,7 @@ not_false true e = refl
 not_false false e = absurd (false≢true (sym e))
 
 -- a window that is not missing
-there_window : (o : Option WindowRecord) → is_none o ≡ false → (w : WindowRecord) × (o ≡ Some w)
+pub there_window : (o : Option WindowRecord) → is_none o ≡ false → (w : WindowRecord) × (o ≡ Some w)
 there_window None e = absurd (false≢true (sym e))
 there_window (Some w) e = (w, refl)
 
@@ -106,22 +106,22 @@ module _ (before after : TextDesk) (whole : AreWholeTexts before.desk.windows.de
     names : (item.item.window ≡ t.window) × (item.item.serial ≡ t.text)
     names = found_names t ts at found item.item item.there
 
-    window : (w : WindowRecord) × (record_with t.window ws ≡ Some w)
-    window = there_window (record_with t.window ws) (subst (λ n. is_missing n ws ≡ false) names.0 (All-there (λ (x : KeptText). is_missing x.window ws ≡ false) at ts item.item item.there whole.somewhere))
+    pub window_at : (w : WindowRecord) × (record_with t.window ws ≡ Some w)
+    window_at = there_window (record_with t.window ws) (subst (λ n. is_missing n ws ≡ false) names.0 (All-there (λ (x : KeptText). is_missing x.window ws ≡ false) at ts item.item item.there whole.somewhere))
 
-    joined : AreTextLayersOf (items_of t.window ts) window.0.layers
+    joined : AreTextLayersOf (items_of t.window ts) window_at.0.layers
     joined =
-        let its = at_serial (λ w. AreTextLayersOf (items_of w.serial ts) w.layers) t.window ws window.0 window.1 whole.joined in
-        subst (λ n. AreTextLayersOf (items_of n ts) window.0.layers) its.1 its.0
+        let its = at_serial (λ w. AreTextLayersOf (items_of w.serial ts) w.layers) t.window ws window_at.0 window_at.1 whole.joined in
+        subst (λ n. AreTextLayersOf (items_of n ts) window_at.0.layers) its.1 its.0
 
     among : slice_get (items_of t.window ts) (place_among at ts) ≡ Some item.item
     among = slice_get-items_of t.window at ts (found_window t ts at found) ∙ item.there
 
-    its : ItsLayer item.item window.0.layers
-    its = its_layer window.0.layers (items_of t.window ts) (place_among at ts) item.item joined (apart_among t.window ts whole.apart) among
+    its : ItsLayer item.item window_at.0.layers
+    its = its_layer window_at.0.layers (items_of t.window ts) (place_among at ts) item.item joined (apart_among t.window ts whole.apart) among
 
-    its_found : layer_index (part.Text t.text) window.0.layers ≡ Some its.index
-    its_found = subst (λ n. layer_index (part.Text n) window.0.layers ≡ Some its.index) names.1 its.found
+    its_found : layer_index (part.Text t.text) window_at.0.layers ≡ Some its.index
+    its_found = subst (λ n. layer_index (part.Text n) window_at.0.layers ≡ Some its.index) names.1 its.found
 
   -- laid elsewhere, or shown or hidden
   laid_whole : (t : TextOf) (f : Record → Record) (done : IsTextLaid t f before after)
@@ -130,7 +130,7 @@ module _ (before after : TextDesk) (whole : AreWholeTexts before.desk.windows.de
       let at = done.changed.at in
       let found = done.changed.found in
       let i = item t at found in
-      let w = window t at found in
+      let w = window_at t at found in
       let l = its t at found in
       let named : text_of t ts ≡ Some i.item = text_there t ts at found i.item i.there in
       let shape : IsShapeOf (f i.item.kept) done.shape = subst (λ (y : KeptText). IsShapeOf (f y.kept) done.shape) (one_there (text_of t ts) done.is.0 i.item done.is.1 named) done.is.2 in
@@ -150,7 +150,7 @@ module _ (before after : TextDesk) (whole : AreWholeTexts before.desk.windows.de
       let at = gone.at in
       let found = gone.found in
       let i = item t at found in
-      let w = window t at found in
+      let w = window_at t at found in
       let l = its t at found in
       let layers : gone.laid.layers ≡ remove w.0.layers l.index = gone.laid.become w.0 w.1 ∙ ap (λ o. option_map_or (λ k. remove w.0.layers k) o w.0.layers) (its_found t at found) in
       let joined_left : AreTextLayersOf (items_of t.window (remove ts at)) gone.laid.layers =

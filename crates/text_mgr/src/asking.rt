@@ -4,8 +4,8 @@ ghost use Rattle.desk_call.specs.declared.text.TextCall.TheVariants as asks;
 ghost use Rattle.window_mgr.specs.DeskStates.{Opened};
 ghost use Rattle.text_mgr.specs.TextSteps.{IsBytes, IsTextStep};
 
-use crate::judging::{are_too_many, is_outside};
-use crate::telling::{info_of, line_told, place_told};
+use crate::judging::are_too_many;
+use crate::telling::{info_of, line_told, offset_named, place_told};
 use crate::{DeskTexts, Texts};
 use desk_call::{PointInText, TextNumber, TextOf, TextReply};
 use tb_geom::{BytesRef, Refusal};
@@ -70,10 +70,10 @@ impl Texts {
             (IsTextStep (asks.PlaceOf asked) result) windows.now o self.now windows.now o self.now }
     {
         let spot = self.spot(windows, asked.text)?;
-        if is_outside(0, 32767, asked.number) {
-            return Err(Refusal::OutOfRange);
+        match offset_named(asked.number) {
+            Some(offset) => Ok(place_told(&self.list.items[spot.text].kept, offset)),
+            None => Err(Refusal::OutOfRange),
         }
-        Ok(place_told(&self.list.items[spot.text].kept, asked.number as usize))
     }
 
     /// The offset at a point, in a text record.

@@ -3,7 +3,7 @@ ghost use Rattle.std.specs.Prelude.{◌≡◌, ◌<◌, true, length, slice_get,
 ghost use Rattle.tb_geom.specs.Rects.{is_in_range};
 ghost use Rattle.desk_call.specs.declared.text.TextOf.{TextOf as Named};
 ghost use Rattle.desk_call.specs.declared.text.TextCall.TheVariants as asks;
-ghost use Rattle.text_record.specs.Placings.{box_of, is_placing};
+ghost use Rattle.text_record.specs.Placings.{IsPlacing, box_of, is_placing};
 ghost use Rattle.window_mgr.specs.DeskStates.{Opened};
 ghost use Rattle.text_mgr.specs.Laying.{IsBoxShape, IsLaidOrShort, IsLieOf, MayLie, laid, shown_call};
 ghost use Rattle.text_mgr.specs.Spots.{IsSpot, IsSpotOf};
@@ -47,7 +47,8 @@ impl Texts {
     /// How the text record at this index lies.
     fn lie(&self, at: usize) -> Lie
         requires { at < length self.now.list.items.items }
-        ensures { IfSome (slice_get self.now.list.items.items at) (IsLieOf result) }
+        ensures read { IfSome (slice_get self.now.list.items.items at) (IsLieOf result) }
+        ensures numbers { IsPlacing result.placing.left result.placing.top result.placing.width result.placing.view }
     {
         let record = &self.list.items[at].kept;
         Lie {

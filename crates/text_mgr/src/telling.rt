@@ -1,9 +1,11 @@
 //! What is told of one text record.
-ghost use Rattle.std.specs.Prelude.{◌≡◌, nat_abs, nat_lt, length, if◌then◌else◌, None, Some};
+ghost use Rattle.std.specs.Prelude.{◌≡◌, nat_abs, pos, nat_lt, length, if◌then◌else◌, None, Some};
 ghost use Rattle.text_record.specs.Texts.{lines_of};
+ghost use Rattle.text_mgr.specs.CallEdits.{is_outside};
 ghost use Rattle.text_mgr.specs.TextRefusals.{is_line};
 ghost use Rattle.text_mgr.specs.TextSteps.{info_of, line_told, place_told};
 
+use crate::judging::is_outside;
 use desk_call::{TextInfo, TextReply};
 use tb_geom::Point;
 use text_record::TextRecord;
@@ -36,6 +38,16 @@ pub(crate) fn line_told(record: &TextRecord, number: i32) -> Option<TextReply>
     }
     let line = record.line(number as usize);
     Some(TextReply::Offsets(line.start, line.end))
+}
+
+/// The offset that a number of a call names: 0 to 32767, and no other.
+pub(crate) fn offset_named(number: i32) -> Option<usize>
+    ensures { result ≡ (if is_outside (pos 0) (pos 32767) number then None else Some (nat_abs number)) }
+{
+    if is_outside(0, 32767, number) {
+        return None;
+    }
+    Some(number as usize)
 }
 
 /// The column of an offset and the row below its line, as far as the text goes.

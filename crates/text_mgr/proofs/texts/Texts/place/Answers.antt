@@ -28,7 +28,7 @@ returns g c o =
     let put = allowed (may_stand_at c.is_framed-framed.result c.args.placed.place c.at.result.now.place) (placing_of c.args.placed.place) c.in-Some.placing (sym c.placing_at.ensures ∙ c.in-Some.is) in
     let is = c.in_ok-spot.ensures in
     let it = record_there _ c.args.placed.text c.args.windows.now c.args.self.now c.in_ok-spot.spot is in
-    let lie = subst (λ x. IfSome x (IsLieOf c.lie.result)) it.there c.lie.ensures in
+    let lie = subst (λ x. IfSome x (IsLieOf c.lie.result)) it.there c.lie.ensures.read in
     placed_so _ c.args.placed c.args.windows.now c.args.self.now c.in_ok-spot.spot c.in_ok-spot.ensures c.index.result.now c.index.ensures c.is_framed-framed.result c.is_framed-framed.ensures c.at.result.now
     (c.at.ensures ∙ ap (λ ls. get_or ls.records.items c.in_ok-spot.spot.window c.at.result.now) c.list.ensures) c.requires.kept (record { placing = c.in-Some.placing; shown = c.lie.result.shown }) put.0 put.1
     lie.shown c.lay.result c.lay.new.windows o o c.lay.new.self (c.lay.ensures c.args.placed.text is o)
