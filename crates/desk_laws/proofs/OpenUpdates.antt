@@ -204,9 +204,9 @@ module _ (s : ℕ) where
     window = λ call answer before after may step opened rests. window_goes_on call answer before after may step opened;
     update = λ call answer before after may step rest opened rests. update_goes_on call answer before after (may_then before.desk.activity (update_standing call) opened may) step opened rests;
     frame = λ call answer before after may step rest opened rests. absurd (frame_comes_apart call (Updating s) (may_then before.desk.activity (frame_standing call) opened may));
-    control = λ call answer before after may step events lists menus opened rests. control_goes_on call answer before after may step opened;
-    list = λ call answer before after may step events menus opened rests. list_goes_on call answer before after may step opened;
-    menu = λ call answer before after may step events controls lists opened rests. absurd (menu_comes_apart call (Updating s) (may_then before.desk.activity (menu_standing call) opened may));
+    control = λ call answer before after may step events lists texts menus opened rests. control_goes_on call answer before after may step opened;
+    list = λ call answer before after may step events texts menus opened rests. list_goes_on call answer before after may step opened;
+    menu = λ call answer before after may step events controls lists texts opened rests. absurd (menu_comes_apart call (Updating s) (may_then before.desk.activity (menu_standing call) opened may));
     outline = λ call answer before after may step rest opened rests. absurd (none_is_outlined call (may_then before.desk.activity (outline_standing call) opened may));
     moved = λ call move before after may step opened rests. absurd (none_is_outlined call (may_then before.desk.activity (outline_standing call) opened may));
     event = λ call answer before after step opened rests. still_open (Event call) (replied reply.Event answer) before after (λ kinds. refl) opened step.desk;

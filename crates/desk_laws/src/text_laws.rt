@@ -1,5 +1,5 @@
 //! What holds of text records and of the scrap in each state that a desk reaches.
-ghost use Rattle.std.specs.Prelude.{◌≡◌, ℕ, List, Result};
+ghost use Rattle.std.specs.Prelude.{◌≡◌, false, List, [], All, Result};
 ghost use Rattle.tb_geom.specs.declared.refusal.Refusal.{Refusal};
 ghost use Rattle.desk_call.specs.declared.call.Call.{Call};
 ghost use Rattle.desk_call.specs.declared.call.Call.TheVariants.{Window};
@@ -13,6 +13,7 @@ ghost use Rattle.desk_toolbox.specs.Reached.{AreRecords, IsConsistent};
 ghost use Rattle.desk_toolbox.specs.Run.{AreCounted, IsRunOfCalls, IsStep, texts_made};
 ghost use Rattle.desk_toolbox.specs.ToolboxStates.{ToolboxState};
 ghost use Rattle.desk_laws.specs.Ordered.{AreInOrder};
+ghost use Rattle.desk_laws.specs.TextsAsked.{asks_for_text};
 
 /// The reasons to refuse a call about text records stand in the written order.
 #[tactic(auto, using(crate::proofs::TextLaws::text_reasons_in_order))]
@@ -30,6 +31,15 @@ pub fn texts_are_counted()
 /// In each state that a desk reaches no selection reaches past its text, and no text and no scrap is too long.
 pub fn text_records_are_records()
     ensures { (s : ToolboxState) → IsConsistent s → AreRecords s.texts }
+{}
+
+/// Where no call of a run asks for a text record, and there is none at first, there is none at the end. So a script that has no
+/// such call is answered as before there were text records.
+#[tactic(auto, using(crate::proofs::TextLaws::texts_only_where_asked))]
+pub fn text_records_are_there_only_where_asked()
+    ensures { (first last : ToolboxState) (calls : List Call) (answers : List (Result Reply Refusal))
+        → IsRunOfCalls first calls answers last → All (λ call. asks_for_text call ≡ false) calls
+        → first.texts.texts ≡ [] → last.texts.texts ≡ [] }
 {}
 
 /// The scrap outlives windows: no call on windows changes it.

@@ -6,6 +6,7 @@ pub mod KnownLayers
 pub mod ContentsBeside
 pub mod ContentsLeft
 pub mod Sides
+pub mod TextFacts
 pub mod EachManager
 pub mod AskingCalls
 pub mod Runs

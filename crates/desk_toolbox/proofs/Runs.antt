@@ -40,7 +40,7 @@ use Rattle.control_mgr.specs.ControlSteps.{IsControlStep}
 use Rattle.menu_mgr.specs.MenuSteps.{IsMenuStep}
 use Rattle.menu_mgr.proofs.MenuKeeps.{menu_keeps, menu_stays_right}
 use Rattle.desk_toolbox.specs.Reached.{AreContentsRight}
-use Rattle.desk_toolbox.specs.ToolboxStates.{ToolboxState, with_controls, with_lists, with_menus}
+use Rattle.desk_toolbox.specs.ToolboxStates.{ToolboxState, with_controls, with_lists, with_menus, with_texts}
 use Rattle.desk_toolbox.specs.Run.{IsWindowAnswer, IsWindowMade, IsEventAnswer, IsAdmitted, replied, IsStep, IsRunOf, IsRunOfCalls, serial_made, made, AreCounted}
 use Rattle.window_update.proofs.ServedLaws.{all_served_is_right}
 use Rattle.window_update.proofs.UpdateLaws.{update_stays_right}
@@ -58,6 +58,10 @@ use Rattle.desk_toolbox.proofs.ContentsLeft.{control_stays_right, list_stays_rig
 use Rattle.control_mgr.proofs.ControlFacts.{control_facts}
 use Rattle.list_mgr.specs.ListSteps.{IsListStep}
 use Rattle.list_mgr.proofs.ListFacts.{list_facts}
+use Rattle.text_mgr.specs.TextSteps.{IsTextStep}
+use Rattle.desk_call.specs.declared.text.TextCall.{TextCall}
+use Rattle.desk_call.specs.declared.text.TextReply.{TextReply}
+use Rattle.desk_toolbox.proofs.TextFacts.{text_facts}
 use Rattle.desk_toolbox.proofs.KeptDesks.{refused_keeps_desk}
 
 -- ---- what is right stays so
@@ -104,9 +108,9 @@ each_stays_right = record {
     right = frame_stays_right call answer before.desk after.desk was.right step;
     contents = beside_frames call answer before after step rest.controls rest.lists was.contents;
   };
-  control = λ call answer before after may step events lists menus was. control_stays_right call answer before after was step lists;
-  list = λ call answer before after may step events menus was. list_stays_right call answer before after was step;
-  menu = λ call answer before after may step events controls lists was. record {
+  control = λ call answer before after may step events lists texts menus was. control_stays_right call answer before after was step lists;
+  list = λ call answer before after may step events texts menus was. list_stays_right call answer before after was step;
+  menu = λ call answer before after may step events controls lists texts was. record {
     right = menu_stays_right call answer (with_menus before) (with_menus after) was.right step;
     contents = beside_menus call answer before after step controls lists was.contents;
   };
@@ -150,9 +154,10 @@ each_keeps_kinds = record {
   hidden = λ p before after same. same_kinds before.desk.windows after.desk.windows same.desk.windows.desk;
   update = λ call answer before after may step rest. same_kinds before.desk.windows after.desk.windows (update_keeps_desk call answer before.desk after.desk step);
   frame = λ call answer before after may step rest. frame_keeps (λ d. map (λ slot. slot.kind) d.stock) (λ d ws. refl) call answer before.desk after.desk step;
-  control = λ call answer before after may step events lists menus. ap (λ stock. map (λ slot. slot.kind) stock) (control_facts call answer (with_controls before) (with_controls after) step).0.stock;
-  list = λ call answer before after may step events menus. ap (λ (d : FullDesk). map (λ slot. slot.kind) d.stock) (list_facts call answer (with_lists before) (with_lists after) step).0.rest;
-  menu = λ call answer before after may step events controls lists. menu_keeps (λ d. map (λ slot. slot.kind) d.stock) (λ d titles. refl) call answer (with_menus before) (with_menus after) step;
+  control = λ call answer before after may step events lists texts menus. ap (λ stock. map (λ slot. slot.kind) stock) (control_facts call answer (with_controls before) (with_controls after) step).0.stock;
+  list = λ call answer before after may step events texts menus. ap (λ (d : FullDesk). map (λ slot. slot.kind) d.stock) (list_facts call answer (with_lists before) (with_lists after) step).0.rest;
+  text = λ call answer before after may step events controls lists menus. ap (λ (d : FullDesk). map (λ slot. slot.kind) d.stock) (text_facts call answer (with_texts before) (with_texts after) step).0.rest;
+  menu = λ call answer before after may step events controls lists texts. menu_keeps (λ d. map (λ slot. slot.kind) d.stock) (λ d titles. refl) call answer (with_menus before) (with_menus after) step;
   outline = λ call answer before after may step rest. same_kinds before.desk.windows after.desk.windows (outline_keeps_desk call answer before.desk after.desk step);
   moved = λ call move before after may step. window_keeps_kinds (asks.Move move) (Ok window_reply.Done) (put_down before) after step;
   event = λ call answer before after step. same_kinds before.desk.windows after.desk.windows step.desk.windows.desk;
@@ -267,6 +272,7 @@ made_by (Ok (reply.Window answer)) = serial_made answer
 made_by (Ok (reply.Frame answer)) = []
 made_by (Ok (reply.Control answer)) = []
 made_by (Ok (reply.List answer)) = []
+made_by (Ok (reply.Text answer)) = []
 made_by (Ok (reply.Menu answer)) = []
 made_by (Ok (reply.Outline answer)) = []
 made_by (Ok (reply.Event answer)) = []
@@ -312,6 +318,10 @@ list_is_counted : (call : ListCall) (answer : Result ListReply Refusal) (before 
 list_is_counted call (Ok answer) before after numbers step h = next_counted before.desk.windows after.desk.windows numbers (ap (λ (d : FullDesk). d.next) (list_facts call (Ok answer) (with_lists before) (with_lists after) step).0.rest) h
 list_is_counted call (Err e) before after numbers step h = next_counted before.desk.windows after.desk.windows numbers (ap (λ (d : FullDesk). d.next) (list_facts call (Err e) (with_lists before) (with_lists after) step).0.rest) h
 
+text_is_counted : (call : TextCall) (answer : Result TextReply Refusal) (before after : ToolboxState) (numbers : List ℕ) → IsTextStep call answer (with_texts before) (with_texts after) → AreCounted after.desk.windows.desk.next numbers → AreCounted before.desk.windows.desk.next (made_by (replied reply.Text answer) ++ numbers)
+text_is_counted call (Ok answer) before after numbers step h = next_counted before.desk.windows after.desk.windows numbers (ap (λ (d : FullDesk). d.next) (text_facts call (Ok answer) (with_texts before) (with_texts after) step).0.rest) h
+text_is_counted call (Err e) before after numbers step h = next_counted before.desk.windows after.desk.windows numbers (ap (λ (d : FullDesk). d.next) (text_facts call (Err e) (with_texts before) (with_texts after) step).0.rest) h
+
 -- the numbers of what this was answered follow, in front of others
 abbrev GoesOnCounting : Call → Result Reply Refusal → ToolboxState → ToolboxState → Type 0
 GoesOnCounting call answer before after = (numbers : List ℕ) → AreCounted after.desk.windows.desk.next numbers → AreCounted before.desk.windows.desk.next (made_by answer ++ numbers)
@@ -324,9 +334,10 @@ each_is_counted = record {
   hidden = λ p before after same numbers h. counted_on before.desk.windows after.desk.windows numbers same.desk.windows h;
   update = λ call answer before after may step rest numbers h. update_is_counted call answer before.desk after.desk numbers step h;
   frame = λ call answer before after may step rest numbers h. frame_is_counted call answer before.desk after.desk numbers step h;
-  control = λ call answer before after may step events lists menus numbers h. control_is_counted call answer before after numbers step h;
-  list = λ call answer before after may step events menus numbers h. list_is_counted call answer before after numbers step h;
-  menu = λ call answer before after may step events controls lists numbers h. menu_is_counted call answer before after numbers step h;
+  control = λ call answer before after may step events lists texts menus numbers h. control_is_counted call answer before after numbers step h;
+  list = λ call answer before after may step events texts menus numbers h. list_is_counted call answer before after numbers step h;
+  text = λ call answer before after may step events controls lists menus numbers h. text_is_counted call answer before after numbers step h;
+  menu = λ call answer before after may step events controls lists texts numbers h. menu_is_counted call answer before after numbers step h;
   outline = λ call answer before after may step rest numbers h. outline_is_counted call answer before.desk after.desk numbers step h;
   moved = λ call move before after may step numbers h. window_is_counted (asks.Move move) (Ok window_reply.Done) (put_down before) after numbers step h;
   event = λ call answer before after step numbers h. event_is_counted call answer before after numbers step h;
@@ -337,6 +348,7 @@ made_first (Ok (reply.Window answer)) answers = refl
 made_first (Ok (reply.Frame answer)) answers = refl
 made_first (Ok (reply.Control answer)) answers = refl
 made_first (Ok (reply.List answer)) answers = refl
+made_first (Ok (reply.Text answer)) answers = refl
 made_first (Ok (reply.Menu answer)) answers = refl
 made_first (Ok (reply.Outline answer)) answers = refl
 made_first (Ok (reply.Event answer)) answers = refl
