@@ -35,6 +35,7 @@ use Rattle.desk_laws.proofs.LiveDefinitions.{step_keeps_live}
 use Rattle.desk_laws.proofs.KeptClasses.{step_stays_classed}
 use Rattle.desk_toolbox.proofs.TrackedControls.{control_stands, none_used_at}
 use Rattle.desk_toolbox.proofs.ListStands.{begun_contents, list_stands}
+use Rattle.desk_toolbox.proofs.TextStands.{text_stands}
 use Rattle.desk_laws.proofs.GivenBars.{step_keeps_bars}
 use Rattle.control_mgr.specs.InUse.{AreStocked}
 use Rattle.control_mgr.specs.WholeControls.{IsTrackable}
@@ -53,6 +54,7 @@ each_stands = record {
   frame = λ call answer before after may step rest was right. frame_stands call answer before after may was right step rest;
   control = λ call answer before after may step events lists texts menus was right. control_stands call answer before after may was right step events menus;
   list = λ call answer before after may step events texts menus was right. list_stands call answer before after may was right step events menus;
+  text = λ call answer before after may step events controls lists menus was right. text_stands call answer before after may was right step events controls menus;
   menu = λ call answer before after may step events controls lists texts was right. menu_stands call answer before after may was right step events;
   outline = λ call answer before after may step rest was right. outline_stands call answer before after may was right step rest;
   moved = λ call move before after may step was right. window_stands (window_calls.Move move) (Ok window_reply.Done) (put_down before) after refl (put_down_stands before (outline_comes_then call before.desk.activity may) was) right step;

@@ -37,6 +37,7 @@ use Rattle.desk_toolbox.proofs.Stands.{Stands, stands}
 use Rattle.desk_toolbox.proofs.Totals.{ordinary_is_present}
 use Rattle.desk_toolbox.proofs.TrackedControls.{control_counts}
 use Rattle.desk_toolbox.proofs.ListStands.{list_counts}
+use Rattle.desk_toolbox.proofs.TextStands.{text_counts}
 use Rattle.desk_toolbox.proofs.KeptDesks.{refused_keeps_desk}
 use Rattle.desk_toolbox.proofs.Telling.{forgotten_if, left_after, telling_on, event_tells, told_if}
 use Rattle.desk_laws.proofs.Consistent.{step_keeps_consistent, just_begun_is_consistent}

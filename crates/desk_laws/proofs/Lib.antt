@@ -8,6 +8,7 @@ pub mod KeptScreens
 pub mod HeldWindows
 pub mod ControlNumbers
 pub mod ListNumbers
+pub mod TextLaws
 pub mod GivenBars
 pub mod Consistent
 pub mod Histories

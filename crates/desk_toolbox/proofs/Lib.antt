@@ -36,6 +36,7 @@ pub mod PulledSteps
 pub mod MenuStands
 pub mod TrackedControls
 pub mod ListStands
+pub mod TextStands
 pub mod ControlsAside
 pub mod ListsAside
 pub mod MenusBeside

@@ -1,5 +1,5 @@
 -- What any call about text records leaves of the rest of a desk.
-use Rattle.std.proofs.Common.{◌≡◌, ℕ, true, false, List, map, Option, Some, Result, Ok, Err, refl, ap, ◌∙◌}
+use Rattle.std.proofs.Common.{◌≡◌, ℕ, Bool, true, false, List, map, Option, Some, Result, Ok, Err, refl, ap, ◌∙◌}
 use Rattle.tb_geom.specs.declared.refusal.Refusal.{Refusal}
 use Rattle.desk_layers.specs.declared.part.Part.{Part}
 use Rattle.desk_call.specs.declared.activity.Activity.{Activity}
@@ -78,7 +78,7 @@ module _ (before after : TextDesk) where
   scrap_set : (bytes : List ℕ) → IsScrapSet bytes before after → KeepsNext before after
   scrap_set bytes done = record { beside = same_desk (ap (λ (s : FullState). s.desk) done.windows); next = ap (λ (s : TextsState). s.next) done.texts }
 
-  clicked : (b : _) (c : ClickText) (mode : ClickMode) (r : Record) (answer : TextReply) → IsOpenedIf b c mode r answer before after → KeepsNext before after
+  clicked : (b : Bool) (c : ClickText) (mode : ClickMode) (r : Record) (answer : TextReply) → IsOpenedIf b c mode r answer before after → KeepsNext before after
   clicked false c mode r answer (is, same) = still same
   clicked true c mode r answer (is, opens, done) = shown_anew c.text _ _ done
 

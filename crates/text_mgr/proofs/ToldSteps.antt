@@ -38,6 +38,21 @@ is_in true x y e = absurd (cc)
 is_in false x y e = (refl, cc)
 
 module _ {V : Type 0} {H : V → Type 0} (loan : TakenBox V H → WindowLoan) (t : WindowManager V H) (m : Texts) (s : TextAt) where
+  module _ (n : TextNumber) (is : IsSpotOf loan n.text t m s) where
+    -- an offset is named where the number lies in the range of offsets
+    abbrev offset_if : Option ℕ
+    offset_if = if is_outside (pos 0) (pos 32767) n.number then None else Some (nat_abs n.number)
+
+    reasons : (others : List ℕ → Part → PixelSet) (slots : List WindowSlot) → first_refusal (text_refusals (asks.PlaceOf n) (desk_seen loan others t slots m) (texts_state m))
+        ≡ first_refusal ((is_outside (pos 0) (pos 32767) n.number, OutOfRange) ∷ [])
+    reasons others slots = other_reasons loan n.text t m s is (λ r. (is_outside (pos 0) (pos 32767) n.number, OutOfRange) ∷ [])
+
+    -- where the number is no offset
+    pub no_offset : offset_if ≡ None → (o : Opened) → LeavesTexts loan (IsTextStep (asks.PlaceOf n) (Err OutOfRange)) t o m t o m
+    no_offset e o =
+        refused_by loan (asks.PlaceOf n) (Err OutOfRange) OutOfRange t o m refl (λ others slots.
+        reasons others slots ∙ (λ i. first_refusal ((is_out (is_outside (pos 0) (pos 32767) n.number) (nat_abs n.number) e i, OutOfRange) ∷ [])))
+
   module _ (n : TextNumber) (is : IsSpotOf loan n.text t m s) (y : KeptText) (here : y ≡ get_or m.list.items.items s.text y) where
     abbrev there : KeptText
     there = (record_there loan n.text t m s is).item
@@ -63,22 +78,8 @@ module _ {V : Type 0} {H : V → Type 0} (loan : TakenBox V H → WindowLoan) (t
         ∙ (λ i. first_refusal ((not (may.0 i), OutOfRange) ∷ [])))
         (λ others slots. (there, named_there loan n.text t m s is, (may.1 ∙ ap (λ (z : KeptText). line_told (nat_abs n.number) z.kept) (sym item_is), unchanged loan others t o slots m)))
 
-    -- an offset is named where the number lies in the range of offsets
-    abbrev offset_if : Option ℕ
-    offset_if = if is_outside (pos 0) (pos 32767) n.number then None else Some (nat_abs n.number)
-
-    reasons : (others : List ℕ → Part → PixelSet) (slots : List WindowSlot) → first_refusal (text_refusals (asks.PlaceOf n) (desk_seen loan others t slots m) (texts_state m))
-        ≡ first_refusal ((is_outside (pos 0) (pos 32767) n.number, OutOfRange) ∷ [])
-    reasons others slots = other_reasons loan n.text t m s is (λ r. (is_outside (pos 0) (pos 32767) n.number, OutOfRange) ∷ [])
-
-    -- where the number is no offset
-    pub no_offset : offset_if ≡ None → (o : Opened) → LeavesTexts loan (IsTextStep (asks.PlaceOf n) (Err OutOfRange)) t o m t o m
-    no_offset e o =
-        refused_by loan (asks.PlaceOf n) (Err OutOfRange) OutOfRange t o m refl (λ others slots.
-        reasons others slots ∙ (λ i. first_refusal ((is_out (is_outside (pos 0) (pos 32767) n.number) (nat_abs n.number) e i, OutOfRange) ∷ [])))
-
-    pub place_tells : (at : ℕ) (answer : TextReply) → offset_if ≡ Some at → answer ≡ place_told at y.kept → (o : Opened) → LeavesTexts loan (IsTextStep (asks.PlaceOf n) (Ok answer)) t o m t o m
+    pub place_tells : (at : ℕ) (answer : TextReply) → offset_if n is ≡ Some at → answer ≡ place_told at y.kept → (o : Opened) → LeavesTexts loan (IsTextStep (asks.PlaceOf n) (Ok answer)) t o m t o m
     place_tells at answer e told_is o =
         let may = is_in (is_outside (pos 0) (pos 32767) n.number) (nat_abs n.number) at e in
-        told loan (asks.PlaceOf n) answer t o m (λ others slots. reasons others slots ∙ (λ i. first_refusal ((may.0 i, OutOfRange) ∷ [])))
+        told loan (asks.PlaceOf n) answer t o m (λ others slots. reasons n is others slots ∙ (λ i. first_refusal ((may.0 i, OutOfRange) ∷ [])))
         (λ others slots. (there, named_there loan n.text t m s is, (told_is ∙ (λ i. place_told (may.1 i) (sym item_is i).kept), unchanged loan others t o slots m)))

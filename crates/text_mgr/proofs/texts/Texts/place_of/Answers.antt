@@ -12,4 +12,4 @@ returns-in-Some g c o =
 pub returns-in-None : goal.returns-in-None
 returns-in-None g c o =
     let number : SFits w32 c.args.asked.number = search rules in
-    no_offset _ c.args.windows.now c.args.self.now c.in_ok-spot.spot c.args.asked c.in_ok-spot.ensures c.index.result.now c.index.ensures (sym (simp to_z-of_z at c.offset_named.ensures) ∙ c.in-None.is) o
+    no_offset _ c.args.windows.now c.args.self.now c.in_ok-spot.spot c.args.asked c.in_ok-spot.ensures (sym (simp to_z-of_z at c.offset_named.ensures) ∙ c.in-None.is) o
