@@ -27,6 +27,8 @@ use Rattle.desk_call.specs.declared.menu.MenuCall.{MenuCall}
 use Rattle.desk_call.specs.declared.menu.MenuReply.{MenuReply}
 use Rattle.desk_call.specs.declared.outline.OutlineCall.{OutlineCall}
 use Rattle.desk_call.specs.declared.outline.OutlineReply.{OutlineReply}
+use Rattle.desk_call.specs.declared.text.TextCall.{TextCall}
+use Rattle.desk_call.specs.declared.text.TextReply.{TextReply}
 use Rattle.desk_call.specs.declared.update.UpdateCall.{UpdateCall}
 use Rattle.desk_call.specs.declared.window.MoveWindow.{MoveWindow}
 use Rattle.desk_call.specs.declared.window.WindowCall.{WindowCall}
@@ -43,11 +45,12 @@ use Rattle.menu_mgr.specs.MenuSteps.{IsMenuStep}
 use Rattle.control_mgr.specs.ControlSteps.{IsControlStep}
 use Rattle.list_mgr.specs.ListDesks.{KeptList, list_of}
 use Rattle.list_mgr.specs.ListSteps.{IsClickOn, IsListEffect, IsListStep, appended, clicked_at, with_columns_fewer, with_columns_more, with_grid, with_rows_fewer, with_rows_more, with_scroll}
+use Rattle.text_mgr.specs.TextSteps.{IsTextStep}
 use Rattle.desk_toolbox.specs.Reached.{IsConsistent}
 use Rattle.desk_toolbox.specs.Run.{IsGated, IsLetGo, IsOutlineMade, IsStep, IsWindowMade, replied}
-use Rattle.desk_toolbox.specs.ToolboxStates.{ToolboxState, with_controls, with_lists, with_menus}
+use Rattle.desk_toolbox.specs.ToolboxStates.{ToolboxState, with_controls, with_lists, with_menus, with_texts}
 use Rattle.desk_toolbox.proofs.ContentsBeside.{IsRightToolbox}
-use Rattle.desk_laws.proofs.PartsThere.{alone}
+use Rattle.desk_toolbox.proofs.ContentsLeft.{right_lists}
 use Rattle.desk_toolbox.proofs.EachManager.{HoldsOfEach, of_step}
 use Rattle.desk_toolbox.proofs.Outlined.{outline_unchanged}
 use Rattle.desk_toolbox.proofs.Runs.{step_stays_right}
@@ -58,6 +61,7 @@ use Rattle.desk_laws.proofs.HiddenControls.{hidden_changes}
 use Rattle.desk_laws.proofs.ListChanges.{Edits, cells_change, lines_change, selection_change, unselected_change}
 use Rattle.desk_laws.proofs.MadeLists.{list_made_changes}
 use Rattle.desk_laws.proofs.ManagerChanges.{control_changes, frame_changes, menu_changes, update_changes}
+use Rattle.desk_laws.proofs.TextChanges.{right_texts, text_changes}
 use Rattle.desk_laws.proofs.WindowChanges.{done_changes, refused_unchanged, unchanged_changes}
 
 abbrev ChangesBy : Change → ToolboxState → ToolboxState → Type 0
@@ -92,8 +96,8 @@ module _ (before after : ToolboxState) (was : IsRightToolbox before) (are : IsRi
   clicked_changes k x (Some c) answer named (is, done) = selection_change k.list (λ flags. clicked_cell flags (keys_of (nat_abs k.modifiers)) c) before after was.right was.contents done
 
   list_changes : (call : ListCall) (answer : ListReply) → IsListEffect call answer (with_lists before) (with_lists after) → ChangesBy (change_of_list call before after) before after
-  list_changes (lists.New n) answer (serial, is, done) = list_made_changes n serial before after (alone before was) (alone after are) done
-  list_changes (lists.Dispose l) answer done = list_gone_changes l (with_lists before) (with_lists after) (alone before was) (alone after are) done.1
+  list_changes (lists.New n) answer (serial, is, done) = list_made_changes n serial before after (right_lists before was) (right_lists after are) done
+  list_changes (lists.Dispose l) answer done = list_gone_changes l (with_lists before) (with_lists after) (right_lists before was) (right_lists after are) done.1
   list_changes (lists.AddRows n) answer done = lines_change n.list (with_rows_more n.count n.at) (rows_more_edit n.count n.at) before after was.right are.right done.1
   list_changes (lists.AddColumns n) answer done = lines_change n.list (with_columns_more n.count n.at) (columns_more_edit n.count n.at) before after was.right are.right done.1
   list_changes (lists.DeleteRows n) answer done = lines_change n.list (with_rows_fewer n.count n.at) (rows_fewer_edit n.count n.at) before after was.right are.right done.1
@@ -124,6 +128,7 @@ refused_changes (calls.Update call) e before after same = λ was are. nothing be
 refused_changes (calls.Frame call) e before after same = λ was are. nothing before after was are same
 refused_changes (calls.Control call) e before after same = λ was are. nothing before after was are same
 refused_changes (calls.List call) e before after same = λ was are. nothing before after was are same
+refused_changes (calls.Text call) e before after same = λ was are. nothing before after was are same
 refused_changes (calls.Menu call) e before after same = λ was are. nothing before after was are same
 refused_changes (calls.Event call) e before after same = λ was are. nothing before after was are same
 
@@ -141,12 +146,16 @@ frame_so call (Err e) before after step was are = nothing before after was are s
 
 control_so : (call : ControlCall) (answer : Result ControlReply Refusal) (before after : ToolboxState) → IsControlStep call answer (with_controls before) (with_controls after) → ChangesSo (calls.Control call) (replied reply.Control answer) before after
 control_so call (Ok answer) before after step was are = control_changes call answer before after was.right are.right
-    (λ c done. hidden_changes c (with_lists before) (with_lists after) (alone before was) (alone after are) done) step.1
+    (λ c done. hidden_changes c (with_lists before) (with_lists after) (right_lists before was) (right_lists after are) done) step.1
 control_so call (Err e) before after step was are = nothing before after was are step.1.desk.windows
 
 list_so : (call : ListCall) (answer : Result ListReply Refusal) (before after : ToolboxState) → IsListStep call answer (with_lists before) (with_lists after) → ChangesSo (calls.List call) (replied reply.List answer) before after
 list_so call (Ok answer) before after step was are = list_changes before after was are call answer step.1
 list_so call (Err e) before after step was are = nothing before after was are step.1.desk.windows
+
+text_so : (call : TextCall) (answer : Result TextReply Refusal) (before after : ToolboxState) → IsTextStep call answer (with_texts before) (with_texts after) → ChangesSo (calls.Text call) (replied reply.Text answer) before after
+text_so call (Ok answer) before after step was are = text_changes call answer before after (right_texts before was) (right_texts after are) step.1
+text_so call (Err e) before after step was are = nothing before after was are step.1.desk.windows
 
 menu_so : (call : MenuCall) (answer : Result MenuReply Refusal) (before after : ToolboxState) → IsMenuStep call answer (with_menus before) (with_menus after) → ChangesSo (calls.Menu call) (replied reply.Menu answer) before after
 menu_so call (Ok answer) before after step was are = menu_changes call (Ok answer) (with_menus before) (with_menus after) was.right step
@@ -166,6 +175,7 @@ each_changes_so = record {
   frame = λ call answer before after may step rest. frame_so call answer before after step;
   control = λ call answer before after may step events lists texts menus. control_so call answer before after step;
   list = λ call answer before after may step events texts menus. list_so call answer before after step;
+  text = λ call answer before after may step events controls lists menus. text_so call answer before after step;
   menu = λ call answer before after may step events controls lists texts. menu_so call answer before after step;
   outline = λ call answer before after may step rest. tt;
   moved = λ call move before after may step. tt;
@@ -220,5 +230,6 @@ each_changes call answer before after consistent step = by_call call refl
     by_call (calls.Frame c) is = subst (λ c. ChangesBy (change_of_call c answer before after) before after) (sym is) (subst (λ c. ChangesSo c answer before after) is of_managers was are)
     by_call (calls.Control c) is = subst (λ c. ChangesBy (change_of_call c answer before after) before after) (sym is) (subst (λ c. ChangesSo c answer before after) is of_managers was are)
     by_call (calls.List c) is = subst (λ c. ChangesBy (change_of_call c answer before after) before after) (sym is) (subst (λ c. ChangesSo c answer before after) is of_managers was are)
+    by_call (calls.Text c) is = subst (λ c. ChangesBy (change_of_call c answer before after) before after) (sym is) (subst (λ c. ChangesSo c answer before after) is of_managers was are)
     by_call (calls.Menu c) is = subst (λ c. ChangesBy (change_of_call c answer before after) before after) (sym is) (subst (λ c. ChangesSo c answer before after) is of_managers was are)
     by_call (calls.Event c) is = subst (λ c. ChangesBy (change_of_call c answer before after) before after) (sym is) (subst (λ c. ChangesSo c answer before after) is of_managers was are)

@@ -36,5 +36,6 @@ pub mod ShownKinds
 pub mod GoneParts
 pub mod GoneLists
 pub mod HiddenControls
+pub mod TextChanges
 pub mod EachChange
 pub mod HeadlineLaws
