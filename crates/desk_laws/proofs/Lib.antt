@@ -36,6 +36,8 @@ pub mod ShownKinds
 pub mod GoneParts
 pub mod GoneLists
 pub mod HiddenControls
+pub mod SelectionsStay
+pub mod HeldTexts
 pub mod TextChanges
 pub mod EachChange
 pub mod HeadlineLaws
