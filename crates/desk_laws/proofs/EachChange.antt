@@ -1,8 +1,11 @@
 -- What any call changes of pixels is its change.
-use Rattle.std.proofs.Common.{◌≡◌, ℤ, [], Option, None, Some, Result, Ok, Err, refl, sym, ap, subst}
+use Rattle.std.proofs.Common.{◌≡◌, ◌∙◌, ℕ, ℤ, List, [], Option, None, Some, Result, Ok, Err, refl, sym, ap, subst}
 use Rattle.std.specs.Prelude.{nat_abs}
 use Rattle.std.specs.Option.{option_map_or}
 use Rattle.tb_geom.specs.declared.refusal.Refusal.{Refusal}
+use Rattle.tb_geom.specs.declared.point.Point.{Point}
+use Rattle.desk_layers.specs.declared.part.Part.{Part}
+use Rattle.desk_layers.specs.declared.part.Part.TheVariants as part
 use Rattle.desk_layers.specs.Change.{Change, IsChanged, no_change}
 use Rattle.list_cells.specs.declared.cell.Cell.{Cell}
 use Rattle.list_cells.specs.Blocks.{clicked_cell}
@@ -42,10 +45,14 @@ use Rattle.window_update.specs.UpdateSteps.{IsUpdateStep}
 use Rattle.window_frame.specs.FrameSteps.{IsFrameStep}
 use Rattle.window_outline.specs.Outlining.{let_go_of}
 use Rattle.menu_mgr.specs.MenuSteps.{IsMenuStep}
+use Rattle.window_paint.specs.White.{all_white}
+use Rattle.control_mgr.specs.ControlDesks.{ControlRecord, controls_show}
 use Rattle.control_mgr.specs.ControlSteps.{IsControlStep}
-use Rattle.list_mgr.specs.ListDesks.{KeptList, list_of}
+use Rattle.list_mgr.specs.ListDesks.{KeptList, list_of, lists_show}
 use Rattle.list_mgr.specs.ListSteps.{IsClickOn, IsListEffect, IsListStep, appended, clicked_at, with_columns_fewer, with_columns_more, with_grid, with_rows_fewer, with_rows_more, with_scroll}
+use Rattle.text_mgr.specs.TextDesks.{KeptText, texts_show}
 use Rattle.text_mgr.specs.TextSteps.{IsTextStep}
+use Rattle.text_mgr.proofs.TextsKept.{IsRightDesk}
 use Rattle.desk_toolbox.specs.Reached.{IsConsistent}
 use Rattle.desk_toolbox.specs.Run.{IsGated, IsLetGo, IsOutlineMade, IsStep, IsWindowMade, replied}
 use Rattle.desk_toolbox.specs.ToolboxStates.{ToolboxState, with_controls, with_lists, with_menus, with_texts}
@@ -61,7 +68,7 @@ use Rattle.desk_laws.proofs.HiddenControls.{hidden_changes}
 use Rattle.desk_laws.proofs.ListChanges.{Edits, cells_change, lines_change, selection_change, unselected_change}
 use Rattle.desk_laws.proofs.MadeLists.{list_made_changes}
 use Rattle.desk_laws.proofs.ManagerChanges.{control_changes, frame_changes, menu_changes, update_changes}
-use Rattle.desk_laws.proofs.TextChanges.{right_texts, text_changes}
+use Rattle.desk_laws.proofs.TextChanges.{text_changes}
 use Rattle.desk_laws.proofs.WindowChanges.{done_changes, refused_unchanged, unchanged_changes}
 
 abbrev ChangesBy : Change → ToolboxState → ToolboxState → Type 0
@@ -114,6 +121,23 @@ module _ (before after : ToolboxState) (was : IsRightToolbox before) (are : IsRi
   list_changes (lists.NextCell n) answer done = nothing done.1.desk.windows
   list_changes (lists.Search t) answer done = nothing done.1.desk.windows
   list_changes (lists.SetDrawing d) answer (is, change, same) = nothing same.windows
+
+-- ---- text records
+
+-- whatever layers are kept first, they show the same
+show_alike : (cs : List ControlRecord) (ls : List KeptList) (ts : List KeptText) (font : List ℕ) (q : Part) (p : Point)
+    → controls_show (lists_show (texts_show (λ f. all_white) ts) ls) cs font q p ≡ texts_show (controls_show (lists_show (λ f. all_white) ls) cs) ts font q p
+show_alike cs ls ts font part.Picture p = refl
+show_alike cs ls ts font (part.Control n) p = refl
+show_alike cs ls ts font (part.List n) p = refl
+show_alike cs ls ts font (part.Text n) p = refl
+
+right_texts : (s : ToolboxState) → IsRightToolbox s → IsRightDesk (with_texts s)
+right_texts s was = record {
+  right = was.right;
+  shows = was.contents.shown ∙ (λ i q p. show_alike s.controls.controls s.lists.lists s.texts.texts s.desk.windows.desk.font q p i);
+  whole = was.contents.texts;
+}
 
 -- ---- each manager
 

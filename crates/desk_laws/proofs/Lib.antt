@@ -9,6 +9,7 @@ pub mod HeldWindows
 pub mod ControlNumbers
 pub mod ListNumbers
 pub mod TextLaws
+pub mod TextsAsked
 pub mod GivenBars
 pub mod Consistent
 pub mod Histories

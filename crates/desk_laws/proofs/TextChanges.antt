@@ -36,10 +36,7 @@ use Rattle.vis_update.specs.Relayings.{afresh_change}
 use Rattle.window_paint.specs.Kinds.{is_of}
 use Rattle.window_mgr.specs.Effects.{IsUnchanged}
 use Rattle.window_mgr.specs.FullDesk.{FullDesk, FullState, layered_desk, layered_state}
-use Rattle.window_paint.specs.White.{all_white}
-use Rattle.control_mgr.specs.ControlDesks.{ControlRecord, controls_show}
 use Rattle.control_mgr.proofs.ControlBits.{bare}
-use Rattle.list_mgr.specs.ListDesks.{KeptList, lists_show}
 use Rattle.text_mgr.specs.TextDesks.{KeptText, TextDesk, TextsState, texts_show}
 use Rattle.text_mgr.specs.TextLayers.{AreTextLayersOf, IsLayerOf}
 use Rattle.text_mgr.specs.TextSteps.{IsOpenedIf, IsSelected, IsTextChanged, IsTextEdited, IsTextEffect, IsTextLaid, IsTextShownAnew}
@@ -57,7 +54,6 @@ use Rattle.desk_laws.proofs.ManagerChanges.{same_windows}
 use Rattle.desk_laws.proofs.PartsThere.{HasSuch, is_part, no_part, owners_are, plain_part}
 use Rattle.desk_laws.proofs.WindowChanges.{same_but_shows, unchanged_changes}
 use Rattle.desk_toolbox.specs.ToolboxStates.{ToolboxState, with_texts}
-use Rattle.desk_toolbox.proofs.ContentsBeside.{IsRightToolbox}
 
 by_test : {X : Type 0} (b : Bool) → (b ≡ true → X) → (b ≡ false → X) → X
 by_test true on off = on refl
@@ -229,23 +225,6 @@ hidden_changes t before after was are done =
         (λ w joined q. no_part t.window w.serial (part.Text t.text) (part_at w.layers q)
         (λ e. hidden_has_none t.text w.layers (items_of w.serial after.texts.texts) q joined (hidden_in t.text w.serial after.texts.texts hidden)))
         after.desk.windows.desk.windows are.whole.joined) p
-
--- ---- a right Toolbox, as a desk with its text records
-
--- whatever layers are kept first, they show the same
-show_alike : (cs : List ControlRecord) (ls : List KeptList) (ts : List KeptText) (font : List ℕ) (q : Part) (p : Point)
-    → controls_show (lists_show (texts_show (λ f. all_white) ts) ls) cs font q p ≡ texts_show (controls_show (lists_show (λ f. all_white) ls) cs) ts font q p
-show_alike cs ls ts font part.Picture p = refl
-show_alike cs ls ts font (part.Control n) p = refl
-show_alike cs ls ts font (part.List n) p = refl
-show_alike cs ls ts font (part.Text n) p = refl
-
-pub right_texts : (s : ToolboxState) → IsRightToolbox s → IsRightDesk (with_texts s)
-right_texts s was = record {
-  right = was.right;
-  shows = was.contents.shown ∙ (λ i q p. show_alike s.controls.controls s.lists.lists s.texts.texts s.desk.windows.desk.font q p i);
-  whole = was.contents.texts;
-}
 
 -- ---- any call
 

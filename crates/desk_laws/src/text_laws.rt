@@ -35,7 +35,7 @@ pub fn text_records_are_records()
 
 /// Where no call of a run asks for a text record, and there is none at first, there is none at the end. So a script that has no
 /// such call is answered as before there were text records.
-#[tactic(auto, using(crate::proofs::TextLaws::texts_only_where_asked))]
+#[tactic(auto, using(crate::proofs::TextsAsked::texts_only_where_asked))]
 pub fn text_records_are_there_only_where_asked()
     ensures { (first last : ToolboxState) (calls : List Call) (answers : List (Result Reply Refusal))
         → IsRunOfCalls first calls answers last → All (λ call. asks_for_text call ≡ false) calls
@@ -43,7 +43,7 @@ pub fn text_records_are_there_only_where_asked()
 {}
 
 /// The scrap outlives windows: no call on windows changes it.
-#[tactic(auto, using(crate::proofs::TextLaws::scrap_stays))]
+#[tactic(auto, using(crate::proofs::TextsAsked::scrap_stays))]
 pub fn the_scrap_outlives_windows()
     ensures { (call : WindowCall) (answer : Result Reply Refusal) (before after : ToolboxState)
         → IsStep (Window call) answer before after → after.texts.scrap ≡ before.texts.scrap }
