@@ -1,22 +1,28 @@
 -- After any call about text records no selection reaches past its text, and no text and no scrap is too long.
 use Rattle.std.proofs.Common.{◌≡◌, ℕ, zero, suc, ◌≤◌, ◌-◌, Bool, true, false, not, ◌&&◌, cond, List, [], ◌∷◌, ◌++◌, length, Option, None, Some, Result, Ok, Err, refl, sym, ap, ◌∙◌, subst, arith}
-use Rattle.std.specs.Prelude.{All, nat_abs, slice_get, slice_range, is_none}
+use Rattle.std.specs.Prelude.{All, Contains, nat_abs, pos, slice_get, slice_range, is_none}
 use Rattle.std.specs.List.{remove}
 use Rattle.std.specs.Option.{option_and_then, option_map_or}
 use Rattle.std.proofs.lemmas.Bool.{false≢true}
 use Rattle.std.proofs.lemmas.Bool.Decides.{nat_tests}
-use Rattle.std.proofs.lemmas.List.Elements.{All-cons, All-head, All-nil, All-tail}
+use Rattle.std.proofs.lemmas.List.Elements.{All-cons, All-contains, All-head, All-nil, All-tail}
 use Rattle.tb_geom.specs.declared.point.Point.{Point}
 use Rattle.tb_geom.specs.declared.refusal.Refusal.{Refusal}
 use Rattle.tb_geom.specs.declared.refusal.Refusal.TheVariants.{NoSuchText, NoSuchWindow, OutOfRange, TooLong}
 use Rattle.tb_geom.specs.Refusals.{first_refusal}
 use Rattle.desk_call.specs.declared.activity.Activity.{Activity}
 use Rattle.desk_call.specs.declared.activity.Activity.TheVariants.{Idle, Updating, Tracking, Pulling, TrackingControl, Dragging, Growing, Selecting}
+use Rattle.desk_call.specs.declared.call.Call.{Call}
+use Rattle.desk_call.specs.declared.call.Reply.{Reply}
 use Rattle.desk_call.specs.declared.text.ClickText.{ClickText}
 use Rattle.desk_call.specs.declared.text.TextCall.{TextCall}
 use Rattle.desk_call.specs.declared.text.TextCall.TheVariants as call
 use Rattle.desk_call.specs.declared.text.TextOf.{TextOf}
 use Rattle.desk_call.specs.declared.text.TextReply.{TextReply}
+use Rattle.desk_call.specs.declared.window.WindowCall.{WindowCall}
+use Rattle.desk_call.specs.declared.window.WindowCall.TheVariants as windows
+use Rattle.desk_call.specs.declared.window.WindowReply.{WindowReply}
+use Rattle.desk_call.specs.declared.window.WindowReply.TheVariants as window_reply
 use Rattle.text_record.specs.declared.placing.Justification.{Justification}
 use Rattle.text_record.specs.Changes.{is_too_long, justified, placed, shown_as}
 use Rattle.text_record.specs.Places.{offset_at}
@@ -28,12 +34,15 @@ use Rattle.window_items.specs.Items.{edit_at, with_kept}
 use Rattle.window_mgr.specs.FullDesk.{FullDesk}
 use Rattle.window_mgr.specs.Refused.{is_missing}
 use Rattle.control_mgr.proofs.Steps.{none_hold}
-use Rattle.text_mgr.specs.CallEdits.{are_too_many, edit_refusals, edited, scrap_after}
+use Rattle.text_mgr.specs.CallEdits.{are_too_many, edit_refusals, edited, is_outside, scrap_after}
 use Rattle.text_mgr.specs.TextDesks.{IsTextDeskUnchanged, KeptText, TextDesk, TextsState, index_of, text_of}
 use Rattle.text_mgr.specs.TextPlaces.{justification_of, placing_of}
 use Rattle.text_mgr.specs.TextRefusals.{named_refusals, text_refusals}
 use Rattle.text_mgr.specs.TextSteps.{IsOpenedIf, IsScrapSet, IsSelected, IsTextChanged, IsTextDisposed, IsTextEdited, IsTextEffect, IsTextLaid, IsTextMade, IsTextShownAnew, IsTextStep}
 use Rattle.text_mgr.specs.WholeTexts.{IsSelectable}
+use Rattle.desk_toolbox.specs.Run.{AreTextsLeft, IsStep, IsWindowMade, put_down}
+use Rattle.desk_toolbox.specs.ToolboxStates.{ToolboxState, with_texts}
+use Rattle.desk_toolbox.proofs.EachManager.{HoldsOfEach, of_step}
 use Rattle.desk_laws.proofs.SelectionsStay.{IsAnchorIn, IsHeld, anchor_in, deleted_held, extended_held, inserted_held, keyed_held, pasted_held, range_few, selected_held, set_held}
 
 -- ---- each text record, and the scrap
@@ -81,10 +90,11 @@ held_named t ts x held named = by_place (index_of t ts) refl
 
 -- ---- why an edit was not refused
 
-judged_none : (t : TextOf) (judged : Record → _) (d : FullDesk) (ts : List KeptText) (x : KeptText) → text_of t ts ≡ Some x → first_refusal (named_refusals t judged d ts) ≡ None → first_refusal (judged x.kept) ≡ None
+judged_none : (t : TextOf) (judged : Record → List (Bool × Refusal)) (d : FullDesk) (ts : List KeptText) (x : KeptText) → text_of t ts ≡ Some x → first_refusal (named_refusals t judged d ts) ≡ None → first_refusal (judged x.kept) ≡ None
 judged_none t judged d ts x named none =
-    let first = none_hold (is_missing t.window d.windows) NoSuchWindow _ none in
-    let second = none_hold (is_none (index_of t ts)) NoSuchText _ first.1 in
+    let rest : List (Bool × Refusal) = option_map_or (λ (y : KeptText). judged y.kept) (text_of t ts) [] in
+    let first = none_hold (is_missing t.window d.windows) NoSuchWindow ((is_none (index_of t ts), NoSuchText) ∷ rest) none in
+    let second = none_hold (is_none (index_of t ts)) NoSuchText rest first.1 in
     sym (ap (λ o. first_refusal (option_map_or (λ (y : KeptText). judged y.kept) o [])) named) ∙ second.1
 
 few_bytes : (bytes : List ℕ) → are_too_many bytes ≡ false → length bytes ≤ 255
@@ -102,13 +112,13 @@ and_false false b e h = absurd (false≢true h)
 edited_held : (c : TextCall) (scrap : List ℕ) (r : Record) → IsHeld r → first_refusal (edit_refusals c scrap r) ≡ None → IsHeld (edited c scrap r)
 edited_held (call.Set b) scrap r was none = set_held r was b.bytes (few_bytes b.bytes (none_hold (are_too_many b.bytes) TooLong [] none).0)
 edited_held (call.Insert b) scrap r was none =
-    let first = none_hold (are_too_many b.bytes) TooLong _ none in
+    let first = none_hold (are_too_many b.bytes) TooLong ((is_too_long r.start r.start b.bytes r, TooLong) ∷ []) none in
     inserted_held r was b.bytes (none_hold (is_too_long r.start r.start b.bytes r) TooLong [] first.1).0
 edited_held (call.Delete t) scrap r was none = deleted_held r was
 edited_held (call.Key n) scrap r was none =
-    let first = none_hold _ OutOfRange _ none in
+    let first = none_hold (is_outside (pos 0) (pos 255) n.number) OutOfRange ((is_typed (nat_abs n.number) && is_too_long r.start r.end (nat_abs n.number ∷ []) r, TooLong) ∷ []) none in
     let second = none_hold (is_typed (nat_abs n.number) && is_too_long r.start r.end (nat_abs n.number ∷ []) r) TooLong [] first.1 in
-    keyed_held r was (nat_abs n.number) (λ typed. and_false _ _ second.0 typed)
+    keyed_held r was (nat_abs n.number) (λ typed. and_false (is_typed (nat_abs n.number)) (is_too_long r.start r.end (nat_abs n.number ∷ []) r) second.0 typed)
 edited_held (call.Cut t) scrap r was none = deleted_held r was
 edited_held (call.Paste t) scrap r was none = pasted_held r was scrap (none_hold (is_too_long r.start r.end scrap r) TooLong [] none).0
 edited_held (call.Select z) scrap r was none = selected_held r was z.start z.end (is_so (is_selection z.start z.end) (none_hold (not (is_selection z.start z.end)) OutOfRange [] none).0)
@@ -166,7 +176,7 @@ module _ (before after : TextDesk) (was : AreHeld before.texts) where
       one_some a b e = cc
 
   step_held : (a now : Activity) (p : Point) (answer : TextReply) → IsSelectable a before.texts.texts → IsSelected a now p answer before after → AreHeld after.texts
-  step_held (Selecting k) now p answer (t, there, (order, within)) (opens, (x, named, (is, done))) =
+  step_held (Selecting k) now p answer (t, there, order, within) (opens, (x, named, (is, done))) =
       changed_held k.text (extended_to k.anchor k.mode p) before.texts.scrap done.changed was.scrap
       (λ y its held.
       let same : t ≡ y = one_some t y (sym there ∙ its) in
@@ -222,3 +232,49 @@ module _ (before after : TextDesk) (was : AreHeld before.texts) where
   pub text_held : (c : TextCall) (result : Result TextReply Refusal) → IsSelectable before.desk.activity before.texts.texts → IsTextStep c result before after → AreHeld after.texts
   text_held c (Ok answer) its step = effect_held c answer its step.0 step.1
   text_held c (Err e) its step = still step.1.texts
+
+-- ---- each step of a Toolbox
+
+-- those that stay were there
+all_within : (ts us : List KeptText) → All Held ts → All (Contains ts) us → All Held us
+all_within ts [] held within = All-nil Held
+all_within ts (u ∷ us) held within =
+    All-cons Held u us (All-contains Held ts u held (All-head (Contains ts) u us within)) (all_within ts us held (All-tail (Contains ts) u us within))
+
+left_held : (c : WindowCall) (before after : TextsState) → AreTextsLeft c before after → AreHeld before → AreHeld after
+left_held (windows.Dispose s) before after left was = record {
+  texts = all_within before.texts after.texts was.texts left.within;
+  scrap = subst (λ bytes. length bytes ≤ 32000) (sym left.scrap) was.scrap;
+}
+left_held c before after same was = subst AreHeld (sym same) was
+
+window_held : (c : WindowCall) (answer : Result WindowReply Refusal) (before after : ToolboxState) → IsWindowMade c answer before after → AreHeld before.texts → AreHeld after.texts
+window_held c (Ok answer) before after step was = left_held c before.texts after.texts step.texts was
+window_held c (Err e) before after step was = subst AreHeld (sym step.1.texts) was
+
+abbrev StaysHeld : Call → Result Reply Refusal → ToolboxState → ToolboxState → Type 0
+StaysHeld c answer before after = IsSelectable before.desk.activity before.texts.texts → AreHeld before.texts → AreHeld after.texts
+
+same_held : (before after : ToolboxState) → after.texts ≡ before.texts → AreHeld before.texts → AreHeld after.texts
+same_held before after same was = subst AreHeld (sym same) was
+
+each_stays_held : HoldsOfEach StaysHeld
+each_stays_held = record {
+  unchanged = λ c e before after same its was. same_held before after same.texts was;
+  covered = λ p before after same its was. same_held before after same.texts was;
+  hidden = λ p before after same its was. same_held before after same.texts was;
+  window = λ c answer before after may step its was. window_held c answer before after step was;
+  update = λ c answer before after may step rest its was. same_held before after rest.texts was;
+  frame = λ c answer before after may step rest its was. same_held before after rest.texts was;
+  control = λ c answer before after may step events lists texts menus its was. same_held before after texts was;
+  list = λ c answer before after may step events texts menus its was. same_held before after texts was;
+  text = λ c answer before after may step events controls lists menus its was. text_held (with_texts before) (with_texts after) was c answer its step;
+  menu = λ c answer before after may step events controls lists texts its was. same_held before after texts was;
+  outline = λ c answer before after may step rest its was. same_held before after rest.texts was;
+  moved = λ c move before after may step its was. window_held (windows.Move move) (Ok window_reply.Done) (put_down before) after step was;
+  event = λ c answer before after step its was. same_held before after step.texts was;
+}
+
+-- where the text record in which the mouse selects is there
+pub step_keeps_texts : (c : Call) (answer : Result Reply Refusal) (before after : ToolboxState) → IsStep c answer before after → IsSelectable before.desk.activity before.texts.texts → AreHeld before.texts → AreHeld after.texts
+step_keeps_texts = of_step StaysHeld each_stays_held

@@ -203,27 +203,28 @@ related_owners R itself d e p rows alike =
 abbrev pub IsLaid : ℕ → List Layer → FullDesk → FullDesk → Type 0
 IsLaid s ls d e = e ≡ record d { windows = map (with_layers_of s ls) d.windows; shows = e.shows }
 
+-- what holds of each window of this serial, where no window has it
+of_none : (P : WindowRecord → Type 0) (look : Look) (s : ℕ) (ws : List WindowRecord) → layers.window_of s (map (layered_window look) ws) ≡ None → All (λ w. w.serial ≡ s → P w) ws
+of_none P look s [] none = All-nil (λ (w : WindowRecord). w.serial ≡ s → P w)
+of_none P look s (w ∷ ws) none = by_test (w.serial == s) refl none (of_none P look s ws)
+  where
+    by_test : (b : Bool) → (w.serial == s) ≡ b → cond b (Some (layered_window look w)) (layers.window_of s (map (layered_window look) ws)) ≡ None
+        → (layers.window_of s (map (layered_window look) ws) ≡ None → All (λ (x : WindowRecord). x.serial ≡ s → P x) ws) → All (λ (x : WindowRecord). x.serial ≡ s → P x) (w ∷ ws)
+    by_test true e none rest = absurd (cc)
+    by_test false e none rest = All-cons (λ (x : WindowRecord). x.serial ≡ s → P x) w ws (λ is. absurd (false≢true (sym e ∙ ap (λ n. n == s) is ∙ same_number s))) (rest none)
+
 -- what holds of the window of this serial holds of each window that has it
 of_serial : (P : WindowRecord → Type 0) (look : Look) (s : ℕ) (ws : List WindowRecord) → layers.AreWindows (map (layered_window look) ws) → ((w : WindowRecord) → record_with s ws ≡ Some w → P w) → All (λ w. w.serial ≡ s → P w) ws
 of_serial P look s [] apart h = All-nil (λ (w : WindowRecord). w.serial ≡ s → P w)
-of_serial P look s (w ∷ ws) apart h = by_test (w.serial == s) refl h
+of_serial P look s (w ∷ ws) apart h = by_test (w.serial == s) refl h (of_serial P look s ws apart.1.1)
   where
-    -- where no other window has it
-    none_of : (vs : List WindowRecord) → layers.window_of s (map (layered_window look) vs) ≡ None → All (λ (v : WindowRecord). v.serial ≡ s → P v) vs
-    none_of [] none = All-nil (λ (v : WindowRecord). v.serial ≡ s → P v)
-    none_of (v ∷ vs) none = by_test (v.serial == s) refl none
-      where
-        by_test : (b : Bool) → (v.serial == s) ≡ b → cond b (Some (layered_window look v)) (layers.window_of s (map (layered_window look) vs)) ≡ None → All (λ (x : WindowRecord). x.serial ≡ s → P x) (v ∷ vs)
-        by_test true e none = absurd (cc)
-        by_test false e none = All-cons (λ (x : WindowRecord). x.serial ≡ s → P x) v vs (λ is. absurd (false≢true (sym e ∙ ap (λ n. n == s) is ∙ same_number s))) (none_of vs none)
-
-    by_test : (b : Bool) → (w.serial == s) ≡ b → ((x : WindowRecord) → cond b (Some w) (record_with s ws) ≡ Some x → P x) → All (λ (x : WindowRecord). x.serial ≡ s → P x) (w ∷ ws)
-    by_test true e h =
+    by_test : (b : Bool) → (w.serial == s) ≡ b → ((x : WindowRecord) → cond b (Some w) (record_with s ws) ≡ Some x → P x)
+        → (((x : WindowRecord) → record_with s ws ≡ Some x → P x) → All (λ (x : WindowRecord). x.serial ≡ s → P x) ws) → All (λ (x : WindowRecord). x.serial ≡ s → P x) (w ∷ ws)
+    by_test true e h rest =
         All-cons (λ (x : WindowRecord). x.serial ≡ s → P x) w ws (λ is. h w refl)
-        (none_of ws (ap (λ n. layers.window_of n (map (layered_window look) ws)) (sym (eqb-true w.serial s e)) ∙ apart.0))
-    by_test false e h =
-        All-cons (λ (x : WindowRecord). x.serial ≡ s → P x) w ws (λ is. absurd (false≢true (sym e ∙ ap (λ n. n == s) is ∙ same_number s)))
-        (of_serial P look s ws apart.1.1 h)
+        (of_none P look s ws (ap (λ n. layers.window_of n (map (layered_window look) ws)) (sym (eqb-true w.serial s e)) ∙ apart.0))
+    by_test false e h rest =
+        All-cons (λ (x : WindowRecord). x.serial ≡ s → P x) w ws (λ is. absurd (false≢true (sym e ∙ ap (λ n. n == s) is ∙ same_number s))) (rest h)
 
 -- the parts of the window are related to those of these layers
 abbrev pub HasRelated : (Owner → Owner → Type 0) → ℕ → List Layer → WindowRecord → Type 0

@@ -3,9 +3,10 @@ use Rattle.std.proofs.Common.{◌≡◌, ℕ, zero, suc, Bool, true, false, not,
 use Rattle.std.specs.Prelude.{All, slice_get}
 use Rattle.std.specs.List.{AllZip, filter, list_any}
 use Rattle.std.specs.Option.{option_map}
-use Rattle.std.proofs.lemmas.Bool.{false≢true}
+use Rattle.std.proofs.lemmas.Bool.{and_parts, false≢true}
 use Rattle.std.proofs.lemmas.List.Elements.{All-cons, All-head, All-nil, All-tail, All-weaker}
 use Rattle.tb_geom.specs.declared.point.Point.{Point}
+use Rattle.tb_geom.specs.Pixels.{holds}
 use Rattle.desk_layers.specs.declared.part.Part.{Part}
 use Rattle.desk_layers.specs.declared.part.Part.TheVariants as part
 use Rattle.desk_layers.specs.Desk.{IsDesk, on_screen, same_part}
@@ -186,13 +187,9 @@ hidden_has_none : (n : ℕ) (ks : List Layer) (ts : List KeptText) (q : Point) �
 hidden_has_none n [] ts q joined hidden = refl
 hidden_has_none n (k ∷ ks) ts q joined hidden = by_kind (is_of Texts k.part) refl ts joined hidden (layer_has k q) refl (λ us. hidden_has_none n ks us q)
   where
-    shown_of : (a b : Bool) → cond a b false ≡ true → a ≡ true
-    shown_of true b e = refl
-    shown_of false b e = absurd (false≢true e)
-
     by_serial : (y : KeptText) → IsLayerOf y k → IsHidden n y → layer_has k q ≡ true → (b : Bool) → has_serial n y ≡ b → b ≡ false
-    by_serial y its hides has false e = refl
-    by_serial y its hides has true e = absurd (false≢true (sym (its.shape.shown ∙ hides e) ∙ shown_of k.shown _ has))
+    by_serial y its hides has false is = refl
+    by_serial y its hides has true is = absurd (false≢true (sym (its.shape.shown ∙ hides is) ∙ (and_parts k.shown (holds k.region q) has).0))
 
     by_kind : (b : Bool) → is_of Texts k.part ≡ b → (us : List KeptText) → AllZip IsLayerOf us (cond b (k ∷ text_layers ks) (text_layers ks)) → All (IsHidden n) us → (h : Bool) → layer_has k q ≡ h
         → ((vs : List KeptText) → AreTextLayersOf vs ks → All (IsHidden n) vs → same_part (part_at ks q) (part.Text n) ≡ false)
