@@ -74,14 +74,14 @@ held_at [] at x held e = absurd (cc)
 held_at (t ∷ ts) zero x held e = let same : t ≡ x = cc in subst Held same (All-head Held t ts held)
 held_at (t ∷ ts) (suc i) x held e = held_at ts i x (All-tail Held t ts held) e
 
-there_at : (t : TextOf) (ts : List KeptText) (at : ℕ) (x : KeptText) → index_of t ts ≡ Some at → text_of t ts ≡ Some x → slice_get ts at ≡ Some x
+pub there_at : (t : TextOf) (ts : List KeptText) (at : ℕ) (x : KeptText) → index_of t ts ≡ Some at → text_of t ts ≡ Some x → slice_get ts at ≡ Some x
 there_at t ts at x found named = sym (ap (option_and_then (slice_get ts)) found) ∙ named
 
 named_at : (t : TextOf) (ts : List KeptText) (at : ℕ) (x : KeptText) → index_of t ts ≡ Some at → slice_get ts at ≡ Some x → text_of t ts ≡ Some x
 named_at t ts at x found there = ap (option_and_then (slice_get ts)) found ∙ there
 
 -- the one that is named
-held_named : (t : TextOf) (ts : List KeptText) (x : KeptText) → All Held ts → text_of t ts ≡ Some x → Held x
+pub held_named : (t : TextOf) (ts : List KeptText) (x : KeptText) → All Held ts → text_of t ts ≡ Some x → Held x
 held_named t ts x held named = by_place (index_of t ts) refl
   where
     by_place : (o : Option ℕ) → index_of t ts ≡ o → Held x

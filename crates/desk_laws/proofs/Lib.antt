@@ -39,6 +39,7 @@ pub mod GoneLists
 pub mod HiddenControls
 pub mod SelectionsStay
 pub mod HeldTexts
+pub mod SelectableStays
 pub mod TextChanges
 pub mod EachChange
 pub mod HeadlineLaws
