@@ -4,9 +4,11 @@ pub mod KeptDesks
 pub mod Bonds
 pub mod KnownLayers
 pub mod ContentsBeside
+pub mod TextFacts
+pub mod TextsBeside
+pub mod TextsGone
 pub mod ContentsLeft
 pub mod Sides
-pub mod TextFacts
 pub mod EachManager
 pub mod AskingCalls
 pub mod Runs
