@@ -206,5 +206,5 @@ outline_stands call (Err e) before after may was right step rest = stands_still 
 -- nothing is open any more
 pub put_down_stands : (s : ToolboxState) → IsOutlining s.desk.activity → Stands s → Stands (put_down s)
 put_down_stands s was_open was =
-    opens_stand s (put_down s) refl (record { events = refl; controls = refl; lists = refl; menus = refl }) was_open tt tt was
+    opens_stand s (put_down s) refl (record { events = refl; controls = refl; lists = refl; texts = refl; menus = refl }) was_open tt tt was
     (put_down_right s (record { right = was.right; contents = was.contents }))
