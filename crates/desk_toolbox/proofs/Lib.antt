@@ -39,6 +39,7 @@ pub mod MenuStands
 pub mod TrackedControls
 pub mod ListStands
 pub mod TextStands
+pub mod SelectedTexts
 pub mod ControlsAside
 pub mod ListsAside
 pub mod MenusBeside
