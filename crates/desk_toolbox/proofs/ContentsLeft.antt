@@ -316,13 +316,13 @@ right_toolbox s its texts none = record { right = its.desk.right; contents = rec
 pub list_stays_right : (call : ListCall) (answer : Result ListReply Refusal) (before after : ToolboxState) → IsRightToolbox before → IsListStep call answer (with_lists before) (with_lists after) → after.texts ≡ before.texts → IsRightToolbox after
 list_stays_right call answer before after was step same =
     right_toolbox after (list_keeps (with_lists before) (with_lists after) (right_lists before was) call answer step)
-    (list_leaves_texts call answer before after (right_lists before was) step same was.contents.texts)
+    (subst (AreWholeTexts after.desk.windows.desk.windows) (sym same) (list_leaves_texts call answer (with_lists before) (with_lists after) before.texts (right_lists before was) step was.contents.texts))
     (list_leaves_known call answer (with_lists before) (with_lists after) (right_lists before was) step was.contents.known)
 
 pub control_stays_right : (call : ControlCall) (answer : Result ControlReply Refusal) (before after : ToolboxState) → IsRightToolbox before → IsControlStep call answer (with_controls before) (with_controls after) → after.lists ≡ before.lists → after.texts ≡ before.texts → IsRightToolbox after
 control_stays_right call answer before after was step same beside =
     right_toolbox after (step_keeps (with_lists before) (with_lists after) (right_lists before was) call answer step same)
-    (control_leaves_texts call answer before after was.right.plain.desk was.contents.controls.apart step beside was.contents.texts)
+    (subst (AreWholeTexts after.desk.windows.desk.windows) (sym beside) (control_leaves_texts call answer (with_controls before) (with_controls after) before.texts was.right.plain.desk was.contents.controls.apart step was.contents.texts))
     (control_leaves_known call answer (with_controls before) (with_controls after) was.right.plain.desk was.contents.controls.apart step was.contents.known)
 
 -- what holds of a right desk with its text records

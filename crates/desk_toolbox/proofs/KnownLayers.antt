@@ -35,7 +35,6 @@ use Rattle.text_mgr.specs.TextLayers.{AreTextLayersOf, IsLayerOf}
 use Rattle.text_mgr.specs.WholeTexts.{AreWholeTexts}
 use Rattle.text_mgr.proofs.Layered.{text_layers}
 use Rattle.text_mgr.proofs.Whole.{AreJoined}
-use Rattle.desk_toolbox.specs.ToolboxStates.{ToolboxState, with_controls, with_lists}
 use Rattle.desk_toolbox.specs.KnownLayers.{AreKnown, AreLayersKnown, is_known}
 use Rattle.desk_toolbox.proofs.Bonds.{Bond}
 
@@ -141,18 +140,15 @@ texts_stay s ws vs same whole = record {
   joined = joined_stays s.texts ws vs same whole.joined;
 }
 
-pub list_leaves_texts : (call : ListCall) (answer : Result ListReply Refusal) (before after : ToolboxState) → IsRightLists (with_lists before) → IsListStep call answer (with_lists before) (with_lists after) → after.texts ≡ before.texts
-    → AreWholeTexts before.desk.windows.desk.windows before.texts → AreWholeTexts after.desk.windows.desk.windows after.texts
-list_leaves_texts call answer before after was step same whole =
-    subst (AreWholeTexts after.desk.windows.desk.windows) (sym same)
-    (texts_stay before.texts before.desk.windows.desk.windows after.desk.windows.desk.windows (list_beside call answer (with_lists before) (with_lists after) was step) whole)
+pub list_leaves_texts : (call : ListCall) (answer : Result ListReply Refusal) (before after : ListDesk) (s : TextsState) → IsRightLists before → IsListStep call answer before after
+    → AreWholeTexts before.desk.windows.desk.windows s → AreWholeTexts after.desk.windows.desk.windows s
+list_leaves_texts call answer before after s was step whole = texts_stay s before.desk.windows.desk.windows after.desk.windows.desk.windows (list_beside call answer before after was step) whole
 
-pub control_leaves_texts : (call : ControlCall) (answer : Result ControlReply Refusal) (before after : ToolboxState) → IsDesk (layered_desk before.desk.windows.desk) → AreControlsApart before.controls.controls
-    → IsControlStep call answer (with_controls before) (with_controls after) → after.texts ≡ before.texts → AreWholeTexts before.desk.windows.desk.windows before.texts → AreWholeTexts after.desk.windows.desk.windows after.texts
-control_leaves_texts call answer before after distinct apart step same whole =
-    subst (AreWholeTexts after.desk.windows.desk.windows) (sym same)
-    (texts_stay before.texts before.desk.windows.desk.windows after.desk.windows.desk.windows
-    (from_uncontrolled before.desk.windows.desk.windows after.desk.windows.desk.windows (control_behind call answer (with_controls before) (with_controls after) distinct apart step)) whole)
+pub control_leaves_texts : (call : ControlCall) (answer : Result ControlReply Refusal) (before after : ControlDesk) (s : TextsState) → IsDesk (layered_desk before.desk.windows.desk) → AreControlsApart before.controls.controls
+    → IsControlStep call answer before after → AreWholeTexts before.desk.windows.desk.windows s → AreWholeTexts after.desk.windows.desk.windows s
+control_leaves_texts call answer before after s distinct apart step whole =
+    texts_stay s before.desk.windows.desk.windows after.desk.windows.desk.windows
+    (from_uncontrolled before.desk.windows.desk.windows after.desk.windows.desk.windows (control_behind call answer before after distinct apart step)) whole
 
 -- calls about lists, and about controls
 pub list_leaves_known : (call : ListCall) (answer : Result ListReply Refusal) (before after : ListDesk) → IsRightLists before → IsListStep call answer before after → AreLayersKnown before.desk.windows.desk.windows
