@@ -46,7 +46,7 @@ use Rattle.control_mgr.proofs.ControlBits.{missing_alike}
 use Rattle.control_mgr.proofs.ControlsFollowed.{followed_right, whole_left}
 use Rattle.desk_call.specs.declared.text.TextCall.{TextCall}
 use Rattle.desk_call.specs.declared.text.TextReply.{TextReply}
-use Rattle.text_mgr.specs.TextDesks.{KeptText, TextsState, texts_show}
+use Rattle.text_mgr.specs.TextDesks.{KeptText, TextDesk, TextsState, texts_show}
 use Rattle.text_mgr.specs.TextLayers.{AreTextLayersOf}
 use Rattle.text_mgr.specs.TextSteps.{IsTextStep}
 use Rattle.text_mgr.specs.WholeTexts.{AreWholeTexts}
@@ -334,36 +334,40 @@ right_texts s was = record {
 }
 
 -- each window is there still, and no other
-text_missing : (call : TextCall) (answer : Result TextReply Refusal) (before after : ToolboxState) → IsTextStep call answer (with_texts before) (with_texts after) → (n : ℕ) → is_missing n after.desk.windows.desk.windows ≡ is_missing n before.desk.windows.desk.windows
+text_missing : (call : TextCall) (answer : Result TextReply Refusal) (before after : TextDesk) → IsTextStep call answer before after → (n : ℕ) → is_missing n after.desk.windows.desk.windows ≡ is_missing n before.desk.windows.desk.windows
 text_missing call answer before after step n =
-    missing_alike n before.desk.windows.desk.windows after.desk.windows.desk.windows (text_facts call answer (with_texts before) (with_texts after) step).0.windows
+    missing_alike n before.desk.windows.desk.windows after.desk.windows.desk.windows (text_facts call answer before after step).0.windows
 
--- the controls and the lists stay whole beside a call about text records
-texts_leave_controls : (call : TextCall) (answer : Result TextReply Refusal) (before after : ToolboxState) → IsTextStep call answer (with_texts before) (with_texts after) → AreWholeTexts before.desk.windows.desk.windows before.texts
-    → AreWholeControls before.desk.windows.desk.windows before.controls → AreWholeControls after.desk.windows.desk.windows before.controls
-texts_leave_controls call answer before after step texts whole = record {
+-- the controls and the lists stay whole beside a call about text records, and layers stay known
+pub text_leaves_controls : (call : TextCall) (answer : Result TextReply Refusal) (before after : TextDesk) (s : ControlsState) → AreWholeTexts before.desk.windows.desk.windows before.texts → IsTextStep call answer before after
+    → AreWholeControls before.desk.windows.desk.windows s → AreWholeControls after.desk.windows.desk.windows s
+text_leaves_controls call answer before after s texts step whole = record {
   settled = whole.settled;
   apart = whole.apart;
   given = whole.given;
   somewhere = All-weaker (λ (c : ControlRecord). is_missing c.window before.desk.windows.desk.windows ≡ false) (λ (c : ControlRecord). is_missing c.window after.desk.windows.desk.windows ≡ false)
-      (λ c here. text_missing call answer before after step c.window ∙ here) before.controls.controls whole.somewhere;
+      (λ c here. text_missing call answer before after step c.window ∙ here) s.controls whole.somewhere;
   few = whole.few;
-  joined = text_holds (λ n ls. AreLayersOf (items_of n before.controls.controls) ls) (controls_beside before.controls.controls) (with_texts before) (with_texts after) texts call answer step whole.joined;
+  joined = text_holds (λ n ls. AreLayersOf (items_of n s.controls) ls) (controls_beside s.controls) before after texts call answer step whole.joined;
   stocked = whole.stocked;
 }
 
-texts_leave_lists : (call : TextCall) (answer : Result TextReply Refusal) (before after : ToolboxState) → IsTextStep call answer (with_texts before) (with_texts after) → AreWholeTexts before.desk.windows.desk.windows before.texts
-    → AreWholeLists before.desk.windows.desk.windows before.lists → AreWholeLists after.desk.windows.desk.windows before.lists
-texts_leave_lists call answer before after step texts whole = record {
+pub text_leaves_lists : (call : TextCall) (answer : Result TextReply Refusal) (before after : TextDesk) (s : ListsState) → AreWholeTexts before.desk.windows.desk.windows before.texts → IsTextStep call answer before after
+    → AreWholeLists before.desk.windows.desk.windows s → AreWholeLists after.desk.windows.desk.windows s
+text_leaves_lists call answer before after s texts step whole = record {
   settled = whole.settled;
   apart = whole.apart;
   given = whole.given;
   somewhere = All-weaker (λ (l : KeptList). is_missing l.window before.desk.windows.desk.windows ≡ false) (λ (l : KeptList). is_missing l.window after.desk.windows.desk.windows ≡ false)
-      (λ l here. text_missing call answer before after step l.window ∙ here) before.lists.lists whole.somewhere;
+      (λ l here. text_missing call answer before after step l.window ∙ here) s.lists whole.somewhere;
   few = whole.few;
-  joined = text_holds (λ n ls. AreListLayers (items_of n before.lists.lists) ls) (lists_beside before.lists.lists) (with_texts before) (with_texts after) texts call answer step whole.joined;
+  joined = text_holds (λ n ls. AreListLayers (items_of n s.lists) ls) (lists_beside s.lists) before after texts call answer step whole.joined;
   stocked = whole.stocked;
 }
+
+pub text_leaves_known : (call : TextCall) (answer : Result TextReply Refusal) (before after : TextDesk) → AreWholeTexts before.desk.windows.desk.windows before.texts → IsTextStep call answer before after
+    → AreLayersKnown before.desk.windows.desk.windows → AreLayersKnown after.desk.windows.desk.windows
+text_leaves_known call answer before after texts step known = text_holds (λ n ls. AreKnown ls) known_beside before after texts call answer step known
 
 pub text_stays_right : (call : TextCall) (answer : Result TextReply Refusal) (before after : ToolboxState) → IsRightToolbox before → IsTextStep call answer (with_texts before) (with_texts after)
     → after.controls ≡ before.controls → after.lists ≡ before.lists → IsRightToolbox after
@@ -372,10 +376,10 @@ text_stays_right call answer before after was step controls lists =
     record {
       right = its.right;
       contents = record {
-        controls = subst (AreWholeControls after.desk.windows.desk.windows) (sym controls) (texts_leave_controls call answer before after step was.contents.texts was.contents.controls);
-        lists = subst (AreWholeLists after.desk.windows.desk.windows) (sym lists) (texts_leave_lists call answer before after step was.contents.texts was.contents.lists);
+        controls = subst (AreWholeControls after.desk.windows.desk.windows) (sym controls) (text_leaves_controls call answer (with_texts before) (with_texts after) before.controls was.contents.texts step was.contents.controls);
+        lists = subst (AreWholeLists after.desk.windows.desk.windows) (sym lists) (text_leaves_lists call answer (with_texts before) (with_texts after) before.lists was.contents.texts step was.contents.lists);
         texts = its.whole;
-        known = text_holds (λ n ls. AreKnown ls) known_beside (with_texts before) (with_texts after) was.contents.texts call answer step was.contents.known;
+        known = text_leaves_known call answer (with_texts before) (with_texts after) was.contents.texts step was.contents.known;
         shown = its.shows ∙ sym (ap (λ f. f after.desk.windows.desk.font) (shows_alike after.controls.controls after.lists.lists after.texts.texts));
       };
     }

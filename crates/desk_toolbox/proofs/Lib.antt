@@ -40,6 +40,7 @@ pub mod TrackedControls
 pub mod ListStands
 pub mod TextStands
 pub mod SelectedTexts
+pub mod TextsAside
 pub mod ControlsAside
 pub mod ListsAside
 pub mod MenusBeside

@@ -1,6 +1,6 @@
 -- The text record in which the mouse selects, if it does, stays there beside calls about updates and frames, and where a window is
 -- disposed of.
-use Rattle.std.proofs.Common.{◌≡◌, ℕ, Bool, true, false, List, Result, Ok, Err, refl, sym, ◌∙◌, subst}
+use Rattle.std.proofs.Common.{◌≡◌, ⊎_elim, ℕ, Bool, true, false, List, Result, Ok, Err, refl, sym, ◌∙◌, subst}
 use Rattle.tb_geom.specs.declared.refusal.Refusal.{Refusal}
 use Rattle.desk_call.specs.declared.activity.Activity.{Activity}
 use Rattle.desk_call.specs.declared.activity.Activity.TheVariants.{Idle, Updating, Tracking}
@@ -11,7 +11,9 @@ use Rattle.desk_call.specs.declared.frame.FrameReply.TheVariants.{Done, Tracked}
 use Rattle.desk_call.specs.declared.update.UpdateCall.{UpdateCall}
 use Rattle.desk_call.specs.declared.update.UpdateCall.TheVariants as updates
 use Rattle.desk_call.specs.declared.window.WindowReply.{WindowReply}
+use Rattle.vis_update.specs.Records.{WindowRecord}
 use Rattle.window_mgr.specs.DeskStates.{DeskState}
+use Rattle.control_mgr.proofs.ControlFacts.{IsOpenAfter}
 use Rattle.window_update.specs.UpdateSteps.{IsUpdateEffect, IsUpdateStep}
 use Rattle.window_frame.specs.FrameSteps.{IsBegunAt, IsFrameEffect, IsFrameStep}
 use Rattle.desk_call.specs.Gates.{gate, window_standing}
@@ -63,6 +65,14 @@ module _ (before after : DeskState) (ts : List KeptText) (was : IsSelectable bef
   pub frame_selectable : (call : FrameCall) (answer : Result FrameReply Refusal) → IsFrameStep call answer before after → IsSelectable after.activity ts
   frame_selectable call (Ok answer) step = frame_effect_selectable call answer step.1
   frame_selectable call (Err e) step = same_open step.1.activity
+
+-- ---- beside calls about controls
+
+pub control_selectable : (ws : List WindowRecord) (a b : Activity) (ts : List KeptText) → IsOpenAfter ws a b → IsSelectable a ts → IsSelectable b ts
+control_selectable ws a b ts opens was = ⊎_elim
+    (λ same. subst (λ x. IsSelectable x ts) (sym same) was)
+    (λ other. ⊎_elim (λ idle. subst (λ x. IsSelectable x ts) (sym idle) tt) (λ (k, is, there). subst (λ x. IsSelectable x ts) (sym is) tt) other)
+    opens
 
 -- ---- beside calls on windows
 

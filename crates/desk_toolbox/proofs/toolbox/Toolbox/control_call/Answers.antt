@@ -14,10 +14,12 @@ use Rattle.control_mgr.specs.WholeControls.{records_of}
 use Rattle.list_mgr.specs.ListDesks.{lists_show}
 use Rattle.text_mgr.specs.TextDesks.{texts_show}
 use Rattle.list_mgr.specs.WholeLists as lists
+use Rattle.control_mgr.proofs.ControlFacts.{control_facts}
 use Rattle.desk_toolbox.proofs.Asked.{no_control_is_told, performed_is_told}
 use Rattle.desk_toolbox.proofs.ControlsAside.{control_leaves_lists, menus_after_control, updates_after_control}
 use Rattle.desk_toolbox.proofs.Natures.{behind_so}
-use Rattle.desk_toolbox.proofs.KnownLayers.{control_leaves_known}
+use Rattle.desk_toolbox.proofs.KnownLayers.{control_leaves_known, control_leaves_texts}
+use Rattle.desk_toolbox.proofs.SelectedTexts.{control_selectable}
 use Rattle.desk_toolbox.proofs.toolbox.Toolbox.control_call.Goals as goal
 
 pub returns-then-is_behind_menu-clause-step : goal.returns-then-is_behind_menu-clause-step
@@ -44,6 +46,9 @@ returns-clause-whole g c =
       trackable = c.perform.ensures.trackable;
       lists = control_leaves_lists c.args.call.now c.perform.result _ _ _ (distinct_showing (controls_show (lists_show (texts_show (λ font. all_white) self.texts.list.items.items) (lists.records_of (taken_list.loan-value g.dyn-4).it self.lists)) (records_of (taken_control.loan-value g.dyn-2).it self.controls)) (state_of (taken.loan-value g.dyn-1).it self.windows ((stock.slots-value g.dyn-1).it c.args.stock.now.windows)).desk c.requires.whole.managers.windows.sound.distinct)
           c.requires.whole.managers.controls.apart made c.requires.whole.managers.lists;
+      texts = control_leaves_texts c.args.call.now c.perform.result _ _ _ (distinct_showing (controls_show (lists_show (texts_show (λ font. all_white) self.texts.list.items.items) (lists.records_of (taken_list.loan-value g.dyn-4).it self.lists)) (records_of (taken_control.loan-value g.dyn-2).it self.controls)) (state_of (taken.loan-value g.dyn-1).it self.windows ((stock.slots-value g.dyn-1).it c.args.stock.now.windows)).desk c.requires.whole.managers.windows.sound.distinct)
+          c.requires.whole.managers.controls.apart made c.requires.whole.managers.texts;
+      selectable = control_selectable _ _ _ _ (control_facts c.args.call.now c.perform.result _ _ made).0.activity c.requires.whole.managers.selectable;
       known = control_leaves_known c.args.call.now c.perform.result _ _ (distinct_showing (controls_show (lists_show (texts_show (λ font. all_white) self.texts.list.items.items) (lists.records_of (taken_list.loan-value g.dyn-4).it self.lists)) (records_of (taken_control.loan-value g.dyn-2).it self.controls)) (state_of (taken.loan-value g.dyn-1).it self.windows ((stock.slots-value g.dyn-1).it c.args.stock.now.windows)).desk c.requires.whole.managers.windows.sound.distinct)
           c.requires.whole.managers.controls.apart made c.requires.whole.managers.known;
       menus = menus.menus;

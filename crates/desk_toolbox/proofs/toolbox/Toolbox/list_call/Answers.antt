@@ -17,18 +17,19 @@ returns-clause-whole g c =
     let control_loan = (taken_control.loan-value g.dyn-2).it in
     let menu_loan = (taken_menu.loan-value g.dyn-3).it in
     let list_loan = (taken_list.loan-value g.dyn-4).it in
+    let others = texts_show (λ font. all_white) self.texts.list.items.items in
     let began = opened self.activity self.updates in
-    let done = c.perform.ensures (texts_show (λ font. all_white) self.texts.list.items.items) began _ c.requires.whole.managers.windows c.requires.whole.managers.controls c.requires.whole.managers.lists in
+    let done = c.perform.ensures others began _ c.requires.whole.managers.windows c.requires.whole.managers.controls c.requires.whole.managers.lists in
     let made = done.3 c.requires.whole.right in
     let menus =
-    menus_after_list loan menu_loan control_loan list_loan self.windows c.perform.new.windows _ _ began self.controls c.perform.new.controls _ _ self.lists c.perform.new.self _ _
+    menus_after_list loan menu_loan control_loan list_loan others self.windows c.perform.new.windows _ _ began self.controls c.perform.new.controls _ _ self.lists c.perform.new.self _ _
     c.args.call.now c.perform.result c.requires.admitted made self.menus self.front _ (record { menus = c.requires.whole.managers.menus; front = c.requires.whole.managers.front }) in
     record {
       windows = done.0;
-      updates = updates_after_list loan menu_loan control_loan list_loan self.windows c.perform.new.windows _ _ began self.controls c.perform.new.controls _ _ self.lists c.perform.new.self _ _
+      updates = updates_after_list loan menu_loan control_loan list_loan others self.windows c.perform.new.windows _ _ began self.controls c.perform.new.controls _ _ self.lists c.perform.new.self _ _
           c.args.call.now c.perform.result c.requires.admitted made self.updates c.requires.whole.managers.updates;
       controls = done.1;
-      trackable = trackable_after_list loan menu_loan control_loan list_loan self.windows c.perform.new.windows _ _ began self.controls c.perform.new.controls _ _ self.lists c.perform.new.self _ _
+      trackable = trackable_after_list loan menu_loan control_loan list_loan others self.windows c.perform.new.windows _ _ began self.controls c.perform.new.controls _ _ self.lists c.perform.new.self _ _
           c.args.call.now c.perform.result c.requires.admitted made c.requires.whole.managers.trackable;
       menus = menus.menus;
       front = menus.front;
