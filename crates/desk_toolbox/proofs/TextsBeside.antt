@@ -127,15 +127,16 @@ removed_lists (l ∷ ls) zero k m there text =
     sym (ap (λ b. cond b (l ∷ layers_of_lists ls) (layers_of_lists ls)) (ap (λ (x : Layer). is_of Lists x.part) same ∙ ap (is_of Lists) text))
 removed_lists (l ∷ ls) (suc i) k m there text = ap (λ rest. cond (is_of Lists l.part) (l ∷ rest) rest) (removed_lists ls i k m there text)
 
+-- the lists of a window go with these layers
+abbrev ItsLists : List KeptList → ℕ → List Layer → Type 0
+ItsLists xs n ks = AllZip IsLayerOf (items_of n xs) ks
+
 pub lists_beside : (xs : List KeptList) → IsBesideTexts (λ n ls. AreListLayers (items_of n xs) ls)
 lists_beside xs = record {
-  last = λ n ls l m text h. subst (zip n) (sym (last_lists ls l (ap (is_of Lists) text))) h;
-  shaped = λ n ls shape i k m there text h. subst (zip n) (sym (shaped_lists ls shape i k m there text)) h;
-  removed = λ n ls i k m there text h. subst (zip n) (sym (removed_lists ls i k m there text)) h;
+  last = λ n ls l m text h. subst (ItsLists xs n) (sym (last_lists ls l (ap (is_of Lists) text))) h;
+  shaped = λ n ls shape i k m there text h. subst (ItsLists xs n) (sym (shaped_lists ls shape i k m there text)) h;
+  removed = λ n ls i k m there text h. subst (ItsLists xs n) (sym (removed_lists ls i k m there text)) h;
 }
-  where
-    abbrev zip : ℕ → List Layer → Type 0
-    zip n ks = AllZip IsLayerOf (items_of n xs) ks
 
 -- ---- layers that are known
 
