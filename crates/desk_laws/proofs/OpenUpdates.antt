@@ -24,7 +24,7 @@ use Rattle.desk_call.specs.declared.update.UpdateCall.TheVariants as update
 use Rattle.desk_call.specs.declared.window.WindowCall.{WindowCall}
 use Rattle.desk_call.specs.declared.window.WindowCall.TheVariants as asks
 use Rattle.desk_call.specs.declared.window.WindowReply.{WindowReply}
-use Rattle.desk_call.specs.Gates.{gate, window_standing, update_standing, frame_standing, menu_standing, control_standing, list_standing}
+use Rattle.desk_call.specs.Gates.{gate, window_standing, update_standing, frame_standing, menu_standing, control_standing, list_standing, text_standing}
 use Rattle.window_mgr.specs.DeskStates.{DeskState, IsDeskUnchanged, SameActivity, narrowed}
 use Rattle.window_mgr.specs.Effects.{IsUnchanged}
 use Rattle.window_mgr.specs.FullDesk.{FullDesk, FullState}
@@ -37,8 +37,12 @@ use Rattle.control_mgr.specs.ControlDesks.{ControlsState, ShowsControls, control
 use Rattle.control_mgr.specs.ControlSteps.{IsControlStep}
 use Rattle.list_mgr.specs.ListDesks.{ListsState, lists_show}
 use Rattle.list_mgr.specs.ListSteps.{IsListStep}
+use Rattle.desk_call.specs.declared.text.TextCall.{TextCall}
+use Rattle.desk_call.specs.declared.text.TextReply.{TextReply}
+use Rattle.text_mgr.specs.TextSteps.{IsTextStep}
+use Rattle.desk_toolbox.proofs.TextStands.{AtMostText, text_comes_then}
 use Rattle.desk_toolbox.specs.Run.{AreControlsLeft, AreListsLeft, IsWindowAnswer, IsWindowMade, IsStep, replied}
-use Rattle.desk_toolbox.specs.ToolboxStates.{ToolboxState, with_controls, with_lists}
+use Rattle.desk_toolbox.specs.ToolboxStates.{ToolboxState, with_controls, with_lists, with_texts}
 use Rattle.desk_toolbox.proofs.EachManager.{HoldsOfEach, of_step}
 use Rattle.desk_call.specs.declared.outline.OutlineCall.{OutlineCall}
 use Rattle.desk_call.specs.declared.outline.OutlineCall.TheVariants.{Drag, StepDrag, EndDrag, Grow, StepGrow, EndGrow}
@@ -188,6 +192,16 @@ module _ (s : ℕ) where
       (λ idle. absurd (not_idle (sym opened ∙ idle)))
       (list_comes_then call answer (with_lists before) (with_lists after) may step.1)
 
+  not_text : AtMostText (Updating s) → ⊥
+  not_text most = ⊎_elim (λ idle. absurd (cc)) (λ (k, is). absurd (cc)) most
+
+  text_goes_on : (call : TextCall) (answer : Result TextReply Refusal) (before after : ToolboxState) → gate before.desk.activity (text_standing call) ≡ None → IsTextStep call answer (with_texts before) (with_texts after) → before.desk.activity ≡ Updating s → GoesOn (calls.Text call) (replied reply.Text answer) before after
+  text_goes_on call (Err e) before after may step opened = still_open (calls.Text call) (Err e) before after (λ kinds. refl) opened step.1.desk
+  text_goes_on call (Ok answer) before after may step opened = ⊎_elim
+      (λ same. still_open (calls.Text call) (Ok (reply.Text answer)) before after (λ kinds. refl) opened same.desk)
+      (λ most. absurd (not_text (subst AtMostText opened most)))
+      (text_comes_then call answer (with_texts before) (with_texts after) may step.1)
+
   none_is_outlined : (call : OutlineCall) → gate (Updating s) (outline_standing call) ≡ None → ⊥
   none_is_outlined (Drag d) may = absurd (cc)
   none_is_outlined (StepDrag p) may = absurd (cc)
@@ -206,6 +220,7 @@ module _ (s : ℕ) where
     frame = λ call answer before after may step rest opened rests. absurd (frame_comes_apart call (Updating s) (may_then before.desk.activity (frame_standing call) opened may));
     control = λ call answer before after may step events lists texts menus opened rests. control_goes_on call answer before after may step opened;
     list = λ call answer before after may step events texts menus opened rests. list_goes_on call answer before after may step opened;
+    text = λ call answer before after may step events controls lists menus opened rests. text_goes_on call answer before after may step opened;
     menu = λ call answer before after may step events controls lists texts opened rests. absurd (menu_comes_apart call (Updating s) (may_then before.desk.activity (menu_standing call) opened may));
     outline = λ call answer before after may step rest opened rests. absurd (none_is_outlined call (may_then before.desk.activity (outline_standing call) opened may));
     moved = λ call move before after may step opened rests. absurd (none_is_outlined call (may_then before.desk.activity (outline_standing call) opened may));
