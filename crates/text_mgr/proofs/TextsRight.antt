@@ -1,9 +1,10 @@
 -- A call about text records leaves a right desk right: its steps are sound changes.
-use Rattle.std.proofs.Common.{◌≡◌, ⊎_elim, inl, inr, ◌⊎◌, ℕ, Bool, true, false, ◌&&◌, ◌==◌, cond, List, [], ◌∷◌, ◌++◌, map, Option, None, Some, Result, Ok, Err, refl, sym, ap, ◌∙◌, subst}
+use Rattle.std.proofs.Common.{◌≡◌, ⊎_elim, inl, inr, ◌⊎◌, ℕ, Bool, true, false, not, ◌&&◌, ◌==◌, cond, List, [], ◌∷◌, ◌++◌, map, Option, None, Some, Result, Ok, Err, refl, sym, ap, ◌∙◌, subst}
+use Rattle.std.specs.Prelude.{is_none}
 use Rattle.std.proofs.lemmas.Bool.{and_parts}
 use Rattle.tb_geom.specs.declared.point.Point.{Point}
 use Rattle.tb_geom.specs.declared.refusal.Refusal.{Refusal}
-use Rattle.tb_geom.specs.declared.refusal.Refusal.TheVariants.{NoSuchWindow}
+use Rattle.tb_geom.specs.declared.refusal.Refusal.TheVariants.{NoSuchWindow, OutOfRange, TooMany}
 use Rattle.tb_geom.specs.Points.{PixelSet}
 use Rattle.tb_geom.specs.Refusals.{first_refusal}
 use Rattle.desk_layers.specs.declared.part.Part.{Part}
@@ -24,7 +25,7 @@ use Rattle.desk_call.specs.declared.text.TextOf.{TextOf}
 use Rattle.desk_call.specs.declared.text.TextReply.{TextReply}
 use Rattle.text_record.specs.Texts.{Record}
 use Rattle.text_edits.specs.declared.selecting.ClickMode.{ClickMode}
-use Rattle.window_items.specs.Items.{AreApart, are_before}
+use Rattle.window_items.specs.Items.{AreApart, are_before, count_of}
 use Rattle.window_list.specs.declared.layer.Layer.{Layer}
 use Rattle.window_list.specs.Holders.{ArePartsApart}
 use Rattle.vis_update.specs.Records.{WindowRecord}
@@ -39,7 +40,8 @@ use Rattle.control_mgr.proofs.ControlBits.{bare, bare_laid}
 use Rattle.control_mgr.proofs.Steps.{none_hold}
 use Rattle.text_mgr.specs.TextDesks.{IsTextDeskUnchanged, KeptText, ShowsTexts, TextDesk, TextsState, texts_show}
 use Rattle.text_mgr.specs.TextLayers.{with_last, with_shape_of, without_part}
-use Rattle.text_mgr.specs.TextRefusals.{text_refusals}
+use Rattle.text_mgr.specs.TextPlaces.{justification_of, may_stand_in}
+use Rattle.text_mgr.specs.TextRefusals.{is_full, text_refusals}
 use Rattle.text_mgr.specs.TextSteps.{AreTextsLaid, AreTextsShownAnew, IsOpenedIf, IsScrapSet, IsSelected, IsTextEdited, IsTextEffect, IsTextLaid, IsTextMade, IsTextStep}
 use Rattle.text_mgr.specs.WholeTexts.{AreWholeTexts}
 use Rattle.text_mgr.proofs.Distinct.{last_apart, none_new, shaped_apart, without_apart}
@@ -110,7 +112,10 @@ module _ (before after : TextDesk) (was : AreWholeTexts before.desk.windows.desk
 
   -- a new text record is in a window that is there, of which no layer is of its serial
   new_there : (n : NewText) → first_refusal (text_refusals (call.New n) before.desk.windows.desk before.texts) ≡ None → (w : WindowRecord) × (record_with n.window before.desk.windows.desk.windows ≡ Some w)
-  new_there n none = there_window (record_with n.window before.desk.windows.desk.windows) (none_hold (is_missing n.window before.desk.windows.desk.windows) NoSuchWindow _ none).0
+  new_there n none = there_window (record_with n.window before.desk.windows.desk.windows) (none_hold (is_missing n.window before.desk.windows.desk.windows) NoSuchWindow
+      ((not (may_stand_in false n.place (record_with n.window before.desk.windows.desk.windows)), OutOfRange)
+      ∷ (is_none (justification_of n.justification), OutOfRange)
+      ∷ (is_full (count_of n.window before.texts.texts) before.texts.next, TooMany) ∷ []) none).0
 
   new_apart : (n : NewText) (serial : ℕ) (made : IsTextMade n serial before after) (w : (v : WindowRecord) × (record_with n.window before.desk.windows.desk.windows ≡ Some v))
       → ArePartsApart w.0.layers → ArePartsApart (with_last made.layer w.0.layers)

@@ -194,9 +194,12 @@ module _ (before after : TextDesk) (whole : AreWholeTexts before.desk.windows.de
   made_whole : (n : NewText) (serial : ℕ) → first_refusal (text_refusals (call.New n) before.desk.windows.desk before.texts) ≡ None → IsTextMade n serial before after → WholeAfter
   made_whole n serial none made =
       let full = is_full (count_of n.window ts) before.texts.next in
-      let first = none_hold (is_missing n.window ws) NoSuchWindow _ none in
-      let second = none_hold (not (may_stand_in false n.place (record_with n.window ws))) OutOfRange _ first.1 in
-      let third = none_hold (is_none (justification_of n.justification)) OutOfRange _ second.1 in
+      let last = (full, TooMany) ∷ [] in
+      let third_on = (is_none (justification_of n.justification), OutOfRange) ∷ last in
+      let second_on = (not (may_stand_in false n.place (record_with n.window ws)), OutOfRange) ∷ third_on in
+      let first = none_hold (is_missing n.window ws) NoSuchWindow second_on none in
+      let second = none_hold (not (may_stand_in false n.place (record_with n.window ws))) OutOfRange third_on first.1 in
+      let third = none_hold (is_none (justification_of n.justification)) OutOfRange last second.1 in
       let fourth = none_hold full TooMany [] third.1 in
       let w = there_window (record_with n.window ws) first.0 in
       let may = not_false (may_stand_in false n.place (record_with n.window ws)) second.0 in

@@ -1,3 +1,4 @@
+use Rattle.std.proofs.Common.{Ok}
 use Rattle.desk_call.specs.declared.text.TextCall.TheVariants as asks
 use Rattle.text_mgr.specs.Spots.{opened}
 use Rattle.text_mgr.proofs.Performed.{asked_by, by_call, while_open}
@@ -77,15 +78,15 @@ returns-in-Scrap-clause-step g c begun =
 
 pub returns-in-SetScrap-clause-step : goal.returns-in-SetScrap-clause-step
 returns-in-SetScrap-clause-step g c begun =
-    asked_by _ c.args.call.now (asks.SetScrap c.in-SetScrap.bytes.now) _ c.args.windows.now c.args.windows.now c.args.self.now c.set_scrap.new.self (opened c.args.activity.now begun) (opened c.args.activity.now begun) c.in-SetScrap.is
+    asked_by _ c.args.call.now (asks.SetScrap c.in-SetScrap.bytes) _ c.args.windows.now c.args.windows.now c.args.self.now c.set_scrap.new.self (opened c.args.activity.now begun) (opened c.args.activity.now begun) c.in-SetScrap.is
     (c.set_scrap.ensures (opened c.args.activity.now begun))
 
 pub returns-in-Width-clause-step : goal.returns-in-Width-clause-step
 returns-in-Width-clause-step g c begun =
-    asked_by _ c.args.call.now (asks.Width c.in-Width.bytes.now) _ c.args.windows.now c.args.windows.now c.args.self.now c.args.self.now (opened c.args.activity.now begun) (opened c.args.activity.now begun) c.in-Width.is
+    asked_by _ c.args.call.now (asks.Width c.in-Width.bytes) _ c.args.windows.now c.args.windows.now c.args.self.now c.args.self.now (opened c.args.activity.now begun) (opened c.args.activity.now begun) c.in-Width.is
     (c.width.ensures (opened c.args.activity.now begun))
 
 pub returns-in-FontInfo-clause-step : goal.returns-in-FontInfo-clause-step
 returns-in-FontInfo-clause-step g c begun =
-    asked_by _ c.args.call.now asks.FontInfo _ c.args.windows.now c.args.windows.now c.args.self.now c.args.self.now (opened c.args.activity.now begun) (opened c.args.activity.now begun) c.in-FontInfo.is
+    asked_by _ c.args.call.now asks.FontInfo (Ok c.font_info.result) c.args.windows.now c.args.windows.now c.args.self.now c.args.self.now (opened c.args.activity.now begun) (opened c.args.activity.now begun) c.in-FontInfo.is
     (c.font_info.ensures (opened c.args.activity.now begun))
