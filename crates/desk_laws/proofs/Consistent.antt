@@ -1,5 +1,5 @@
 -- Each state that a Toolbox reaches is consistent.
-use Rattle.std.proofs.Common.{◌≡◌, true, List, [], ◌∷◌, map, Result, Ok, refl, sym, ap, ◌∙◌, subst, arith}
+use Rattle.std.proofs.Common.{◌≡◌, ℕ, ◌≤◌, true, List, [], ◌∷◌, length, map, Result, Ok, refl, sym, ap, ◌∙◌, subst, arith}
 use Rattle.std.specs.Prelude.{IfSome, pos}
 use Rattle.std.proofs.lemmas.List.Elements.{All-nil, All-same}
 use Rattle.tb_geom.specs.declared.refusal.Refusal.{Refusal}
@@ -14,6 +14,9 @@ use Rattle.menu_mgr.proofs.Stocks.{stocked_by_full}
 use Rattle.vis_update.specs.Records.{WindowRecord}
 use Rattle.window_frame.specs.Followers.{Knows}
 use Rattle.window_frame.specs.Followers.Flag.{Highlighting, Zooming}
+use Rattle.text_record.specs.Texts.{IsRecord}
+use Rattle.text_mgr.specs.TextDesks.{KeptText}
+use Rattle.text_mgr.specs.WholeTexts.{IsSelectable}
 use Rattle.desk_toolbox.specs.declared.events.Events.{Events}
 use Rattle.desk_toolbox.specs.Classes.{AreClassed, IsOrdinary}
 use Rattle.desk_toolbox.specs.Reached.{AreMenusApart, HasLiveDefinition, IsLit, IsPulledThere, IsThere, IsTrackedIfHeard, IsConsistent, IsJustBegun, open_window}
@@ -92,6 +95,11 @@ just_begun_is_consistent s begun =
       opened = subst (λ a. IsThere (open_window a) windows) (sym begun.idle) tt;
       contents = begun_contents s begun;
       trackable = subst (λ a. IsTrackable a s.controls.controls) (sym begun.idle) tt;
+      selectable = subst (λ a. IsSelectable a s.texts.texts) (sym begun.idle) tt;
+      records = record {
+        texts = All-same (λ (t : KeptText). IsRecord t.kept) s.texts.texts [] begun.texts (All-nil (λ (t : KeptText). IsRecord t.kept));
+        scrap = subst (λ (bytes : List ℕ). length bytes ≤ 32000) (sym begun.scrap) (omega arith);
+      };
       bars = (subst IsFromOne (sym begun.next_control) (omega arith), All-same (HasGivenBars s.controls.next) s.lists.lists [] begun.lists (All-nil (HasGivenBars s.controls.next)));
       queued = All-same (λ (e : Event). is_posted e.what ≡ true) s.events.queue.events [] (ap (λ (e : Events). e.queue.events) begun.events) (All-nil (λ (e : Event). is_posted e.what ≡ true));
       held = subst (λ (ws : List WindowRecord). AreStocked (λ (d : WindowDefinition). d.stage) (map (λ w. w.slot) ws) s.desk.windows.desk.stock) (sym begun.windows) (λ k. none_used_at (λ (d : WindowDefinition). d.stage) s.desk.windows.desk.stock k begun.stock);

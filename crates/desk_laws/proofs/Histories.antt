@@ -66,7 +66,7 @@ quiet (Some w) told active new_active new rest is = ap (λ t. telling t new_acti
 window_step : (call : WindowCall) (answer : Result WindowReply Refusal) (before after : ToolboxState) → IsWindowMade call answer before after → IsOneStep (asks.Window call) (replied reply.Window answer) before after
 window_step call (Ok answer) before after made = record {
   tells = λ rest. quiet (to_dispose call) before.events.told before.desk.windows.desk.active after.desk.windows.desk.active after.events.told rest (ap (λ (e : Events). e.told) (made.events ∙ left_after call before.events));
-  recount = window_recounts call answer before.desk made.middle made.told after.desk.windows after.controls.controls after.lists.lists made.answered made.caught_up made.shown;
+  recount = window_recounts call answer before.desk made.middle made.told after.desk.windows after.controls.controls after.lists.lists after.texts.texts made.answered made.caught_up made.shown;
 }
 window_step call (Err e) before after (answered, kept) = record {
   tells = λ rest. quiet None before.events.told before.desk.windows.desk.active after.desk.windows.desk.active after.events.told rest (ap (λ (e : Events). e.told) kept.events);

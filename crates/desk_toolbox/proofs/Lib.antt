@@ -4,9 +4,11 @@ pub mod KeptDesks
 pub mod Bonds
 pub mod KnownLayers
 pub mod ContentsBeside
+pub mod TextFacts
+pub mod TextsBeside
+pub mod TextsGone
 pub mod ContentsLeft
 pub mod Sides
-pub mod TextFacts
 pub mod EachManager
 pub mod AskingCalls
 pub mod Runs
@@ -37,6 +39,8 @@ pub mod MenuStands
 pub mod TrackedControls
 pub mod ListStands
 pub mod TextStands
+pub mod SelectedTexts
+pub mod TextsAside
 pub mod ControlsAside
 pub mod ListsAside
 pub mod MenusBeside

@@ -54,7 +54,7 @@ use Rattle.desk_call.specs.declared.outline.OutlineReply.{OutlineReply}
 use Rattle.window_outline.specs.OutlineSteps.{IsOutlineStep}
 use Rattle.desk_toolbox.proofs.UpdatedDesks.{update_keeps_desk}
 use Rattle.desk_toolbox.proofs.ContentsBeside.{IsRightToolbox, still, beside_frames, beside_menus}
-use Rattle.desk_toolbox.proofs.ContentsLeft.{control_stays_right, list_stays_right, made_stays_right}
+use Rattle.desk_toolbox.proofs.ContentsLeft.{control_stays_right, list_stays_right, made_stays_right, text_stays_right}
 use Rattle.control_mgr.proofs.ControlFacts.{control_facts}
 use Rattle.list_mgr.specs.ListSteps.{IsListStep}
 use Rattle.list_mgr.proofs.ListFacts.{list_facts}
@@ -76,19 +76,19 @@ unchanged_desk_stays_right before after right same = unchanged_stays_right befor
 window_stays_right : (call : WindowCall) (answer : Result WindowReply Refusal) (before after : ToolboxState) → IsRightToolbox before → IsWindowMade call answer before after → IsRightToolbox after
 window_stays_right call (Ok answer) before after was made =
     let asked = narrowed call before.desk.activity before.desk.begun in
-    made_stays_right call answer before made.middle made.told after was made.answered made.caught_up made.shown made.controls made.lists
+    made_stays_right call answer before made.middle made.told after was made.answered made.caught_up made.shown made.controls made.lists made.texts
     (caught_up_stays_right (window_standing call) made.middle.windows made.told (answer_stays_right asked call (Ok answer) before.desk made.middle was.right made.answered) made.caught_up)
 window_stays_right call (Err e) before after was (answered, rest) =
     let asked = narrowed call before.desk.activity before.desk.begun in
     record {
       right = answer_stays_right asked call (Err e) before.desk after.desk was.right answered;
-      contents = still before after (refused_keeps_desk asked call e before.desk after.desk answered) rest.controls rest.lists was.contents;
+      contents = still before after (refused_keeps_desk asked call e before.desk after.desk answered) rest.controls rest.lists rest.texts was.contents;
     }
 
-unchanged_stays : (before after : ToolboxState) → IsDeskUnchanged before.desk after.desk → after.controls ≡ before.controls → after.lists ≡ before.lists → IsRightToolbox before → IsRightToolbox after
-unchanged_stays before after same controls lists was = record {
+unchanged_stays : (before after : ToolboxState) → IsDeskUnchanged before.desk after.desk → after.controls ≡ before.controls → after.lists ≡ before.lists → after.texts ≡ before.texts → IsRightToolbox before → IsRightToolbox after
+unchanged_stays before after same controls lists texts was = record {
   right = unchanged_desk_stays_right before after was.right same;
-  contents = still before after same.windows.desk controls lists was.contents;
+  contents = still before after same.windows.desk controls lists texts was.contents;
 }
 
 abbrev StaysRight : Call → Result Reply Refusal → ToolboxState → ToolboxState → Type 0
@@ -96,30 +96,31 @@ StaysRight call answer before after = IsRightToolbox before → IsRightToolbox a
 
 each_stays_right : HoldsOfEach StaysRight
 each_stays_right = record {
-  unchanged = λ call e before after same was. unchanged_stays before after same.desk same.controls same.lists was;
-  covered = λ p before after same was. unchanged_stays before after same.desk same.controls same.lists was;
-  hidden = λ p before after same was. unchanged_stays before after same.desk same.controls same.lists was;
+  unchanged = λ call e before after same was. unchanged_stays before after same.desk same.controls same.lists same.texts was;
+  covered = λ p before after same was. unchanged_stays before after same.desk same.controls same.lists same.texts was;
+  hidden = λ p before after same was. unchanged_stays before after same.desk same.controls same.lists same.texts was;
   window = λ call answer before after may step was. window_stays_right call answer before after was step;
   update = λ call answer before after may step rest was. record {
     right = update_stays_right call answer before.desk after.desk was.right step;
-    contents = still before after (update_keeps_desk call answer before.desk after.desk step) rest.controls rest.lists was.contents;
+    contents = still before after (update_keeps_desk call answer before.desk after.desk step) rest.controls rest.lists rest.texts was.contents;
   };
   frame = λ call answer before after may step rest was. record {
     right = frame_stays_right call answer before.desk after.desk was.right step;
-    contents = beside_frames call answer before after step rest.controls rest.lists was.contents;
+    contents = beside_frames call answer before after step rest.controls rest.lists rest.texts was.contents;
   };
-  control = λ call answer before after may step events lists texts menus was. control_stays_right call answer before after was step lists;
-  list = λ call answer before after may step events texts menus was. list_stays_right call answer before after was step;
+  control = λ call answer before after may step events lists texts menus was. control_stays_right call answer before after was step lists texts;
+  list = λ call answer before after may step events texts menus was. list_stays_right call answer before after was step texts;
+  text = λ call answer before after may step events controls lists menus was. text_stays_right call answer before after was step controls lists;
   menu = λ call answer before after may step events controls lists texts was. record {
     right = menu_stays_right call answer (with_menus before) (with_menus after) was.right step;
-    contents = beside_menus call answer before after step controls lists was.contents;
+    contents = beside_menus call answer before after step controls lists texts was.contents;
   };
   outline = λ call answer before after may step rest was. record {
     right = unchanged_stays_right before.desk.windows after.desk.windows was.right (outline_unchanged call answer before.desk after.desk step);
-    contents = still before after (outline_keeps_desk call answer before.desk after.desk step) rest.controls rest.lists was.contents;
+    contents = still before after (outline_keeps_desk call answer before.desk after.desk step) rest.controls rest.lists rest.texts was.contents;
   };
   moved = λ call move before after may step was. window_stays_right (asks.Move move) (Ok window_reply.Done) (put_down before) after (put_down_right before was) step;
-  event = λ call answer before after step was. unchanged_stays before after step.desk step.controls step.lists was;
+  event = λ call answer before after step was. unchanged_stays before after step.desk step.controls step.lists step.texts was;
 }
 
 pub admitted_stays_right : (call : Call) (answer : Result Reply Refusal) (before after : ToolboxState) → gate before.desk.activity (standing_of call) ≡ None → IsRightToolbox before → IsAdmitted call answer before after → IsRightToolbox after

@@ -129,7 +129,7 @@ module _ (before after : TextDesk) where
   text_opens (texts.Width bytes) answer none (is, same) = inl same.desk.activity
   text_opens texts.FontInfo answer none (is, same) = inl same.desk.activity
 
-open_then : (vs : List WindowRecord) (a b : Activity) → AtMostText a → IsOpenAfterText vs a b → AtMostText b
+pub open_then : (vs : List WindowRecord) (a b : Activity) → AtMostText a → IsOpenAfterText vs a b → AtMostText b
 open_then vs a b was after = ⊎_elim
     (λ same. subst AtMostText (sym same) was)
     (λ other. ⊎_elim (λ idle. inl idle) (λ (k, is, there). inr (k, is)) other)
@@ -151,7 +151,7 @@ opened_present a b ws vs count after was = ⊎_elim
     after
 
 -- no control is tracked
-untracked : (a : Activity) (cs : List ControlRecord) → AtMostText a → IsTrackable a cs
+pub untracked : (a : Activity) (cs : List ControlRecord) → AtMostText a → IsTrackable a cs
 untracked a cs most = ⊎_elim (λ idle. subst (λ b. IsTrackable b cs) (sym idle) tt) (λ (k, is). subst (λ b. IsTrackable b cs) (sym is) tt) most
 
 -- ---- any call
