@@ -23,6 +23,7 @@ pub mod Floaters
 pub mod LeftByMenus
 pub mod OutlineLaws
 pub mod OpenUpdates
+pub mod KeptSelectables
 pub mod ServedRuns
 pub mod RegionLaws
 pub mod KeptValues

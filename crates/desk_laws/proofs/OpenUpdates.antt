@@ -123,7 +123,7 @@ made_changes_nothing call (Ok answer) before after e shows made =
     (subst (λ (s : FullState). IsUnchanged before.desk.windows s) (sym told_is) (answer_asks (narrowed call before.desk.activity before.desk.begun) call (Ok answer) before.desk made.middle made.answered e))
 made_changes_nothing call (Err e) before after asks_only shows step = answer_asks (narrowed call before.desk.activity before.desk.begun) call (Err e) before.desk after.desk step.0 asks_only
 
-made_stays_open : (call : WindowCall) (answer : Result WindowReply Refusal) (before after : ToolboxState) → IsWindowMade call answer before after → SameActivity before.desk after.desk
+pub made_stays_open : (call : WindowCall) (answer : Result WindowReply Refusal) (before after : ToolboxState) → IsWindowMade call answer before after → SameActivity before.desk after.desk
 made_stays_open call (Ok answer) before after made =
     let first = answer_stays_open (narrowed call before.desk.activity before.desk.begun) call (Ok answer) before.desk made.middle made.answered in
     record { activity = made.activity.activity ∙ first.activity; begun = made.activity.begun ∙ first.begun }
