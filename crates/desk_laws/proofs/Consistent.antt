@@ -14,12 +14,11 @@ use Rattle.menu_mgr.proofs.Stocks.{stocked_by_full}
 use Rattle.vis_update.specs.Records.{WindowRecord}
 use Rattle.window_frame.specs.Followers.{Knows}
 use Rattle.window_frame.specs.Followers.Flag.{Highlighting, Zooming}
-use Rattle.text_record.specs.Texts.{IsRecord}
 use Rattle.text_mgr.specs.TextDesks.{KeptText}
 use Rattle.text_mgr.specs.WholeTexts.{IsSelectable}
 use Rattle.desk_toolbox.specs.declared.events.Events.{Events}
 use Rattle.desk_toolbox.specs.Classes.{AreClassed, IsOrdinary}
-use Rattle.desk_toolbox.specs.Reached.{AreMenusApart, HasLiveDefinition, IsLit, IsPulledThere, IsThere, IsTrackedIfHeard, IsConsistent, IsJustBegun, open_window}
+use Rattle.desk_toolbox.specs.Reached.{AreMenusApart, HasLiveDefinition, IsHeld, IsLit, IsPulledThere, IsThere, IsTrackedIfHeard, IsConsistent, IsJustBegun, open_window}
 use Rattle.desk_toolbox.specs.Run.{IsStep, IsRunOfCalls}
 use Rattle.desk_toolbox.specs.ToolboxStates.{ToolboxState}
 use Rattle.desk_toolbox.proofs.EachManager.{HoldsOfEach, of_step}
@@ -40,6 +39,8 @@ use Rattle.desk_toolbox.proofs.TrackedControls.{control_stands, none_used_at}
 use Rattle.desk_toolbox.proofs.ListStands.{begun_contents, list_stands}
 use Rattle.desk_toolbox.proofs.TextStands.{text_stands}
 use Rattle.desk_laws.proofs.GivenBars.{step_keeps_bars}
+use Rattle.desk_laws.proofs.HeldTexts.{step_keeps_texts}
+use Rattle.desk_laws.proofs.KeptSelectables.{step_keeps_selectable}
 use Rattle.control_mgr.specs.InUse.{AreStocked}
 use Rattle.control_mgr.specs.WholeControls.{IsTrackable}
 use Rattle.list_mgr.specs.GivenBars.{HasGivenBars, IsFromOne}
@@ -74,6 +75,8 @@ step_keeps_consistent call answer before after was step =
     (step_stays_classed call answer before after step was.classed)
     (step_keeps_held call answer before after step now.pull.pulled (record { stocked = was.stocked; title = was.title }))
     (step_keeps_bars call answer before after step was.bars)
+    (step_keeps_selectable call answer before after step was.records was.selectable)
+    (step_keeps_texts call answer before after step was.selectable was.records)
 
 pub run_keeps_consistent : (first last : ToolboxState) (calls : List Call) (answers : List (Result Reply Refusal)) → IsConsistent first → IsRunOfCalls first calls answers last → IsConsistent last
 run_keeps_consistent first last [] [] was run = subst IsConsistent (sym run) was
@@ -97,7 +100,7 @@ just_begun_is_consistent s begun =
       trackable = subst (λ a. IsTrackable a s.controls.controls) (sym begun.idle) tt;
       selectable = subst (λ a. IsSelectable a s.texts.texts) (sym begun.idle) tt;
       records = record {
-        texts = All-same (λ (t : KeptText). IsRecord t.kept) s.texts.texts [] begun.texts (All-nil (λ (t : KeptText). IsRecord t.kept));
+        texts = All-same (λ (t : KeptText). IsHeld t.kept) s.texts.texts [] begun.texts (All-nil (λ (t : KeptText). IsHeld t.kept));
         scrap = subst (λ (bytes : List ℕ). length bytes ≤ 32000) (sym begun.scrap) (omega arith);
       };
       bars = (subst IsFromOne (sym begun.next_control) (omega arith), All-same (HasGivenBars s.controls.next) s.lists.lists [] begun.lists (All-nil (HasGivenBars s.controls.next)));

@@ -40,19 +40,16 @@ use Rattle.text_mgr.specs.TextPlaces.{justification_of, placing_of}
 use Rattle.text_mgr.specs.TextRefusals.{named_refusals, text_refusals}
 use Rattle.text_mgr.specs.TextSteps.{IsOpenedIf, IsScrapSet, IsSelected, IsTextChanged, IsTextDisposed, IsTextEdited, IsTextEffect, IsTextLaid, IsTextMade, IsTextShownAnew, IsTextStep}
 use Rattle.text_mgr.specs.WholeTexts.{IsSelectable}
+use Rattle.desk_toolbox.specs.Reached.{AreRecords, IsHeld}
 use Rattle.desk_toolbox.specs.Run.{AreTextsLeft, IsStep, IsWindowMade, put_down}
 use Rattle.desk_toolbox.specs.ToolboxStates.{ToolboxState, with_texts}
 use Rattle.desk_toolbox.proofs.EachManager.{HoldsOfEach, of_step}
-use Rattle.desk_laws.proofs.SelectionsStay.{IsAnchorIn, IsHeld, anchor_in, deleted_held, extended_held, inserted_held, keyed_held, pasted_held, range_few, selected_held, set_held}
+use Rattle.desk_laws.proofs.SelectionsStay.{IsAnchorIn, anchor_in, deleted_held, extended_held, inserted_held, keyed_held, pasted_held, range_few, selected_held, set_held}
 
 -- ---- each text record, and the scrap
 
 abbrev pub Held : KeptText → Type 0
 Held t = IsHeld t.kept
-
-pub record AreHeld (s : TextsState) : Type 0 where
-  pub texts : All Held s.texts
-  pub scrap : length s.scrap ≤ 32000
 
 edited_all : (f : Record → Record) (at : ℕ) (ts : List KeptText) → All Held ts → ((x : KeptText) → slice_get ts at ≡ Some x → IsHeld (f x.kept)) → All Held (edit_at (with_kept f) at ts)
 edited_all f at [] held h = All-nil Held
@@ -142,29 +139,29 @@ scrap_short c scrap r was short = short
 
 -- ---- any call
 
-module _ (before after : TextDesk) (was : AreHeld before.texts) where
-  still : after.texts ≡ before.texts → AreHeld after.texts
-  still same = subst AreHeld (sym same) was
+module _ (before after : TextDesk) (was : AreRecords before.texts) where
+  still : after.texts ≡ before.texts → AreRecords after.texts
+  still same = subst AreRecords (sym same) was
 
-  changed_held : (t : TextOf) (f : Record → Record) (scrap : List ℕ) → IsTextChanged t f scrap before after → length scrap ≤ 32000 → ((x : KeptText) → text_of t before.texts.texts ≡ Some x → Held x → IsHeld (f x.kept)) → AreHeld after.texts
-  changed_held t f scrap done short h = subst AreHeld (sym done.texts) (record {
+  changed_held : (t : TextOf) (f : Record → Record) (scrap : List ℕ) → IsTextChanged t f scrap before after → length scrap ≤ 32000 → ((x : KeptText) → text_of t before.texts.texts ≡ Some x → Held x → IsHeld (f x.kept)) → AreRecords after.texts
+  changed_held t f scrap done short h = subst AreRecords (sym done.texts) (record {
     texts = edited_all f done.at before.texts.texts was.texts (λ x there. h x (named_at t before.texts.texts done.at x done.found there) (held_at before.texts.texts done.at x was.texts there));
     scrap = short;
   })
 
-  laid_held : (t : TextOf) (f : Record → Record) → IsTextLaid t f before after → ((r : Record) → IsHeld r → IsHeld (f r)) → AreHeld after.texts
+  laid_held : (t : TextOf) (f : Record → Record) → IsTextLaid t f before after → ((r : Record) → IsHeld r → IsHeld (f r)) → AreRecords after.texts
   laid_held t f done h = changed_held t f before.texts.scrap done.changed was.scrap (λ x named held. h x.kept held)
 
-  scrap_held : (bytes : List ℕ) → IsScrapSet bytes before after → length bytes ≤ 32000 → AreHeld after.texts
-  scrap_held bytes done short = subst AreHeld (sym done.texts) (record { texts = was.texts; scrap = short })
+  scrap_held : (bytes : List ℕ) → IsScrapSet bytes before after → length bytes ≤ 32000 → AreRecords after.texts
+  scrap_held bytes done short = subst AreRecords (sym done.texts) (record { texts = was.texts; scrap = short })
 
-  edit_held : (t : TextOf) (c : TextCall) (answer : TextReply) → first_refusal (named_refusals t (edit_refusals c before.texts.scrap) before.desk.windows.desk before.texts.texts) ≡ None → IsTextEdited t c answer before after → AreHeld after.texts
+  edit_held : (t : TextOf) (c : TextCall) (answer : TextReply) → first_refusal (named_refusals t (edit_refusals c before.texts.scrap) before.desk.windows.desk before.texts.texts) ≡ None → IsTextEdited t c answer before after → AreRecords after.texts
   edit_held t c answer none (is, activity, (x, named, done)) =
       changed_held t (edited c before.texts.scrap) (scrap_after c before.texts.scrap x.kept) done.changed
       (scrap_short c before.texts.scrap x.kept (held_named t before.texts.texts x was.texts named) was.scrap)
       (λ y its held. edited_held c before.texts.scrap y.kept held (judged_none t (edit_refusals c before.texts.scrap) before.desk.windows.desk before.texts.texts y its none))
 
-  clicked_held : (b : Bool) (c : ClickText) (mode : ClickMode) (x : KeptText) (answer : TextReply) → text_of c.text before.texts.texts ≡ Some x → IsOpenedIf b c mode x.kept answer before after → AreHeld after.texts
+  clicked_held : (b : Bool) (c : ClickText) (mode : ClickMode) (x : KeptText) (answer : TextReply) → text_of c.text before.texts.texts ≡ Some x → IsOpenedIf b c mode x.kept answer before after → AreRecords after.texts
   clicked_held false c mode x answer named (is, same) = still same.texts
   clicked_held true c mode x answer named (is, opens, done) =
       changed_held c.text _ before.texts.scrap done.changed was.scrap
@@ -175,7 +172,7 @@ module _ (before after : TextDesk) (was : AreHeld before.texts) where
       one_some : (a b : KeptText) → Some a ≡ Some b → a ≡ b
       one_some a b e = cc
 
-  step_held : (a now : Activity) (p : Point) (answer : TextReply) → IsSelectable a before.texts.texts → IsSelected a now p answer before after → AreHeld after.texts
+  step_held : (a now : Activity) (p : Point) (answer : TextReply) → IsSelectable a before.texts.texts → IsSelected a now p answer before after → AreRecords after.texts
   step_held (Selecting k) now p answer (t, there, order, within) (opens, (x, named, (is, done))) =
       changed_held k.text (extended_to k.anchor k.mode p) before.texts.scrap done.changed was.scrap
       (λ y its held.
@@ -192,13 +189,13 @@ module _ (before after : TextDesk) (was : AreHeld before.texts) where
   step_held (Dragging d) now p answer its wrong = absurd wrong
   step_held (Growing g) now p answer its wrong = absurd wrong
 
-  effect_held : (c : TextCall) (answer : TextReply) → IsSelectable before.desk.activity before.texts.texts → first_refusal (text_refusals c before.desk.windows.desk before.texts) ≡ None → IsTextEffect c answer before after → AreHeld after.texts
-  effect_held (call.New n) answer its none (serial, is, made) = subst AreHeld (sym made.texts) (record {
+  effect_held : (c : TextCall) (answer : TextReply) → IsSelectable before.desk.activity before.texts.texts → first_refusal (text_refusals c before.desk.windows.desk before.texts) ≡ None → IsTextEffect c answer before after → AreRecords after.texts
+  effect_held (call.New n) answer its none (serial, is, made) = subst AreRecords (sym made.texts) (record {
     texts = pushed_all before.texts.texts made.text was.texts (subst Held (sym made.made) (record { order = omega arith; within = omega arith; short = omega arith }));
     scrap = was.scrap;
   })
   effect_held (call.Place p) answer its none (is, done) = laid_held p.text (placed (placing_of p.place)) done (λ r held. record { order = held.order; within = held.within; short = held.short })
-  effect_held (call.Dispose t) answer its none (is, gone) = subst AreHeld (sym gone.texts) (record { texts = removed_all gone.at before.texts.texts was.texts; scrap = was.scrap })
+  effect_held (call.Dispose t) answer its none (is, gone) = subst AreRecords (sym gone.texts) (record { texts = removed_all gone.at before.texts.texts was.texts; scrap = was.scrap })
   effect_held (call.Show t) answer its none (is, done) = laid_held t (shown_as true) done (λ r held. record { order = held.order; within = held.within; short = held.short })
   effect_held (call.Hide t) answer its none (is, done) = laid_held t (shown_as false) done (λ r held. record { order = held.order; within = held.within; short = held.short })
   effect_held (call.Set b) answer its none done = edit_held b.text (call.Set b) answer none done
@@ -229,7 +226,7 @@ module _ (before after : TextDesk) (was : AreHeld before.texts) where
   effect_held (call.Width bytes) answer its none (is, same) = still same.texts
   effect_held call.FontInfo answer its none (is, same) = still same.texts
 
-  pub text_held : (c : TextCall) (result : Result TextReply Refusal) → IsSelectable before.desk.activity before.texts.texts → IsTextStep c result before after → AreHeld after.texts
+  pub text_held : (c : TextCall) (result : Result TextReply Refusal) → IsSelectable before.desk.activity before.texts.texts → IsTextStep c result before after → AreRecords after.texts
   text_held c (Ok answer) its step = effect_held c answer its step.0 step.1
   text_held c (Err e) its step = still step.1.texts
 
@@ -241,22 +238,22 @@ all_within ts [] held within = All-nil Held
 all_within ts (u ∷ us) held within =
     All-cons Held u us (All-contains Held ts u held (All-head (Contains ts) u us within)) (all_within ts us held (All-tail (Contains ts) u us within))
 
-left_held : (c : WindowCall) (before after : TextsState) → AreTextsLeft c before after → AreHeld before → AreHeld after
+left_held : (c : WindowCall) (before after : TextsState) → AreTextsLeft c before after → AreRecords before → AreRecords after
 left_held (windows.Dispose s) before after left was = record {
   texts = all_within before.texts after.texts was.texts left.within;
   scrap = subst (λ bytes. length bytes ≤ 32000) (sym left.scrap) was.scrap;
 }
-left_held c before after same was = subst AreHeld (sym same) was
+left_held c before after same was = subst AreRecords (sym same) was
 
-window_held : (c : WindowCall) (answer : Result WindowReply Refusal) (before after : ToolboxState) → IsWindowMade c answer before after → AreHeld before.texts → AreHeld after.texts
+window_held : (c : WindowCall) (answer : Result WindowReply Refusal) (before after : ToolboxState) → IsWindowMade c answer before after → AreRecords before.texts → AreRecords after.texts
 window_held c (Ok answer) before after step was = left_held c before.texts after.texts step.texts was
-window_held c (Err e) before after step was = subst AreHeld (sym step.1.texts) was
+window_held c (Err e) before after step was = subst AreRecords (sym step.1.texts) was
 
 abbrev StaysHeld : Call → Result Reply Refusal → ToolboxState → ToolboxState → Type 0
-StaysHeld c answer before after = IsSelectable before.desk.activity before.texts.texts → AreHeld before.texts → AreHeld after.texts
+StaysHeld c answer before after = IsSelectable before.desk.activity before.texts.texts → AreRecords before.texts → AreRecords after.texts
 
-same_held : (before after : ToolboxState) → after.texts ≡ before.texts → AreHeld before.texts → AreHeld after.texts
-same_held before after same was = subst AreHeld (sym same) was
+same_held : (before after : ToolboxState) → after.texts ≡ before.texts → AreRecords before.texts → AreRecords after.texts
+same_held before after same was = subst AreRecords (sym same) was
 
 each_stays_held : HoldsOfEach StaysHeld
 each_stays_held = record {
@@ -276,5 +273,5 @@ each_stays_held = record {
 }
 
 -- where the text record in which the mouse selects is there
-pub step_keeps_texts : (c : Call) (answer : Result Reply Refusal) (before after : ToolboxState) → IsStep c answer before after → IsSelectable before.desk.activity before.texts.texts → AreHeld before.texts → AreHeld after.texts
+pub step_keeps_texts : (c : Call) (answer : Result Reply Refusal) (before after : ToolboxState) → IsStep c answer before after → IsSelectable before.desk.activity before.texts.texts → AreRecords before.texts → AreRecords after.texts
 step_keeps_texts = of_step StaysHeld each_stays_held

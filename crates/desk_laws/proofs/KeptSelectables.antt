@@ -23,7 +23,7 @@ use Rattle.desk_toolbox.proofs.EachManager.{HoldsOfEach, of_step}
 use Rattle.desk_toolbox.proofs.MenuStands.{menu_selectable}
 use Rattle.desk_toolbox.proofs.OutlineStands.{outline_comes_then, outlining_after, outlining_selects_none}
 use Rattle.desk_toolbox.proofs.SelectedTexts.{control_selectable, frame_selectable, left_selectable, selectable_stays, update_selectable}
-use Rattle.desk_laws.proofs.HeldTexts.{AreHeld}
+use Rattle.desk_toolbox.specs.Reached.{AreRecords}
 use Rattle.desk_laws.proofs.OpenUpdates.{made_stays_open}
 use Rattle.desk_laws.proofs.SelectableStays.{text_selectable}
 
@@ -31,7 +31,7 @@ abbrev Selectable : ToolboxState → Type 0
 Selectable s = IsSelectable s.desk.activity s.texts.texts
 
 abbrev StaysSelectable : Call → Result Reply Refusal → ToolboxState → ToolboxState → Type 0
-StaysSelectable call answer before after = AreHeld before.texts → Selectable before → Selectable after
+StaysSelectable call answer before after = AreRecords before.texts → Selectable before → Selectable after
 
 -- where the text records are the same
 with_same : (before after : ToolboxState) → after.texts ≡ before.texts → IsSelectable after.desk.activity before.texts.texts → Selectable after
@@ -68,5 +68,5 @@ each_stays_selectable = record {
   event = λ call answer before after step held was. selectable_stays before after step.desk.activity step.texts was;
 }
 
-pub step_keeps_selectable : (call : Call) (answer : Result Reply Refusal) (before after : ToolboxState) → IsStep call answer before after → AreHeld before.texts → Selectable before → Selectable after
+pub step_keeps_selectable : (call : Call) (answer : Result Reply Refusal) (before after : ToolboxState) → IsStep call answer before after → AreRecords before.texts → Selectable before → Selectable after
 step_keeps_selectable = of_step StaysSelectable each_stays_selectable

@@ -22,7 +22,8 @@ use Rattle.window_items.proofs.WindowLemmas.{item_index-edit_at}
 use Rattle.text_mgr.specs.TextDesks.{IsTextDeskUnchanged, KeptText, TextDesk, TextsState, text_of}
 use Rattle.text_mgr.specs.TextSteps.{IsOpenedIf, IsSelected, IsTextChanged, IsTextEffect, IsTextStep}
 use Rattle.text_mgr.specs.WholeTexts.{IsSelectable}
-use Rattle.desk_laws.proofs.HeldTexts.{AreHeld, held_named, there_at}
+use Rattle.desk_toolbox.specs.Reached.{AreRecords}
+use Rattle.desk_laws.proofs.HeldTexts.{held_named, there_at}
 use Rattle.desk_laws.proofs.SelectionsStay.{anchor_in}
 
 -- a call that changes something comes where nothing is open
@@ -56,7 +57,7 @@ module _ (before after : TextDesk) where
       ∙ ap (option_and_then (slice_get (edit_at (with_kept f) done.at ts))) (item_index-edit_at (with_kept f) (λ y. refl) (λ y. refl) t.window t.text done.at ts ∙ done.found)
       ∙ there_edited (with_kept f) done.at ts x there
 
-  clicked : (b : Bool) (c : ClickText) (mode : ClickMode) (x : KeptText) (answer : TextReply) → AreHeld before.texts → before.desk.activity ≡ Idle → text_of c.text before.texts.texts ≡ Some x → IsOpenedIf b c mode x.kept answer before after → Selectable
+  clicked : (b : Bool) (c : ClickText) (mode : ClickMode) (x : KeptText) (answer : TextReply) → AreRecords before.texts → before.desk.activity ≡ Idle → text_of c.text before.texts.texts ≡ Some x → IsOpenedIf b c mode x.kept answer before after → Selectable
   clicked false c mode x answer held idle named (is, same) = when_idle (same.desk.activity ∙ idle)
   clicked true c mode x answer held idle named (is, opens, done) =
       let anchor = anchor_in mode c.point x.kept (held_named c.text before.texts.texts x held.texts named) in
@@ -84,7 +85,7 @@ module _ (before after : TextDesk) where
   ended (Dragging d) p answer wrong = absurd wrong
   ended (Growing g) p answer wrong = absurd wrong
 
-  effect_selectable : (c : TextCall) (answer : TextReply) → gate before.desk.activity (text_standing c) ≡ None → AreHeld before.texts → IsSelectable before.desk.activity before.texts.texts → IsTextEffect c answer before after → Selectable
+  effect_selectable : (c : TextCall) (answer : TextReply) → gate before.desk.activity (text_standing c) ≡ None → AreRecords before.texts → IsSelectable before.desk.activity before.texts.texts → IsTextEffect c answer before after → Selectable
   effect_selectable (call.New n) answer may held its (serial, is, made) = when_idle (made.activity.activity ∙ idle_now before.desk.activity may)
   effect_selectable (call.Place p) answer may held its (is, done) = when_idle (done.activity.activity ∙ idle_now before.desk.activity may)
   effect_selectable (call.Dispose t) answer may held its (is, gone) = when_idle (gone.activity.activity ∙ idle_now before.desk.activity may)
@@ -116,6 +117,6 @@ module _ (before after : TextDesk) where
   effect_selectable (call.Width bytes) answer may held its (is, same) = still same its
   effect_selectable call.FontInfo answer may held its (is, same) = still same its
 
-  pub text_selectable : (c : TextCall) (result : Result TextReply Refusal) → gate before.desk.activity (text_standing c) ≡ None → AreHeld before.texts → IsSelectable before.desk.activity before.texts.texts → IsTextStep c result before after → Selectable
+  pub text_selectable : (c : TextCall) (result : Result TextReply Refusal) → gate before.desk.activity (text_standing c) ≡ None → AreRecords before.texts → IsSelectable before.desk.activity before.texts.texts → IsTextStep c result before after → Selectable
   text_selectable c (Ok answer) may held its step = effect_selectable c answer may held its step.1
   text_selectable c (Err e) may held its step = still step.1 its

@@ -15,12 +15,7 @@ use Rattle.text_edits.specs.declared.selecting.ClickMode.{ClickMode}
 use Rattle.text_edits.specs.declared.selecting.ClickMode.TheVariants.{Points, Extends, Words}
 use Rattle.text_edits.specs.Edits.{above, backspaced, below, deleted, inserted, is_point, is_selection, is_typed, keyed, left_of, pasted, pointed, right_of, selected, with_text}
 use Rattle.text_edits.specs.Selecting.{anchor_at, anchor_of, extended, extended_to, reached}
-
--- no selection reaches past its text, and that is not too long
-pub record IsHeld (r : Record) : Type 0 where
-  pub order : r.start ≤ r.end
-  pub within : r.end ≤ length r.text.bytes
-  pub short : length r.text.bytes ≤ 32000
+use Rattle.desk_toolbox.specs.Reached.{IsHeld}
 
 -- ---- other bytes, and another selection
 

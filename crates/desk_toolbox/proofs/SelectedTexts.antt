@@ -1,6 +1,6 @@
 -- The text record in which the mouse selects, if it does, stays there beside calls about updates and frames, and where a window is
 -- disposed of.
-use Rattle.std.proofs.Common.{◌≡◌, ⊎_elim, ℕ, Bool, true, false, List, Result, Ok, Err, refl, sym, ◌∙◌, subst}
+use Rattle.std.proofs.Common.{◌≡◌, ⊎_elim, ℕ, Bool, true, false, List, None, Result, Ok, Err, refl, sym, ◌∙◌, subst}
 use Rattle.tb_geom.specs.declared.refusal.Refusal.{Refusal}
 use Rattle.desk_call.specs.declared.activity.Activity.{Activity}
 use Rattle.desk_call.specs.declared.activity.Activity.TheVariants.{Idle, Updating, Tracking}

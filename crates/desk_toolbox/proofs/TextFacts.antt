@@ -1,6 +1,7 @@
 -- What any call about text records leaves of the rest of a desk.
-use Rattle.std.proofs.Common.{◌≡◌, ℕ, Bool, true, false, List, map, Option, Some, Result, Ok, Err, refl, ap, ◌∙◌}
+use Rattle.std.proofs.Common.{◌≡◌, ℕ, Bool, true, false, List, ◌∷◌, map, Option, None, Some, Result, Ok, Err, refl, sym, ap, ◌∙◌}
 use Rattle.tb_geom.specs.declared.refusal.Refusal.{Refusal}
+use Rattle.tb_geom.specs.Refusals.{first_refusal}
 use Rattle.desk_layers.specs.declared.part.Part.{Part}
 use Rattle.desk_call.specs.declared.activity.Activity.{Activity}
 use Rattle.desk_call.specs.declared.activity.Activity.TheVariants.{Idle, Updating, Tracking, Pulling, TrackingControl, Dragging, Growing, Selecting}
@@ -20,8 +21,13 @@ use Rattle.window_items.specs.Items.{serial_after}
 use Rattle.window_list.specs.declared.layer.Layer.{Layer}
 use Rattle.window_mgr.specs.FullDesk.{FullDesk, FullState}
 use Rattle.control_mgr.proofs.ControlBits.{bare, bare_laid}
+use Rattle.control_mgr.proofs.Steps.{none_hold}
 use Rattle.text_mgr.specs.TextDesks.{IsTextDeskUnchanged, TextDesk, TextsState}
 use Rattle.text_mgr.specs.TextSteps.{AreTextsLaid, AreTextsShownAnew, IsOpenedIf, IsScrapSet, IsSelected, IsTextChanged, IsTextDisposed, IsTextEdited, IsTextEffect, IsTextLaid, IsTextMade, IsTextShownAnew, IsTextStep}
+
+-- where nothing refuses a call, its first reason does not hold
+pub none_first : (rs rest : List (Bool × Refusal)) (b : Bool) (e : Refusal) → rs ≡ (b, e) ∷ rest → first_refusal rs ≡ None → b ≡ false
+none_first rs rest b e is none = (none_hold b e rest (sym (ap first_refusal is) ∙ none)).0
 
 -- the desk is the same but for its windows' layers and what is shown of them
 pub record IsBesideTexts (before after : TextDesk) : Type 0 where

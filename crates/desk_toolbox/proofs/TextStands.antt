@@ -22,7 +22,6 @@ use Rattle.window_mgr.specs.Refused.{is_missing}
 use Rattle.window_frame.specs.Followers.{AreInformed}
 use Rattle.control_mgr.specs.ControlDesks.{ControlRecord}
 use Rattle.control_mgr.specs.WholeControls.{IsTrackable}
-use Rattle.control_mgr.proofs.Steps.{none_hold}
 use Rattle.text_mgr.specs.TextDesks.{IsTextDeskUnchanged, TextDesk}
 use Rattle.text_mgr.specs.TextRefusals.{text_refusals}
 use Rattle.text_mgr.specs.TextSteps.{IsOpenedIf, IsSelected, IsTextEffect, IsTextStep}
@@ -34,7 +33,7 @@ use Rattle.desk_toolbox.proofs.MenusBeside.{CoversNone}
 use Rattle.desk_toolbox.proofs.PulledMenus.{IsPullRight, still_unpulled}
 use Rattle.desk_toolbox.proofs.Stands.{Stands, apart_stays, bar_stays, idle_now, stands_still}
 use Rattle.desk_toolbox.proofs.StepCounts.{HasSame}
-use Rattle.desk_toolbox.proofs.TextFacts.{IsBesideTexts, text_facts}
+use Rattle.desk_toolbox.proofs.TextFacts.{none_first, IsBesideTexts, text_facts}
 use Rattle.desk_toolbox.proofs.Told.{ArePosted}
 use Rattle.desk_toolbox.proofs.Totals.{Classing, Has, Ordinary, Present, copies, counted, counting, either_class, found_counts, has_when, of_class, total}
 use Rattle.desk_toolbox.proofs.Tracked.{misled}
@@ -96,7 +95,7 @@ module _ (before after : TextDesk) where
   selected_opens (Dragging d) now p answer wrong = absurd wrong
   selected_opens (Growing g) now p answer wrong = absurd wrong
 
-  text_opens : (call : TextCall) (answer : TextReply) → first_refusal (text_refusals call before.desk.windows.desk before.texts) ≡ None → IsTextEffect call answer before after → Opens
+  pub text_opens : (call : TextCall) (answer : TextReply) → first_refusal (text_refusals call before.desk.windows.desk before.texts) ≡ None → IsTextEffect call answer before after → Opens
   text_opens (texts.New n) answer none (serial, is, done) = inl done.activity.activity
   text_opens (texts.Place p) answer none (is, done) = inl done.activity.activity
   text_opens (texts.Dispose t) answer none (is, done) = inl done.activity.activity
@@ -116,7 +115,7 @@ module _ (before after : TextDesk) where
   text_opens (texts.Scroll z) answer none (is, activity, done) = inl activity.activity
   text_opens (texts.ShowSelection t) answer none (is, activity, done) = inl activity.activity
   text_opens (texts.Click c) answer none (mode, of, (x, named, done)) =
-      clicked_opens (is_clicked x.kept c.point) c mode x.kept answer (none_hold (is_missing c.text.window ws) NoSuchWindow _ none).0 done
+      clicked_opens (is_clicked x.kept c.point) c mode x.kept answer (none_first (text_refusals (texts.Click c) before.desk.windows.desk before.texts) _ (is_missing c.text.window ws) NoSuchWindow refl none) done
   text_opens (texts.Step p) answer none done = inl (selected_opens before.desk.activity before.desk.activity p answer done)
   text_opens (texts.End p) answer none done = inr (inl (selected_opens before.desk.activity Idle p answer done))
   text_opens (texts.Get t) answer none (x, named, (is, same)) = inl same.desk.activity

@@ -39,7 +39,6 @@ use Rattle.control_mgr.specs.ControlDesks.{ControlRecord}
 use Rattle.control_mgr.specs.ControlSteps.{AreLayersOf}
 use Rattle.control_mgr.proofs.ControlBits.{at_serial}
 use Rattle.control_mgr.proofs.Places.{read_is, there_is}
-use Rattle.control_mgr.proofs.Steps.{none_hold}
 use Rattle.list_mgr.specs.ListDesks.{KeptList}
 use Rattle.list_mgr.specs.ListSteps.{AreListLayers, IsLayerOf, layers_of_lists}
 use Rattle.text_mgr.specs.TextDesks.{IsTextDeskUnchanged, TextDesk}
@@ -49,6 +48,7 @@ use Rattle.text_mgr.specs.TextSteps.{AreTextsLaid, AreTextsShownAnew, IsOpenedIf
 use Rattle.text_mgr.specs.WholeTexts.{AreWholeTexts}
 use Rattle.text_mgr.proofs.TextsWhole.{there_window, window_at}
 use Rattle.desk_toolbox.specs.KnownLayers.{AreKnown, is_known}
+use Rattle.desk_toolbox.proofs.TextFacts.{none_first}
 
 -- ---- the layer of a text record
 
@@ -214,7 +214,7 @@ module _ (B : ℕ → List Layer → Type 0) where
     made_so : (n : NewText) (serial : ℕ) → first_refusal (text_refusals (call.New n) before.desk.windows.desk before.texts) ≡ None → IsTextMade n serial before after → StaysSo before after
     made_so n serial none done =
         laid_so n.window _ _ done.laid
-        (there_window (record_with n.window before.desk.windows.desk.windows) (none_hold (is_missing n.window before.desk.windows.desk.windows) NoSuchWindow _ none).0)
+        (there_window (record_with n.window before.desk.windows.desk.windows) (none_first (text_refusals (call.New n) before.desk.windows.desk before.texts) _ (is_missing n.window before.desk.windows.desk.windows) NoSuchWindow refl none))
         (λ ls h. beside.last n.window ls done.layer done.text.serial done.is.part h)
 
     edited_so : (t : TextOf) (c : TextCall) (answer : TextReply) → IsTextEdited t c answer before after → StaysSo before after

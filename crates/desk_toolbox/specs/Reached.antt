@@ -19,7 +19,7 @@ use Rattle.control_mgr.specs.InUse.{AreStocked}
 use Rattle.control_mgr.specs.WholeControls.{AreWholeControls, IsTrackable}
 use Rattle.list_mgr.specs.GivenBars.{AreBarsGiven}
 use Rattle.list_mgr.specs.WholeLists.{AreWholeLists}
-use Rattle.text_record.specs.Texts.{IsRecord}
+use Rattle.text_record.specs.Texts.{Record}
 use Rattle.text_mgr.specs.TextDesks.{TextsState}
 use Rattle.text_mgr.specs.WholeTexts.{AreWholeTexts, IsSelectable}
 use Rattle.menu_list.specs.Lists.{has_number, is_in_bar}
@@ -98,9 +98,15 @@ pub record AreContentsRight (s : ToolboxState) : Type 0 where
   pub known : AreLayersKnown s.desk.windows.desk.windows
   pub shown : ShowsControls (with_controls s)
 
--- each text record is one, and the scrap has no more bytes than a text may have
+-- no selection reaches past its text, and that has no more bytes than it may have
+pub record IsHeld (r : Record) : Type 0 where
+  pub order : r.start ≤ r.end
+  pub within : r.end ≤ length r.text.bytes
+  pub short : length r.text.bytes ≤ 32000
+
+-- so of each text record, and the scrap has no more bytes than a text may have
 pub record AreRecords (s : TextsState) : Type 0 where
-  pub texts : All (λ t. IsRecord t.kept) s.texts
+  pub texts : All (λ t. IsHeld t.kept) s.texts
   pub scrap : length s.scrap ≤ 32000
 
 -- a right state, in which the active window and the one last told active are ordinary windows of the desk, that of what is open
