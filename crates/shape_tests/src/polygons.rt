@@ -6,7 +6,7 @@ use crate::strips::are_rows;
 use scan_region::Region;
 use shape_region::{frame_polygon_region, polygon_region};
 use shape_strips::{BandStrip, Pen};
-use std::alloc::Global;
+use std::alloc::{AllocError, Global};
 use std::test::Fail;
 use tb_geom::{Point, Rect, Refusal};
 use test_pixels::pixels::{Pixels, is_region_of, mark};
@@ -117,20 +117,22 @@ fn polygons_are_made_of_their_pixels(rt: HostRuntime) -> Result<(), Fail> {
     Ok(())
 }
 
+/// So many points by lot.
+fn points_by_lot(alloc: Global, lot: &mut Lot, count: usize) -> Result<Vec<Point>, AllocError> {
+    let mut points = Vec::new(alloc);
+    for _ in 0..count {
+        points.push(lot.point())?;
+    }
+    Ok(points)
+}
+
 #[test]
 fn polygons_of_many_points_are_made_of_their_pixels(rt: HostRuntime) -> Result<(), Fail> {
     let alloc = rt.alloc();
     let mut lot = Lot(3);
-    for _ in 0..20 {
-        let mut points = [point!(0, 0); 100];
-        for point in points.iter_mut() {
-            *point = lot.point();
-        }
-        assert!(rt; is_polygon(alloc, &points)?);
-        assert!(rt; is_polygon(alloc, &points[..65])?);
-        assert!(rt; is_polygon(alloc, &points[..33])?);
-        assert!(rt; is_polygon(alloc, &points[..32])?);
-        assert!(rt; is_polygon(alloc, &points[..31])?);
+    for count in 29..101 {
+        let points = points_by_lot(alloc, &mut lot, count)?;
+        assert!(rt; is_polygon(alloc, points.as_slice())?);
     }
     Ok(())
 }
