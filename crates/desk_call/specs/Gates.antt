@@ -10,6 +10,8 @@ use Rattle.desk_call.specs.declared.call.Call.{Call}
 use Rattle.desk_call.specs.declared.call.Call.TheVariants.{Window, Update, Frame, Control, List, Menu, Outline, Event}
 use Rattle.desk_call.specs.declared.control.ControlCall.{ControlCall}
 use Rattle.desk_call.specs.declared.control.ControlCall.TheVariants as controls
+use Rattle.desk_call.specs.declared.dialog.DialogCall.{DialogCall}
+use Rattle.desk_call.specs.declared.dialog.DialogCall.TheVariants as dialogs
 use Rattle.desk_call.specs.declared.frame.FrameCall.{FrameCall}
 use Rattle.desk_call.specs.declared.frame.FrameCall.TheVariants.{StepGoAway, EndGoAway}
 use Rattle.desk_call.specs.declared.list.ListCall.{ListCall}
@@ -92,6 +94,14 @@ text_standing texts.FontInfo = Asks
 text_standing (texts.Step p) = Selects
 text_standing (texts.End p) = Selects
 text_standing _ = Changes
+
+-- the calls on the items of dialogs that ask may come at any time; what a click opens goes on by the calls on controls and on text
+-- records
+abbrev pub dialog_standing : DialogCall → Standing
+dialog_standing (dialogs.Get i) = Asks
+dialog_standing (dialogs.Info s) = Asks
+dialog_standing (dialogs.Find p) = Asks
+dialog_standing _ = Changes
 
 -- when a call may come; one about events may at any time
 abbrev pub standing_of : Call → Standing

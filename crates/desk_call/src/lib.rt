@@ -8,6 +8,7 @@
 mod activity;
 mod call;
 mod control;
+mod dialog;
 mod event;
 mod frame;
 mod list;
@@ -25,6 +26,10 @@ pub use call::{Call, Reply};
 pub use control::{
     ControlCall, ControlInfo, ControlNumber, ControlOf, ControlReply, ControlTitle, FoundControl,
     MoveControl, NewControl, PointAtControl, PointInWindow, SizeControl,
+};
+pub use dialog::{
+    ClickDialog, DialogCall, DialogClick, DialogFlag, DialogInfo, DialogKey, DialogReply, ItemBytes,
+    ItemFlag, ItemInfo, ItemOf, NewItem, ParamBytes, SelectItem,
 };
 pub use event::{EventCall, EventReply, FlushEvents, PostEvent};
 pub use frame::{FrameCall, FrameReply, GoAwayPoint, HiliteWindow, NewTitle};
