@@ -12,3 +12,6 @@ pub mod Boxed
 pub mod Rooms
 pub mod Offering
 pub mod Making
+pub mod Showing
+pub mod Choosing
+pub mod Keys

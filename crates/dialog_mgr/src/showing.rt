@@ -1,11 +1,17 @@
 //! Items that are shown and hidden.
-ghost use Rattle.std.specs.Prelude.{◌≡◌};
+ghost use Rattle.std.specs.Prelude.{◌≡◌, [], None, is_none, false};
+ghost use Rattle.tb_geom.specs.Refusals.{first_refusal};
 ghost use Rattle.tb_geom.specs.Points.{PixelSet};
 ghost use Rattle.desk_call.specs.declared.activity.Activity.TheVariants.{Idle};
 ghost use Rattle.desk_call.specs.declared.dialog.DialogCall.TheVariants as asks;
+ghost use Rattle.dialog_items.specs.Items.{with_shown};
+ghost use Rattle.window_mgr.specs.DeskStates.{Opened};
 ghost use Rattle.control_mgr.specs.Spots.{opened};
-ghost use Rattle.dialog_mgr.specs.DialogSteps.{IsDialogStep, IsWhereRight};
-ghost use Rattle.dialog_mgr.specs.Showing.{IsShownOrRefused, shown_call};
+ghost use Rattle.dialog_mgr.specs.DialogDesks.{dialog_of, named_item};
+ghost use Rattle.dialog_mgr.specs.DialogRefusals.{missing_refusals};
+ghost use Rattle.dialog_mgr.specs.DialogSteps.{IsDialogStep, IsWhereRight, changed_item};
+ghost use Rattle.dialog_mgr.specs.Showing.{shown_call};
+ghost use Rattle.dialog_mgr.specs.WholeDialogs.{dialogs_state};
 
 use crate::item_layers::{control_in, text_in};
 use crate::{DeskDialogs, Dialogs};
@@ -82,7 +88,8 @@ impl Dialogs {
         requires controls { ⟦<Controls<TakenControl> as DeskControls>⟧.AreBeside windows.old controls.now }
         requires texts { ⟦<Texts as DeskTexts>⟧.AreBeside windows.old texts.old }
         requires dialogs { ⟦<Self as DeskDialogs>⟧.AreBeside windows.old controls.now texts.old self.old }
-        requires named { is_missing_item of windows.old self.old ≡ false }
+        requires named { first_refusal (missing_refusals of (⟦<WindowManager as DeskWindows>⟧.desk windows.old [])
+            (dialogs_state self.old)) ≡ None }
         requires edited { (dialog_of of.window (dialogs_state self.old).dialogs).edited ≡ of.item }
         ensures { (o : Opened) → ⟦<Self as DeskDialogs>⟧.Leaves
             (IsWhereRight (IsDialogStep (asks.Hide of) result))
@@ -97,7 +104,7 @@ impl Dialogs {
 
     /// Notes that a user item is shown, or hidden.
     fn note_shown(&mut self, of: ItemOf, shown: bool)
-        requires { is_some (named_item of (dialogs_state self.old)) ≡ true }
+        requires { is_none (named_item of (dialogs_state self.old)) ≡ false }
         ensures { dialogs_state self.new ≡ changed_item of (with_shown shown) (dialogs_state self.old) }
     {
         if let Some(at) = self.at(of.window) {
