@@ -5,8 +5,8 @@ ghost use Rattle.desk_call.specs.Gates.{dialog_standing};
 ghost use Rattle.desk_call.specs.Natures.{nature_of, window_nature, control_nature, plain};
 
 use crate::{
-    Call, ControlCall, DialogCall, FrameCall, ListCall, MenuCall, OutlineCall, PointInWindow, Standing,
-    UpdateCall, WindowCall,
+    Call, ControlCall, DialogCall, FrameCall, ListCall, MenuCall, OutlineCall, PointInWindow,
+    Standing, UpdateCall, WindowCall,
 };
 use tb_geom::Point;
 

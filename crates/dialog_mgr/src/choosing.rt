@@ -18,7 +18,9 @@ use crate::looks::look_in;
 use crate::{DeskDialogs, Dialogs};
 use control_mgr::{Controls, DeskControls};
 use def_iface::TakenControl;
-use desk_call::{Activity, DialogFlag, DialogReply, ItemOf, SelectItem, TextCall, TextFlag, TextOf};
+use desk_call::{
+    Activity, DialogFlag, DialogReply, ItemOf, SelectItem, TextCall, TextFlag, TextOf,
+};
 use tb_geom::Refusal;
 use text_mgr::{DeskTexts, Texts};
 use window_mgr::{DeskWindows, WindowManager};

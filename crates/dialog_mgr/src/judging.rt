@@ -15,7 +15,9 @@ ghost use Rattle.dialog_mgr.specs.Offering.{IsOffer};
 ghost use Rattle.dialog_mgr.specs.WholeDialogs.{dialogs_state};
 
 use crate::Dialogs;
-use crate::item_layers::{control_for, control_name, is_edit, may_be_item, rect_of_item, text_place};
+use crate::item_layers::{
+    control_for, control_name, is_edit, may_be_item, rect_of_item, text_place,
+};
 use crate::looks::MOST_ITEMS;
 use control_mgr::{Controls, ControlsOnStock, MOST_CONTROLS, may_be_placed};
 use def_iface::{ControlStock, Stocked, TakenControl};
@@ -187,7 +189,9 @@ impl Dialogs {
         if new.bytes.as_slice().len() > MOST_BYTES {
             return Err(Refusal::TooLong);
         }
-        let text = self.params.text_by(self.alloc, new.kind, new.bytes.as_slice());
+        let text = self
+            .params
+            .text_by(self.alloc, new.kind, new.bytes.as_slice());
         if let Err(Refusal::TooLong) = text {
             return Err(Refusal::TooLong);
         }

@@ -88,7 +88,16 @@ impl Dialogs {
                         window,
                         item: number,
                     };
-                    self.open(windows, activity, controls, texts, of, text, pressed.point, mode);
+                    self.open(
+                        windows,
+                        activity,
+                        controls,
+                        texts,
+                        of,
+                        text,
+                        pressed.point,
+                        mode,
+                    );
                 }
                 Ok(clicked(if_enabled(&item, number), true))
             }
