@@ -1,0 +1,5 @@
+//! Tries.
+#![tactic(auto)]
+
+#[cfg(test)]
+mod rows;
