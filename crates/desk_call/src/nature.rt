@@ -71,6 +71,7 @@ impl Call<'_> {
             Call::Control(call) => call.nature(),
             Call::List(call) => call.nature(),
             Call::Text(call) => call.nature(),
+            Call::Dialog(call) => call.nature(),
             Call::Menu(call) => call.nature(),
             Call::Outline(call) => call.nature(),
             Call::Event(_) => Nature::plain(Standing::Asks),
