@@ -1,5 +1,0 @@
-//! Tries.
-#![tactic(auto)]
-
-#[cfg(test)]
-mod rows;
