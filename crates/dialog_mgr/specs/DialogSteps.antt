@@ -8,7 +8,7 @@ use Rattle.dialog_items.specs.declared.item.Item.{Item}
 use Rattle.dialog_items.specs.declared.item.LayerSort.{LayerSort}
 use Rattle.dialog_items.specs.declared.item.LayerSort.TheVariants.{Control, Text}
 use Rattle.dialog_items.specs.declared.kind.ItemKind.{ItemKind}
-use Rattle.dialog_items.specs.declared.kind.ItemKind.TheVariants as kind
+use Rattle.dialog_items.specs.declared.kind.ItemKind.TheVariants as kinds
 use Rattle.dialog_items.specs.Filling.{Params}
 use Rattle.dialog_items.specs.Finding.{return_item, tab_item}
 use Rattle.dialog_items.specs.Items.{dialog_type, replaced, with_enabled, with_shown}
@@ -137,11 +137,13 @@ IsEditedHidden i None before after = ⊥
 IsEditedHidden i (Some t) before after =
     OfTextsAlone (IsTextPutAway t) before after × (after.dialogs ≡ edited_next i.window 0 before.dialogs)
 
--- an item was hidden
+-- an item was hidden: the edited one, or another
+abbrev pub IsItemHiddenAs : Bool → ItemOf → Item → DialogDesk → DialogDesk → Type 0
+IsItemHiddenAs true i x before after = IsEditedHidden i (text_in i.window x) before after
+IsItemHiddenAs false i x before after = IsItemShown false i x before after
+
 abbrev pub IsItemHidden : ItemOf → Item → DialogDesk → DialogDesk → Type 0
-IsItemHidden i x before after = if (dialog_of i.window before.dialogs.dialogs).edited == i.item
-    then IsEditedHidden i (text_in i.window x) before after
-    else IsItemShown false i x before after
+IsItemHidden i x before after = IsItemHiddenAs ((dialog_of i.window before.dialogs.dialogs).edited == i.item) i x before after
 
 -- ---- the edited item
 
@@ -190,23 +192,24 @@ IsEditClicked (Some t) i mode p before after = OfText t (with_texts before) (λ 
     IsItemEdited i (extended_to anchor mode p) before after
     × Opens (Selecting (record { text = t; mode = mode; anchor = anchor })) (with_texts before) (with_texts after))
 
--- a control was clicked: its tracking begins where the click lies in a part of it
-abbrev pub IsControlClicked : Option ControlOf → ItemOf → Point → DialogReply → DialogDesk → DialogDesk → Type 0
-IsControlClicked None i p answer before after = ⊥
-IsControlClicked (Some c) i p answer before after = (part : Option ControlPart)
+-- a control was clicked: where its item is enabled, its tracking begins where the click lies in a part of it
+abbrev pub IsControlClicked : Bool → Option ControlOf → ItemOf → Point → DialogReply → DialogDesk → DialogDesk → Type 0
+IsControlClicked false c i p answer before after = IsHit 0 answer before after
+IsControlClicked true None i p answer before after = ⊥
+IsControlClicked true (Some c) i p answer before after = (part : Option ControlPart)
     × (answer ≡ clicked (if is_some part then i.item else 0) (is_some part))
     × OfControls (IsControlEffect (controls.Track (record { control = c; point = p })) (control_reply.Part part)) before after
     × (after.dialogs ≡ before.dialogs)
 
 -- an item of this kind was clicked
 abbrev pub IsItemClicked : ItemKind → Item → ItemOf → ClickMode → Point → DialogReply → DialogDesk → DialogDesk → Type 0
-IsItemClicked kind.Edit x i mode p answer before after =
+IsItemClicked kinds.Edit x i mode p answer before after =
     (answer ≡ clicked (if_enabled x i.item) true) × IsEditClicked (text_in i.window x) i mode p before after
-IsItemClicked kind.Static x i mode p answer before after = IsHit (if_enabled x i.item) answer before after
-IsItemClicked kind.Icon x i mode p answer before after = IsHit (if_enabled x i.item) answer before after
-IsItemClicked kind.User x i mode p answer before after = IsHit (if_enabled x i.item) answer before after
+IsItemClicked kinds.Static x i mode p answer before after = IsHit (if_enabled x i.item) answer before after
+IsItemClicked kinds.Icon x i mode p answer before after = IsHit (if_enabled x i.item) answer before after
+IsItemClicked kinds.User x i mode p answer before after = IsHit (if_enabled x i.item) answer before after
 IsItemClicked _ x i mode p answer before after =
-    if x.enabled then IsControlClicked (control_in i.window x) i p answer before after else IsHit 0 answer before after
+    IsControlClicked x.enabled (control_in i.window x) i p answer before after
 
 -- the item found at the point, if one was, was clicked
 abbrev pub IsClickedAt : ℕ → ClickDialog → ClickMode → DialogReply → DialogDesk → DialogDesk → Type 0
@@ -234,15 +237,35 @@ IsTyped (Some t) k answer before after = let number = (dialog_of k.window before
     × OfTexts (IsTextEffect (texts.Key (record { text = t; number = k.code })) text_reply.Done) before after
     × (after.dialogs ≡ before.dialogs)
 
--- a key was pressed: with the command key it is nobody's; Return and Enter mean a button; Tab goes on, and back with the shift key;
--- any other is typed
+-- what a key means
+pub data Meaning : Type 0 where
+  -- with the command key: nothing
+  Nothing : Meaning
+  -- Return and Enter: a button
+  Button : Meaning
+  -- Tab: the next edit item, or the one before
+  Goes : Meaning
+  -- any other is typed
+  Types : Meaning
+
+abbrev pub meaning_of : DialogKey → Meaning
+meaning_of k =
+    if is_down 0x100 k.modifiers then Nothing else (if is_return k.code then Button else (if is_tab k.code then Goes else Types))
+
+-- the item to which Tab goes in a window, and back with the shift key
+abbrev pub tab_goal : DialogKey → DialogDesk → ℕ
+tab_goal k d = tab_item (looks_of k.window d) (dialog_of k.window d.dialogs.dialogs).edited (is_down 0x200 k.modifiers)
+
+-- a key of this meaning was pressed
+abbrev pub IsKeyedAs : Meaning → DialogKey → DialogReply → DialogDesk → DialogDesk → Type 0
+IsKeyedAs Nothing k answer before after = (answer ≡ reply.Item 0) × IsDialogDeskUnchanged before after
+IsKeyedAs Button k answer before after =
+    (answer ≡ reply.Item (return_item (looks_of k.window before))) × IsDialogDeskUnchanged before after
+IsKeyedAs Goes k answer before after = (answer ≡ reply.Item 0) × IsTabbed k.window (tab_goal k before) before after
+IsKeyedAs Types k answer before after = IsTyped (edited_text (dialog_of k.window before.dialogs.dialogs)) k answer before after
+
 abbrev pub IsKeyed : DialogKey → DialogReply → DialogDesk → DialogDesk → Type 0
-IsKeyed k answer before after =
-    if is_down 0x100 k.modifiers then (answer ≡ reply.Item 0) × IsDialogDeskUnchanged before after
-    else (if is_return k.code then (answer ≡ reply.Item (return_item (looks_of k.window before))) × IsDialogDeskUnchanged before after
-    else (if is_tab k.code then (answer ≡ reply.Item 0)
-    × IsTabbed k.window (tab_item (looks_of k.window before) (dialog_of k.window before.dialogs.dialogs).edited (is_down 0x200 k.modifiers)) before after
-    else IsTyped (edited_text (dialog_of k.window before.dialogs.dialogs)) k answer before after))
+IsKeyed k answer before after = IsKeyedAs (meaning_of k) k answer before after
 
 -- ---- what is asked
 

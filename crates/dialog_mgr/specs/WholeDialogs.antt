@@ -20,11 +20,11 @@ use Rattle.window_mgr.specs.Records.{desk_of, state_of, state_showing}
 use Rattle.window_mgr.specs.Refused.{is_missing}
 use Rattle.window_mgr.specs.Whole.{IsWholeManager}
 use Rattle.control_mgr.specs.declared.controls.Controls.{Controls}
-use Rattle.control_mgr.specs.ControlDesks as controls
+use Rattle.control_mgr.specs.ControlDesks as of_controls
 use Rattle.control_mgr.specs.ControlDesks.{ControlRecord, ControlSlot, ControlsState, controls_show}
 use Rattle.control_mgr.specs.WholeControls.{AreWholeControls, controls_state, records_of}
 use Rattle.text_mgr.specs.declared.texts.Texts.{Texts}
-use Rattle.text_mgr.specs.TextDesks as texts
+use Rattle.text_mgr.specs.TextDesks as of_texts
 use Rattle.text_mgr.specs.TextDesks.{KeptText, TextsState, texts_show}
 use Rattle.text_mgr.specs.WholeTexts.{AreWholeTexts, texts_state}
 use Rattle.dialog_mgr.specs.declared.dialogs.Dialogs.{Dialogs}
@@ -37,8 +37,8 @@ use Rattle.dialog_mgr.specs.DialogRefusals.{most_items}
 
 -- the window has a layer of this sort and serial
 abbrev pub has_layer : LayerSort → ℕ → ℕ → List ControlRecord → List KeptText → Bool
-has_layer Control window serial cs ts = option_map_or (λ at. true) (controls.index_of (record { window = window; control = serial }) cs) false
-has_layer Text window serial cs ts = option_map_or (λ at. true) (texts.index_of (record { window = window; text = serial }) ts) false
+has_layer Control window serial cs ts = option_map_or (λ at. true) (of_controls.index_of (record { window = window; control = serial }) cs) false
+has_layer Text window serial cs ts = option_map_or (λ at. true) (of_texts.index_of (record { window = window; text = serial }) ts) false
 
 -- the layer of an item of the window, if it has one, is there
 abbrev pub is_layer_there : ℕ → List ControlRecord → List KeptText → Item → Bool
@@ -84,7 +84,7 @@ HasWholeDialogs d = AreWholeDialogs d.desk.windows.desk.windows d.controls.contr
 -- the text record of the edited item of a window, if one is edited
 abbrev pub edited_record : ℕ → DialogDesk → Option KeptText
 edited_record window d = let w = dialog_of window d.dialogs.dialogs in
-    option_and_then (λ i. option_and_then (λ serial. texts.text_of (record { window = window; text = serial }) d.texts.texts) i.layer) (item_of w.items w.edited)
+    option_and_then (λ i. option_and_then (λ serial. of_texts.text_of (record { window = window; text = serial }) d.texts.texts) i.layer) (item_of w.items w.edited)
 
 -- the edited item of a window is 0, or an edit item whose text record is there
 abbrev pub IsEditedThere : ℕ → DialogDesk → Type 0
