@@ -92,6 +92,10 @@ pub record IsItemMade (n : NewItem) (number : ℕ) (before after : DialogDesk) :
 
 -- ---- an item that is there
 
+-- the item of this number of a window
+abbrev pub item_in : ℕ → ℕ → ItemOf
+item_in window number = record { window = window; item = number }
+
 -- what holds of the item that is named, which is there
 abbrev pub OfItem : ItemOf → DialogDesk → (Item → Type 0) → Type 0
 OfItem i d P = (x : Item) × (named_item i d.dialogs ≡ Some x) × P x
@@ -214,8 +218,8 @@ IsItemClicked _ x i mode p answer before after =
 -- the item found at the point, if one was, was clicked
 abbrev pub IsClickedAt : ℕ → ClickDialog → ClickMode → DialogReply → DialogDesk → DialogDesk → Type 0
 IsClickedAt zero c mode answer before after = IsHit 0 answer before after
-IsClickedAt (suc at) c mode answer before after = let i = record { window = c.window; item = suc at } in
-    OfItem i before (λ x. IsItemClicked x.kind x i mode c.point answer before after)
+IsClickedAt (suc at) c mode answer before after =
+    OfItem (item_in c.window (suc at)) before (λ x. IsItemClicked x.kind x (item_in c.window (suc at)) mode c.point answer before after)
 
 -- the mouse was pressed at a point of a window
 abbrev pub IsDialogClicked : ClickDialog → DialogReply → DialogDesk → DialogDesk → Type 0
@@ -227,13 +231,13 @@ IsDialogClicked c answer before after = (mode : ClickMode) × (click_mode c.mode
 -- Tab goes to this item, and all its text is selected; to none it goes nowhere
 abbrev pub IsTabbed : ℕ → ℕ → DialogDesk → DialogDesk → Type 0
 IsTabbed window zero before after = IsDialogDeskUnchanged before after
-IsTabbed window (suc at) before after = IsItemSelected (record { window = window; item = suc at }) 0 most_text before after
+IsTabbed window (suc at) before after = IsItemSelected (item_in window (suc at)) 0 most_text before after
 
 -- a key is typed in the edited item, if one is edited, which is answered where it is enabled
 abbrev pub IsTyped : Option TextOf → DialogKey → DialogReply → DialogDesk → DialogDesk → Type 0
 IsTyped None k answer before after = (answer ≡ reply.Item 0) × IsDialogDeskUnchanged before after
 IsTyped (Some t) k answer before after = let number = (dialog_of k.window before.dialogs.dialogs).edited in
-    OfItem (record { window = k.window; item = number }) before (λ x. answer ≡ reply.Item (if_enabled x number))
+    OfItem (item_in k.window number) before (λ x. answer ≡ reply.Item (if_enabled x number))
     × OfTexts (IsTextEffect (texts.Key (record { text = t; number = k.code })) text_reply.Done) before after
     × (after.dialogs ≡ before.dialogs)
 
