@@ -93,12 +93,12 @@ AreDialogs dialogs before after = IsDialogDeskUnchanged (record before { dialogs
 
 -- such a step of the controls; text records and other layers are as they were
 pub record OfControls (step : ControlDesk → ControlDesk → Type 0) (before after : DialogDesk) : Type 0 where
-  pub step : step (with_controls before) (with_controls after)
+  pub made : step (with_controls before) (with_controls after)
   pub texts : after.texts ≡ before.texts
   pub others : after.others ≡ before.others
 
 -- such a step of the text records; controls and other layers are as they were
 pub record OfTexts (step : TextDesk → TextDesk → Type 0) (before after : DialogDesk) : Type 0 where
-  pub step : step (with_texts before) (with_texts after)
+  pub made : step (with_texts before) (with_texts after)
   pub controls : after.controls ≡ before.controls
   pub others : after.others ≡ before.others
