@@ -5,8 +5,11 @@ import time
 from desk_kit.driven import rows_of, sides_of
 
 # The commands that change nothing at all, and those that leave the screen as it is.
-QUESTIONS = "find frontwin info updatergn visrgn region cget findc ctest lget lgetsel lnext lsearch image avail".split()
-LEAVE_THE_SCREEN = [*QUESTIONS, "post", "next", "flush", "setmask"]
+QUESTIONS = (
+    "find frontwin info updatergn visrgn region cget findc ctest lget lgetsel lnext lsearch image avail"
+    " tget tinfo tline tpoint toffset scrap textwidth fontinfo"
+).split()
+LEAVE_THE_SCREEN = [*QUESTIONS, "post", "next", "flush", "setmask", "tcopy", "setscrap"]
 
 
 def command_of(line):

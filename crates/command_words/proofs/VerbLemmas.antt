@@ -6,12 +6,13 @@ use Rattle.line_words.proofs.TableLemmas.{found_is_in, in_is_found, are_distinct
 use Rattle.command_words.specs.declared.verb.Verb.{Verb}
 use Rattle.command_words.specs.declared.verb.Verb.TheVariants as words
 use Rattle.command_words.specs.declared.windows.WindowVerb.TheVariants as windows
-use Rattle.command_words.specs.Verbs.{verbs, verbs_of}
+use Rattle.text_words.specs.TextVerbs.{text_verbs}
+use Rattle.command_words.specs.Verbs.{verbs, verbs_of, verbs_of_3}
 
 -- no word stands twice in the table, whichever of the later verbs are in it
 verbs_are_distinct : (second third : Bool) → are_distinct (verbs ++ ((if second then (codes "float", words.Window windows.Float) ∷ [] else [])
-    ++ (if third then (codes "region", words.Window windows.Region) ∷ [] else []))) ≡ true
-unfolding verbs
+    ++ (if third then verbs_of_3 else []))) ≡ true
+unfolding verbs text_verbs
 verbs_are_distinct true true = refl
 verbs_are_distinct true false = refl
 verbs_are_distinct false true = refl

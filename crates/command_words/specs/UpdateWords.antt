@@ -2,7 +2,7 @@
 use Rattle.std.specs.Prelude.{ℕ}
 use Rattle.desk_call.specs.declared.update.AreaRef.TheVariants.{Rect, Region}
 use Rattle.desk_call.specs.declared.update.LayerKind.{LayerKind}
-use Rattle.desk_call.specs.declared.update.LayerKind.TheVariants.{Picture, Lists, Controls}
+use Rattle.desk_call.specs.declared.update.LayerKind.TheVariants.{Picture, Texts, Lists, Controls}
 use Rattle.desk_call.specs.declared.update.UpdateCall.{UpdateCall}
 use Rattle.desk_call.specs.declared.update.UpdateCall.TheVariants as calls
 use Rattle.desk_call.specs.declared.update.WindowArea.{WindowArea}
@@ -30,6 +30,7 @@ update_shape verbs.ValidateRect = mapped calls.Validate rect_area_shape
 update_shape verbs.ValidateRegion = mapped calls.Validate region_area_shape
 update_shape verbs.Begin = serial (λ window. says (calls.Begin window))
 update_shape verbs.DrawPicture = serial (λ window. says (layer_draw Picture window))
+update_shape verbs.DrawTexts = serial (λ window. says (layer_draw Texts window))
 update_shape verbs.DrawLists = serial (λ window. says (layer_draw Lists window))
 update_shape verbs.DrawControls = serial (λ window. says (layer_draw Controls window))
 update_shape verbs.End = serial (λ window. says (calls.End window))

@@ -1,5 +1,6 @@
 -- The first words of commands.
-use Rattle.std.specs.Prelude.{ℕ, ℤ, pos, int_le, List, [], ◌∷◌, ◌++◌, codes, if◌then◌else◌}
+use Rattle.std.specs.Prelude.{ℕ, ℤ, pos, int_le, List, [], ◌∷◌, ◌++◌, map, codes, if◌then◌else◌}
+use Rattle.text_words.specs.TextVerbs.{text_verbs}
 use Rattle.command_words.specs.declared.controls.ControlVerb.TheVariants as controls
 use Rattle.command_words.specs.declared.events.EventVerb.TheVariants as events
 use Rattle.command_words.specs.declared.frames.FrameVerb.TheVariants as frames
@@ -116,9 +117,21 @@ verbs =
 abbrev pub verbs_since_2 : ℤ → List (List ℕ × Verb)
 verbs_since_2 version = if int_le (pos 2) version then (codes "float", words.Window windows.Float) ∷ [] else []
 
--- and the one that version 3 brought
+-- those that version 3 brought, but the ones for text records
+abbrev pub own_verbs_of_3 : List (List ℕ × Verb)
+own_verbs_of_3 = (codes "region", words.Window windows.Region) ∷ (codes "drawt", words.Update updates.DrawTexts) ∷ []
+
+-- the ones for text records
+abbrev pub verbs_for_texts : List (List ℕ × Verb)
+verbs_for_texts = map (λ v. (v.0, words.Text v.1)) text_verbs
+
+-- and all of these
+abbrev pub verbs_of_3 : List (List ℕ × Verb)
+verbs_of_3 = own_verbs_of_3 ++ verbs_for_texts
+
+-- which this version has, if it is version 3 or a later one
 abbrev pub verbs_since_3 : ℤ → List (List ℕ × Verb)
-verbs_since_3 version = if int_le (pos 3) version then (codes "region", words.Window windows.Region) ∷ [] else []
+verbs_since_3 version = if int_le (pos 3) version then verbs_of_3 else []
 
 -- those of later versions
 abbrev pub later_verbs : ℤ → List (List ℕ × Verb)

@@ -1,9 +1,10 @@
 //! The words of commands: what the lines of a script ask.
 //!
 //! The first word of a line is a `Verb`, by what it is about: a `WindowVerb`, an `UpdateVerb`, a `FrameVerb`, an `OutlineVerb`,
-//! a `ControlVerb`, a `ListVerb`, a `MenuVerb` or an `EventVerb`, or a command about the whole desk or the whole script.
+//! a `ControlVerb`, a `ListVerb`, a `TextVerb` (of `text_words`), a `MenuVerb` or an `EventVerb`, or a command about the whole
+//! desk or the whole script.
 //! `verb_of` finds it in the one table of all (`specs/Verbs.antt`), with the verbs of later versions up to the script's. The
-//! method `call` of each of the eight reads the words that follow. Which these are, and what they ask, `specs/WindowWords.antt`
+//! method `call` of each of the nine reads the words that follow. Which these are, and what they ask, `specs/WindowWords.antt`
 //! states and its likes, and for what is drawn `Drawings.antt`, with the `Forms.antt` of version 3. A cell is its column and
 //! then its row.
 //!

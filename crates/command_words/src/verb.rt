@@ -1,7 +1,7 @@
 //! The first words of commands.
 ghost use Rattle.std.specs.Prelude.{◌≡◌};
 ghost use Rattle.line_words.specs.Tables.{named};
-ghost use Rattle.command_words.specs.Verbs.{verbs, verbs_since_2, verbs_since_3, later_verbs, verbs_of};
+ghost use Rattle.command_words.specs.Verbs.{verbs, verbs_since_2, verbs_since_3, verbs_of_3, verbs_for_texts, own_verbs_of_3, later_verbs, verbs_of};
 
 use crate::controls::ControlVerb;
 use crate::events::EventVerb;
@@ -12,6 +12,7 @@ use crate::outlines::OutlineVerb;
 use crate::updates::UpdateVerb;
 use crate::windows::WindowVerb;
 use line_words::named;
+use text_words::{TextVerb, text_verb_of};
 
 /// The first word of a command, by what it is about. It says which words follow.
 #[derive(Clone, Copy)]
@@ -25,6 +26,7 @@ pub enum Verb {
     Outline(OutlineVerb),
     Control(ControlVerb),
     List(ListVerb),
+    Text(TextVerb),
     Menu(MenuVerb),
     Event(EventVerb),
 }
@@ -169,13 +171,40 @@ fn verb_since_2(version: i32, word: &[u8]) -> Option<Verb>
     }
 }
 
-/// The same of `region`, which version 3 brought.
+/// Each first word that version 3 brought, but those for text records.
+static VERBS_OF_3: [(&[u8], Verb); 2] = [
+    (b"region", Verb::Window(WindowVerb::Region)),
+    (b"drawt", Verb::Update(UpdateVerb::DrawTexts)),
+];
+
+/// The same of the verbs that version 3 brought.
 fn verb_since_3(version: i32, word: &[u8]) -> Option<Verb>
     ensures { result ≡ named word.now (verbs_since_3 version) }
 {
-    if version >= 3 && word == b"region".as_slice() {
-        Some(Verb::Window(WindowVerb::Region))
-    } else {
-        None
+    if version >= 3 { verb_of_3(word) } else { None }
+}
+
+/// The same in any version that has them.
+fn verb_of_3(word: &[u8]) -> Option<Verb>
+    ensures { result ≡ named word.now verbs_of_3 }
+{
+    match own_verb_of_3(word) {
+        Some(verb) => Some(verb),
+        None => text_word_of(word),
     }
+}
+
+/// The same of those but the verbs for text records.
+fn own_verb_of_3(word: &[u8]) -> Option<Verb>
+    ensures { result ≡ named word.now own_verbs_of_3 }
+{
+    named(&VERBS_OF_3, word)
+}
+
+/// The same of the verbs for text records.
+fn text_word_of(word: &[u8]) -> Option<Verb>
+    ensures { result ≡ named word.now verbs_for_texts }
+{
+    let verb = text_verb_of(word)?;
+    Some(Verb::Text(verb))
 }

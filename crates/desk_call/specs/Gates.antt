@@ -7,7 +7,7 @@ use Rattle.desk_call.specs.declared.activity.Activity.TheVariants.{Idle, Updatin
 use Rattle.desk_call.specs.declared.activity.Standing.{Standing}
 use Rattle.desk_call.specs.declared.activity.Standing.TheVariants.{Asks, Updates, Tracks, Pulls, TracksControl, Drags, Grows, Selects, Changes}
 use Rattle.desk_call.specs.declared.call.Call.{Call}
-use Rattle.desk_call.specs.declared.call.Call.TheVariants.{Window, Update, Frame, Control, List, Menu, Outline, Event}
+use Rattle.desk_call.specs.declared.call.Call.TheVariants.{Window, Update, Frame, Control, List, Text, Menu, Outline, Event}
 use Rattle.desk_call.specs.declared.control.ControlCall.{ControlCall}
 use Rattle.desk_call.specs.declared.control.ControlCall.TheVariants as controls
 use Rattle.desk_call.specs.declared.frame.FrameCall.{FrameCall}
@@ -100,6 +100,7 @@ standing_of (Update call) = update_standing call
 standing_of (Frame call) = frame_standing call
 standing_of (Control call) = control_standing call
 standing_of (List call) = list_standing call
+standing_of (Text call) = text_standing call
 standing_of (Menu call) = menu_standing call
 standing_of (Outline call) = outline_standing call
 standing_of (Event call) = Asks

@@ -2,7 +2,8 @@
 
 use crate::{
     ControlCall, ControlReply, EventCall, EventReply, FrameCall, FrameReply, ListCall, ListReply,
-    MenuCall, MenuReply, OutlineCall, OutlineReply, UpdateCall, WindowCall, WindowReply,
+    MenuCall, MenuReply, OutlineCall, OutlineReply, TextCall, TextReply, UpdateCall, WindowCall,
+    WindowReply,
 };
 
 /// A call of the Toolbox, by what it is about. Titles, and the bytes of operations and regions, are borrowed, so that
@@ -19,6 +20,8 @@ pub enum Call<'a> {
     Control(ControlCall<'a>),
     /// About lists.
     List(ListCall<'a>),
+    /// About text records and the scrap.
+    Text(TextCall<'a>),
     /// About menus.
     Menu(MenuCall<'a>),
     /// About the outline of a window that is dragged or grown.
@@ -38,6 +41,8 @@ pub enum Reply {
     Control(ControlReply),
     /// To a `Call::List`.
     List(ListReply),
+    /// To a `Call::Text`.
+    Text(TextReply),
     /// To a `Call::Menu`.
     Menu(MenuReply),
     /// To a `Call::Outline`.

@@ -1,11 +1,11 @@
 //! What kind of call it is.
 ghost use Rattle.std.specs.Prelude.{◌≡◌};
-ghost use Rattle.desk_call.specs.Gates.{update_standing, frame_standing, menu_standing, list_standing, outline_standing};
+ghost use Rattle.desk_call.specs.Gates.{update_standing, frame_standing, menu_standing, list_standing, outline_standing, text_standing};
 ghost use Rattle.desk_call.specs.Natures.{nature_of, window_nature, control_nature, plain};
 
 use crate::{
     Call, ControlCall, FrameCall, ListCall, MenuCall, OutlineCall, PointInWindow, Standing,
-    UpdateCall, WindowCall,
+    TextCall, UpdateCall, WindowCall,
 };
 use tb_geom::Point;
 
@@ -69,6 +69,7 @@ impl Call<'_> {
             Call::Frame(call) => call.nature(),
             Call::Control(call) => call.nature(),
             Call::List(call) => call.nature(),
+            Call::Text(call) => call.nature(),
             Call::Menu(call) => call.nature(),
             Call::Outline(call) => call.nature(),
             Call::Event(_) => Nature::plain(Standing::Asks),
@@ -158,6 +159,21 @@ impl ListCall<'_> {
             ListCall::GetCell(_) | ListCall::IsSelected(_) => Standing::Asks,
             ListCall::FirstSelected(_) | ListCall::NextCell(_) => Standing::Asks,
             ListCall::Search(_) => Standing::Asks,
+            _ => Standing::Changes,
+        })
+    }
+}
+
+impl TextCall<'_> {
+    /// What kind of call it is.
+    pub fn nature(&self) -> Nature
+        ensures { result ≡ plain (text_standing self.now) }
+    {
+        Nature::plain(match self {
+            TextCall::Get(_) | TextCall::Info(_) | TextCall::Line(_) => Standing::Asks,
+            TextCall::PlaceOf(_) | TextCall::OffsetAt(_) | TextCall::Scrap => Standing::Asks,
+            TextCall::Width(_) | TextCall::FontInfo => Standing::Asks,
+            TextCall::Step(_) | TextCall::End(_) => Standing::Selects,
             _ => Standing::Changes,
         })
     }

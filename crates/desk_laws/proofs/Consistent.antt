@@ -1,5 +1,5 @@
 -- Each state that a Toolbox reaches is consistent.
-use Rattle.std.proofs.Common.{◌≡◌, true, List, [], ◌∷◌, map, Result, Ok, refl, sym, ap, ◌∙◌, subst, arith}
+use Rattle.std.proofs.Common.{◌≡◌, ℕ, ◌≤◌, true, List, [], ◌∷◌, length, map, Result, Ok, refl, sym, ap, ◌∙◌, subst, arith}
 use Rattle.std.specs.Prelude.{IfSome, pos}
 use Rattle.std.proofs.lemmas.List.Elements.{All-nil, All-same}
 use Rattle.tb_geom.specs.declared.refusal.Refusal.{Refusal}
@@ -14,9 +14,11 @@ use Rattle.menu_mgr.proofs.Stocks.{stocked_by_full}
 use Rattle.vis_update.specs.Records.{WindowRecord}
 use Rattle.window_frame.specs.Followers.{Knows}
 use Rattle.window_frame.specs.Followers.Flag.{Highlighting, Zooming}
+use Rattle.text_mgr.specs.TextDesks.{KeptText}
+use Rattle.text_mgr.specs.WholeTexts.{IsSelectable}
 use Rattle.desk_toolbox.specs.declared.events.Events.{Events}
 use Rattle.desk_toolbox.specs.Classes.{AreClassed, IsOrdinary}
-use Rattle.desk_toolbox.specs.Reached.{AreMenusApart, HasLiveDefinition, IsLit, IsPulledThere, IsThere, IsTrackedIfHeard, IsConsistent, IsJustBegun, open_window}
+use Rattle.desk_toolbox.specs.Reached.{AreMenusApart, HasLiveDefinition, IsHeld, IsLit, IsPulledThere, IsThere, IsTrackedIfHeard, IsConsistent, IsJustBegun, open_window}
 use Rattle.desk_toolbox.specs.Run.{IsStep, IsRunOfCalls}
 use Rattle.desk_toolbox.specs.ToolboxStates.{ToolboxState}
 use Rattle.desk_toolbox.proofs.EachManager.{HoldsOfEach, of_step}
@@ -35,7 +37,10 @@ use Rattle.desk_laws.proofs.LiveDefinitions.{step_keeps_live}
 use Rattle.desk_laws.proofs.KeptClasses.{step_stays_classed}
 use Rattle.desk_toolbox.proofs.TrackedControls.{control_stands, none_used_at}
 use Rattle.desk_toolbox.proofs.ListStands.{begun_contents, list_stands}
+use Rattle.desk_toolbox.proofs.TextStands.{text_stands}
 use Rattle.desk_laws.proofs.GivenBars.{step_keeps_bars}
+use Rattle.desk_laws.proofs.HeldTexts.{step_keeps_texts}
+use Rattle.desk_laws.proofs.KeptSelectables.{step_keeps_selectable}
 use Rattle.control_mgr.specs.InUse.{AreStocked}
 use Rattle.control_mgr.specs.WholeControls.{IsTrackable}
 use Rattle.list_mgr.specs.GivenBars.{HasGivenBars, IsFromOne}
@@ -51,9 +56,10 @@ each_stands = record {
   window = λ call answer before after may step was right. window_stands call answer before after may was right step;
   update = λ call answer before after may step rest was right. update_stands call answer before after may was right step rest;
   frame = λ call answer before after may step rest was right. frame_stands call answer before after may was right step rest;
-  control = λ call answer before after may step events lists menus was right. control_stands call answer before after may was right step events menus;
-  list = λ call answer before after may step events menus was right. list_stands call answer before after may was right step events menus;
-  menu = λ call answer before after may step events controls lists was right. menu_stands call answer before after may was right step events;
+  control = λ call answer before after may step events lists texts menus was right. control_stands call answer before after may was right step events menus;
+  list = λ call answer before after may step events texts menus was right. list_stands call answer before after may was right step events menus;
+  text = λ call answer before after may step events controls lists menus was right. text_stands call answer before after may was right step events controls menus;
+  menu = λ call answer before after may step events controls lists texts was right. menu_stands call answer before after may was right step events;
   outline = λ call answer before after may step rest was right. outline_stands call answer before after may was right step rest;
   moved = λ call move before after may step was right. window_stands (window_calls.Move move) (Ok window_reply.Done) (put_down before) after refl (put_down_stands before (outline_comes_then call before.desk.activity may) was) right step;
   event = λ call answer before after step was right. event_stands call answer before after was right step;
@@ -69,6 +75,8 @@ step_keeps_consistent call answer before after was step =
     (step_stays_classed call answer before after step was.classed)
     (step_keeps_held call answer before after step now.pull.pulled (record { stocked = was.stocked; title = was.title }))
     (step_keeps_bars call answer before after step was.bars)
+    (step_keeps_selectable call answer before after step was.records was.selectable)
+    (step_keeps_texts call answer before after step was.selectable was.records)
 
 pub run_keeps_consistent : (first last : ToolboxState) (calls : List Call) (answers : List (Result Reply Refusal)) → IsConsistent first → IsRunOfCalls first calls answers last → IsConsistent last
 run_keeps_consistent first last [] [] was run = subst IsConsistent (sym run) was
@@ -90,6 +98,11 @@ just_begun_is_consistent s begun =
       opened = subst (λ a. IsThere (open_window a) windows) (sym begun.idle) tt;
       contents = begun_contents s begun;
       trackable = subst (λ a. IsTrackable a s.controls.controls) (sym begun.idle) tt;
+      selectable = subst (λ a. IsSelectable a s.texts.texts) (sym begun.idle) tt;
+      records = record {
+        texts = All-same (λ (t : KeptText). IsHeld t.kept) s.texts.texts [] begun.texts (All-nil (λ (t : KeptText). IsHeld t.kept));
+        scrap = subst (λ (bytes : List ℕ). length bytes ≤ 32000) (sym begun.scrap) (omega arith);
+      };
       bars = (subst IsFromOne (sym begun.next_control) (omega arith), All-same (HasGivenBars s.controls.next) s.lists.lists [] begun.lists (All-nil (HasGivenBars s.controls.next)));
       queued = All-same (λ (e : Event). is_posted e.what ≡ true) s.events.queue.events [] (ap (λ (e : Events). e.queue.events) begun.events) (All-nil (λ (e : Event). is_posted e.what ≡ true));
       held = subst (λ (ws : List WindowRecord). AreStocked (λ (d : WindowDefinition). d.stage) (map (λ w. w.slot) ws) s.desk.windows.desk.stock) (sym begun.windows) (λ k. none_used_at (λ (d : WindowDefinition). d.stage) s.desk.windows.desk.stock k begun.stock);

@@ -1,8 +1,11 @@
 -- What any call changes of pixels is its change.
-use Rattle.std.proofs.Common.{◌≡◌, ℤ, [], Option, None, Some, Result, Ok, Err, refl, sym, ap, subst}
+use Rattle.std.proofs.Common.{◌≡◌, ◌∙◌, ℕ, ℤ, List, [], Option, None, Some, Result, Ok, Err, refl, sym, ap, subst}
 use Rattle.std.specs.Prelude.{nat_abs}
 use Rattle.std.specs.Option.{option_map_or}
 use Rattle.tb_geom.specs.declared.refusal.Refusal.{Refusal}
+use Rattle.tb_geom.specs.declared.point.Point.{Point}
+use Rattle.desk_layers.specs.declared.part.Part.{Part}
+use Rattle.desk_layers.specs.declared.part.Part.TheVariants as part
 use Rattle.desk_layers.specs.Change.{Change, IsChanged, no_change}
 use Rattle.list_cells.specs.declared.cell.Cell.{Cell}
 use Rattle.list_cells.specs.Blocks.{clicked_cell}
@@ -27,6 +30,8 @@ use Rattle.desk_call.specs.declared.menu.MenuCall.{MenuCall}
 use Rattle.desk_call.specs.declared.menu.MenuReply.{MenuReply}
 use Rattle.desk_call.specs.declared.outline.OutlineCall.{OutlineCall}
 use Rattle.desk_call.specs.declared.outline.OutlineReply.{OutlineReply}
+use Rattle.desk_call.specs.declared.text.TextCall.{TextCall}
+use Rattle.desk_call.specs.declared.text.TextReply.{TextReply}
 use Rattle.desk_call.specs.declared.update.UpdateCall.{UpdateCall}
 use Rattle.desk_call.specs.declared.window.MoveWindow.{MoveWindow}
 use Rattle.desk_call.specs.declared.window.WindowCall.{WindowCall}
@@ -40,14 +45,19 @@ use Rattle.window_update.specs.UpdateSteps.{IsUpdateStep}
 use Rattle.window_frame.specs.FrameSteps.{IsFrameStep}
 use Rattle.window_outline.specs.Outlining.{let_go_of}
 use Rattle.menu_mgr.specs.MenuSteps.{IsMenuStep}
+use Rattle.window_paint.specs.White.{all_white}
+use Rattle.control_mgr.specs.ControlDesks.{ControlRecord, controls_show}
 use Rattle.control_mgr.specs.ControlSteps.{IsControlStep}
-use Rattle.list_mgr.specs.ListDesks.{KeptList, list_of}
+use Rattle.list_mgr.specs.ListDesks.{KeptList, list_of, lists_show}
 use Rattle.list_mgr.specs.ListSteps.{IsClickOn, IsListEffect, IsListStep, appended, clicked_at, with_columns_fewer, with_columns_more, with_grid, with_rows_fewer, with_rows_more, with_scroll}
+use Rattle.text_mgr.specs.TextDesks.{KeptText, texts_show}
+use Rattle.text_mgr.specs.TextSteps.{IsTextStep}
+use Rattle.text_mgr.proofs.TextsKept.{IsRightDesk}
 use Rattle.desk_toolbox.specs.Reached.{IsConsistent}
 use Rattle.desk_toolbox.specs.Run.{IsGated, IsLetGo, IsOutlineMade, IsStep, IsWindowMade, replied}
-use Rattle.desk_toolbox.specs.ToolboxStates.{ToolboxState, with_controls, with_lists, with_menus}
+use Rattle.desk_toolbox.specs.ToolboxStates.{ToolboxState, with_controls, with_lists, with_menus, with_texts}
 use Rattle.desk_toolbox.proofs.ContentsBeside.{IsRightToolbox}
-use Rattle.desk_laws.proofs.PartsThere.{alone}
+use Rattle.desk_toolbox.proofs.ContentsLeft.{right_lists}
 use Rattle.desk_toolbox.proofs.EachManager.{HoldsOfEach, of_step}
 use Rattle.desk_toolbox.proofs.Outlined.{outline_unchanged}
 use Rattle.desk_toolbox.proofs.Runs.{step_stays_right}
@@ -58,6 +68,7 @@ use Rattle.desk_laws.proofs.HiddenControls.{hidden_changes}
 use Rattle.desk_laws.proofs.ListChanges.{Edits, cells_change, lines_change, selection_change, unselected_change}
 use Rattle.desk_laws.proofs.MadeLists.{list_made_changes}
 use Rattle.desk_laws.proofs.ManagerChanges.{control_changes, frame_changes, menu_changes, update_changes}
+use Rattle.desk_laws.proofs.TextChanges.{text_changes}
 use Rattle.desk_laws.proofs.WindowChanges.{done_changes, refused_unchanged, unchanged_changes}
 
 abbrev ChangesBy : Change → ToolboxState → ToolboxState → Type 0
@@ -92,8 +103,8 @@ module _ (before after : ToolboxState) (was : IsRightToolbox before) (are : IsRi
   clicked_changes k x (Some c) answer named (is, done) = selection_change k.list (λ flags. clicked_cell flags (keys_of (nat_abs k.modifiers)) c) before after was.right was.contents done
 
   list_changes : (call : ListCall) (answer : ListReply) → IsListEffect call answer (with_lists before) (with_lists after) → ChangesBy (change_of_list call before after) before after
-  list_changes (lists.New n) answer (serial, is, done) = list_made_changes n serial before after (alone before was) (alone after are) done
-  list_changes (lists.Dispose l) answer done = list_gone_changes l (with_lists before) (with_lists after) (alone before was) (alone after are) done.1
+  list_changes (lists.New n) answer (serial, is, done) = list_made_changes n serial before after (right_lists before was) (right_lists after are) done
+  list_changes (lists.Dispose l) answer done = list_gone_changes l (with_lists before) (with_lists after) (right_lists before was) (right_lists after are) done.1
   list_changes (lists.AddRows n) answer done = lines_change n.list (with_rows_more n.count n.at) (rows_more_edit n.count n.at) before after was.right are.right done.1
   list_changes (lists.AddColumns n) answer done = lines_change n.list (with_columns_more n.count n.at) (columns_more_edit n.count n.at) before after was.right are.right done.1
   list_changes (lists.DeleteRows n) answer done = lines_change n.list (with_rows_fewer n.count n.at) (rows_fewer_edit n.count n.at) before after was.right are.right done.1
@@ -111,6 +122,23 @@ module _ (before after : ToolboxState) (was : IsRightToolbox before) (are : IsRi
   list_changes (lists.Search t) answer done = nothing done.1.desk.windows
   list_changes (lists.SetDrawing d) answer (is, change, same) = nothing same.windows
 
+-- ---- text records
+
+-- whatever layers are kept first, they show the same
+show_alike : (cs : List ControlRecord) (ls : List KeptList) (ts : List KeptText) (font : List ℕ) (q : Part) (p : Point)
+    → controls_show (lists_show (texts_show (λ f. all_white) ts) ls) cs font q p ≡ texts_show (controls_show (lists_show (λ f. all_white) ls) cs) ts font q p
+show_alike cs ls ts font part.Picture p = refl
+show_alike cs ls ts font (part.Control n) p = refl
+show_alike cs ls ts font (part.List n) p = refl
+show_alike cs ls ts font (part.Text n) p = refl
+
+right_texts : (s : ToolboxState) → IsRightToolbox s → IsRightDesk (with_texts s)
+right_texts s was = record {
+  right = was.right;
+  shows = was.contents.shown ∙ (λ i q p. show_alike s.controls.controls s.lists.lists s.texts.texts s.desk.windows.desk.font q p i);
+  whole = was.contents.texts;
+}
+
 -- ---- each manager
 
 abbrev ChangesSo : Call → Result Reply Refusal → ToolboxState → ToolboxState → Type 0
@@ -124,6 +152,7 @@ refused_changes (calls.Update call) e before after same = λ was are. nothing be
 refused_changes (calls.Frame call) e before after same = λ was are. nothing before after was are same
 refused_changes (calls.Control call) e before after same = λ was are. nothing before after was are same
 refused_changes (calls.List call) e before after same = λ was are. nothing before after was are same
+refused_changes (calls.Text call) e before after same = λ was are. nothing before after was are same
 refused_changes (calls.Menu call) e before after same = λ was are. nothing before after was are same
 refused_changes (calls.Event call) e before after same = λ was are. nothing before after was are same
 
@@ -141,12 +170,16 @@ frame_so call (Err e) before after step was are = nothing before after was are s
 
 control_so : (call : ControlCall) (answer : Result ControlReply Refusal) (before after : ToolboxState) → IsControlStep call answer (with_controls before) (with_controls after) → ChangesSo (calls.Control call) (replied reply.Control answer) before after
 control_so call (Ok answer) before after step was are = control_changes call answer before after was.right are.right
-    (λ c done. hidden_changes c (with_lists before) (with_lists after) (alone before was) (alone after are) done) step.1
+    (λ c done. hidden_changes c (with_lists before) (with_lists after) (right_lists before was) (right_lists after are) done) step.1
 control_so call (Err e) before after step was are = nothing before after was are step.1.desk.windows
 
 list_so : (call : ListCall) (answer : Result ListReply Refusal) (before after : ToolboxState) → IsListStep call answer (with_lists before) (with_lists after) → ChangesSo (calls.List call) (replied reply.List answer) before after
 list_so call (Ok answer) before after step was are = list_changes before after was are call answer step.1
 list_so call (Err e) before after step was are = nothing before after was are step.1.desk.windows
+
+text_so : (call : TextCall) (answer : Result TextReply Refusal) (before after : ToolboxState) → IsTextStep call answer (with_texts before) (with_texts after) → ChangesSo (calls.Text call) (replied reply.Text answer) before after
+text_so call (Ok answer) before after step was are = text_changes call answer before after (right_texts before was) (right_texts after are) step.1
+text_so call (Err e) before after step was are = nothing before after was are step.1.desk.windows
 
 menu_so : (call : MenuCall) (answer : Result MenuReply Refusal) (before after : ToolboxState) → IsMenuStep call answer (with_menus before) (with_menus after) → ChangesSo (calls.Menu call) (replied reply.Menu answer) before after
 menu_so call (Ok answer) before after step was are = menu_changes call (Ok answer) (with_menus before) (with_menus after) was.right step
@@ -164,9 +197,10 @@ each_changes_so = record {
   window = λ call answer before after may step. window_so call answer before after step;
   update = λ call answer before after may step rest. update_so call answer before after step;
   frame = λ call answer before after may step rest. frame_so call answer before after step;
-  control = λ call answer before after may step events lists menus. control_so call answer before after step;
-  list = λ call answer before after may step events menus. list_so call answer before after step;
-  menu = λ call answer before after may step events controls lists. menu_so call answer before after step;
+  control = λ call answer before after may step events lists texts menus. control_so call answer before after step;
+  list = λ call answer before after may step events texts menus. list_so call answer before after step;
+  text = λ call answer before after may step events controls lists menus. text_so call answer before after step;
+  menu = λ call answer before after may step events controls lists texts. menu_so call answer before after step;
   outline = λ call answer before after may step rest. tt;
   moved = λ call move before after may step. tt;
   event = λ call answer before after step. event_so call answer before after step.desk.windows;
@@ -220,5 +254,6 @@ each_changes call answer before after consistent step = by_call call refl
     by_call (calls.Frame c) is = subst (λ c. ChangesBy (change_of_call c answer before after) before after) (sym is) (subst (λ c. ChangesSo c answer before after) is of_managers was are)
     by_call (calls.Control c) is = subst (λ c. ChangesBy (change_of_call c answer before after) before after) (sym is) (subst (λ c. ChangesSo c answer before after) is of_managers was are)
     by_call (calls.List c) is = subst (λ c. ChangesBy (change_of_call c answer before after) before after) (sym is) (subst (λ c. ChangesSo c answer before after) is of_managers was are)
+    by_call (calls.Text c) is = subst (λ c. ChangesBy (change_of_call c answer before after) before after) (sym is) (subst (λ c. ChangesSo c answer before after) is of_managers was are)
     by_call (calls.Menu c) is = subst (λ c. ChangesBy (change_of_call c answer before after) before after) (sym is) (subst (λ c. ChangesSo c answer before after) is of_managers was are)
     by_call (calls.Event c) is = subst (λ c. ChangesBy (change_of_call c answer before after) before after) (sym is) (subst (λ c. ChangesSo c answer before after) is of_managers was are)

@@ -86,7 +86,7 @@ module _ (before : ToolboxState) (asked : PointInWindow) where
         → (own ≡ Ok (control_reply.Found (found_on_screen before asked))) × IsToolboxUnchanged before after
     answered_so (Ok own) away (may, (is, same)) told = (
       ap Ok (is ∙ ap control_reply.Found (found_so (record_with asked.window before.desk.windows.desk.windows) inside away)),
-      record { desk = same.desk; controls = same.controls; lists = told.lists; menus = told.menus; events = told.events },
+      record { desk = same.desk; controls = same.controls; lists = told.lists; texts = told.texts; menus = told.menus; events = told.events },
     )
     answered_so (Err e) away (inl why, same) told = absurd (some_is_none (unrefused (Some e) why))
       where

@@ -24,9 +24,10 @@ use Rattle.window_frame.specs.FrameSteps.{with_flag, with_title, with_tracked}
 use Rattle.window_frame.proofs.ToldSteps.{HoldsOfFrames, of_frame}
 use Rattle.control_mgr.proofs.ControlFacts.{control_facts}
 use Rattle.list_mgr.proofs.ListFacts.{list_facts}
+use Rattle.desk_toolbox.proofs.TextFacts.{text_facts}
 use Rattle.menu_mgr.proofs.MenuKeeps.{menu_keeps}
 use Rattle.desk_toolbox.specs.Run.{IsRunOfCalls, IsWindowAnswer, IsWindowMade, put_down}
-use Rattle.desk_toolbox.specs.ToolboxStates.{ToolboxState, with_controls, with_lists, with_menus}
+use Rattle.desk_toolbox.specs.ToolboxStates.{ToolboxState, with_controls, with_lists, with_menus, with_texts}
 use Rattle.desk_toolbox.proofs.EachManager.{HoldsOfEach, of_step}
 use Rattle.desk_toolbox.proofs.KeptDesks.{refused_keeps_desk}
 use Rattle.desk_toolbox.proofs.Outlined.{outline_keeps_desk}
@@ -152,13 +153,16 @@ each_floats_no_more = record {
   window = λ call answer before after may step ordinary. window_floats call answer before after ordinary step;
   update = λ call answer before after may step rest ordinary. still_floats before.desk.windows.desk after.desk.windows.desk (update_keeps_desk call answer before.desk after.desk step);
   frame = λ call answer before after may step rest ordinary. of_frame StaysFloating frames_float call answer before.desk after.desk step;
-  control = λ call answer before after may step events lists menus ordinary.
+  control = λ call answer before after may step events lists texts menus ordinary.
       let facts = (control_facts call answer (with_controls before) (with_controls after) step).0 in
       alike_floats before after (bare_alike before.desk.windows.desk.windows after.desk.windows.desk.windows facts.windows);
-  list = λ call answer before after may step events menus ordinary.
+  list = λ call answer before after may step events texts menus ordinary.
       let facts = (list_facts call answer (with_lists before) (with_lists after) step).0 in
       alike_floats before after (bare_alike before.desk.windows.desk.windows after.desk.windows.desk.windows facts.windows);
-  menu = λ call answer before after may step events controls lists ordinary.
+  text = λ call answer before after may step events controls lists menus ordinary.
+      let facts = (text_facts call answer (with_texts before) (with_texts after) step).0 in
+      alike_floats before after (bare_alike before.desk.windows.desk.windows after.desk.windows.desk.windows facts.windows);
+  menu = λ call answer before after may step events controls lists texts ordinary.
       let count : Floaters after ≡ Floaters before = menu_keeps (λ d. floaters d) (λ d titles. refl) call answer (with_menus before) (with_menus after) step in
       omega arith;
   outline = λ call answer before after may step rest ordinary. still_floats before.desk.windows.desk after.desk.windows.desk (outline_keeps_desk call answer before.desk after.desk step);

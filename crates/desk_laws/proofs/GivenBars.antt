@@ -49,14 +49,15 @@ each_keeps_bars = record {
   window = λ call answer before after may step h. made_bars call answer before after step h;
   update = λ call answer before after may step rest h. same_bars before after rest.controls rest.lists h;
   frame = λ call answer before after may step rest h. same_bars before after rest.controls rest.lists h;
-  control = λ call answer before after may step events lists menus h.
+  control = λ call answer before after may step events lists texts menus h.
       let next = (control_facts call answer (with_controls before) (with_controls after) step).1 in
       subst (HaveGivenBars after.controls) (sym lists) (
         control_from_one call answer before.controls after.controls next h.0,
         bars_go_on before.controls.next after.controls.next before.lists.lists (control_goes_on call answer before.controls after.controls next) h.1,
       );
-  list = λ call answer before after may step events menus h. list_keeps_bars call answer (with_lists before) (with_lists after) step h;
-  menu = λ call answer before after may step events controls lists h. same_bars before after controls lists h;
+  list = λ call answer before after may step events texts menus h. list_keeps_bars call answer (with_lists before) (with_lists after) step h;
+  text = λ call answer before after may step events controls lists menus h. same_bars before after controls lists h;
+  menu = λ call answer before after may step events controls lists texts h. same_bars before after controls lists h;
   outline = λ call answer before after may step rest h. same_bars before after rest.controls rest.lists h;
   moved = λ call move before after may step h. made_bars (window_calls.Move move) (Ok window_reply.Done) (put_down before) after step h;
   event = λ call answer before after step h. same_bars before after step.controls step.lists h;

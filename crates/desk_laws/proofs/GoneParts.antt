@@ -1,26 +1,37 @@
--- Which parts the points of a window have, where a control or a list of it is taken out, and what is there no more.
-use Rattle.std.proofs.Common.{◌≡◌, ℕ, zero, suc, Bool, true, false, ◌==◌, ◌&&◌, ◌||◌, cond, if◌then◌else◌, List, [], ◌∷◌, Option, None, Some, refl, sym, ap, ◌∙◌, subst, arith, eqb-true}
-use Rattle.std.specs.Prelude.{slice_get}
-use Rattle.std.specs.List.{list_any, remove}
+-- Which parts the points of a window have, where a control of it is taken out, and what is there no more.
+use Rattle.std.proofs.Common.{◌≡◌, ℕ, zero, suc, Bool, true, false, ◌==◌, ◌&&◌, ◌||◌, cond, if◌then◌else◌, List, [], ◌∷◌, Option, None, Some, refl, sym, ap, ◌∙◌, subst, arith}
+use Rattle.std.specs.Prelude.{All, slice_get}
+use Rattle.std.specs.List.{AllZip, list_any, remove}
 use Rattle.std.specs.Option.{option_map}
 use Rattle.std.proofs.lemmas.Bool.{false≢true}
 use Rattle.std.proofs.lemmas.Bool.Decides.{nat_tests}
+use Rattle.std.proofs.lemmas.List.Elements.{All-weaker}
 use Rattle.tb_geom.specs.declared.point.Point.{Point}
 use Rattle.desk_layers.specs.declared.part.Part.{Part}
 use Rattle.desk_layers.specs.declared.part.Part.TheVariants as part
 use Rattle.desk_layers.specs.Desk.{same_part}
+use Rattle.desk_layers.specs.Owner.{owner}
 use Rattle.desk_layers.specs.Owner.Owner.{Content}
 use Rattle.window_items.specs.declared.item.Item.{Item}
 use Rattle.window_items.specs.Items.{AreApart, has_serial, is_in, is_item, item_index, items_of}
-use Rattle.window_items.proofs.SerialLemmas.{or_parts}
+use Rattle.window_items.proofs.SerialLemmas.{none_in_window, or_parts}
 use Rattle.window_items.proofs.WindowLemmas.{position-cons}
+use Rattle.window_list.specs.declared.layer.Layer.{Layer}
+use Rattle.window_list.specs.Holders.{layer_has, part_at}
+use Rattle.desk_call.specs.declared.update.LayerKind.TheVariants.{Lists}
+use Rattle.window_paint.specs.Kinds.{is_of}
+use Rattle.vis_update.specs.Records.{WindowRecord}
+use Rattle.window_mgr.specs.FullDesk.{FullDesk, layered_desk}
 use Rattle.control_mgr.specs.ControlDesks.{ControlRecord}
+use Rattle.control_mgr.specs.ControlSteps.{AreLayersOf, behind_controls}
 use Rattle.list_mgr.specs.ListDesks.{KeptList}
+use Rattle.list_mgr.specs.ListSteps.{AreListLayers, IsLayerOf, layers_of_lists}
+use Rattle.list_mgr.proofs.ListedLayers.{no_list}
 use Rattle.desk_laws.specs.Changes.{is_bar}
-use Rattle.desk_laws.proofs.MadeLists.{in_window, is_part}
-use Rattle.desk_laws.proofs.PartsThere.{control_has, first_control, first_list, list_has, part_of}
+use Rattle.desk_laws.proofs.MadeLists.{in_window}
+use Rattle.desk_laws.proofs.PartsThere.{HasSuch, control_has, first_control, is_part, no_control_behind, no_part, of_controls, owners_are, plain_part}
 
--- ---- the parts of fewer controls and lists
+-- ---- the parts of fewer controls
 
 -- where a control is taken out, another part has what it had
 pub control_removed : (c : ControlRecord) (s : ℕ) (q : Point) (behind : Part) (at : ℕ) (cs : List ControlRecord) → slice_get cs at ≡ Some c
@@ -54,51 +65,6 @@ control_removed c s q behind (suc i) (x ∷ xs) there other = by_window (is_in s
         → first_control (if b then x ∷ items_of s xs else items_of s xs) q behind ≡ first_control (if b then x ∷ items_of s (remove xs i) else items_of s (remove xs i)) q behind
     by_window true rest other = by_point (control_has x q) rest other
     by_window false rest other = rest other
-
--- so where a list is
-pub list_removed : (l : KeptList) (s : ℕ) (q : Point) (at : ℕ) (ls : List KeptList) → slice_get ls at ≡ Some l
-    → is_part l.window (part.List l.serial) (Content s (first_list (items_of s ls) q)) ≡ false
-    → first_list (items_of s ls) q ≡ first_list (items_of s (remove ls at)) q
-list_removed l s q at [] there other = absurd (cc)
-list_removed l s q zero (x ∷ xs) there other = by_window (is_in s x) refl other
-  where
-    same : x ≡ l
-    same = cc
-
-    by_point : (h : Bool) → is_in s x ≡ true → is_part l.window (part.List l.serial) (Content s (if h then part.List x.serial else first_list (items_of s xs) q)) ≡ false
-        → (if h then part.List x.serial else first_list (items_of s xs) q) ≡ first_list (items_of s xs) q
-    by_point true here other = absurd (false≢true (sym other ∙ subst (λ (y : KeptList). is_part y.window (part.List y.serial) (Content s (part.List x.serial)) ≡ true) same (in_window s x.window (part.List x.serial) here)))
-    by_point false here other = refl
-
-    by_window : (b : Bool) → is_in s x ≡ b → is_part l.window (part.List l.serial) (Content s (first_list (if b then x ∷ items_of s xs else items_of s xs) q)) ≡ false
-        → first_list (if b then x ∷ items_of s xs else items_of s xs) q ≡ first_list (items_of s xs) q
-    by_window true here other = by_point (list_has x q) here other
-    by_window false away other = refl
-list_removed l s q (suc i) (x ∷ xs) there other = by_window (is_in s x) (list_removed l s q i xs there) other
-  where
-    by_point : (h : Bool) → (is_part l.window (part.List l.serial) (Content s (first_list (items_of s xs) q)) ≡ false → first_list (items_of s xs) q ≡ first_list (items_of s (remove xs i)) q)
-        → is_part l.window (part.List l.serial) (Content s (if h then part.List x.serial else first_list (items_of s xs) q)) ≡ false
-        → (if h then part.List x.serial else first_list (items_of s xs) q) ≡ (if h then part.List x.serial else first_list (items_of s (remove xs i)) q)
-    by_point true rest other = refl
-    by_point false rest other = rest other
-
-    by_window : (b : Bool) → (is_part l.window (part.List l.serial) (Content s (first_list (items_of s xs) q)) ≡ false → first_list (items_of s xs) q ≡ first_list (items_of s (remove xs i)) q)
-        → is_part l.window (part.List l.serial) (Content s (first_list (if b then x ∷ items_of s xs else items_of s xs) q)) ≡ false
-        → first_list (if b then x ∷ items_of s xs else items_of s xs) q ≡ first_list (if b then x ∷ items_of s (remove xs i) else items_of s (remove xs i)) q
-    by_window true rest other = by_point (list_has x q) rest other
-    by_window false rest other = rest other
-
--- behind the controls
-pub list_removed_behind : (s window : ℕ) (its : Part) (q : Point) (old new : Part) → (is_part window its (Content s old) ≡ false → old ≡ new) → (cs : List ControlRecord)
-    → is_part window its (Content s (first_control cs q old)) ≡ false → first_control cs q old ≡ first_control cs q new
-list_removed_behind s window its q old new same [] other = same other
-list_removed_behind s window its q old new same (c ∷ cs) other = by_point (control_has c q) (list_removed_behind s window its q old new same cs) other
-  where
-    by_point : (h : Bool) → (is_part window its (Content s (first_control cs q old)) ≡ false → first_control cs q old ≡ first_control cs q new)
-        → is_part window its (Content s (if h then part.Control c.serial else first_control cs q old)) ≡ false
-        → (if h then part.Control c.serial else first_control cs q old) ≡ (if h then part.Control c.serial else first_control cs q new)
-    by_point true rest other = refl
-    by_point false rest other = rest other
 
 -- ---- what is there no more
 
@@ -154,38 +120,8 @@ module _ {T : Type 0} where
       by_tests false h None is rest none = rest refl
       by_tests false h (Some at) is rest none = absurd (cc)
 
--- no list has a point that is none of the lists
-pub no_list : (window n s : ℕ) (q : Point) (ls : List KeptList) → list_any (has_serial n) ls ≡ false → same_part (first_list (items_of s ls) q) (part.List n) ≡ false
-no_list window n s q [] none = refl
-no_list window n s q (l ∷ ls) none =
-    let parts = or_parts (has_serial n l) (list_any (has_serial n) ls) none in
-    by_window (is_in s l) (list_has l q) parts.0 (no_list window n s q ls parts.1)
-  where
-    by_window : (b h : Bool) → has_serial n l ≡ false → same_part (first_list (items_of s ls) q) (part.List n) ≡ false → same_part (first_list (if b then l ∷ items_of s ls else items_of s ls) q) (part.List n) ≡ false
-    by_window true h other rest = by_point (list_has l q) other rest
-      where
-        by_point : (h : Bool) → has_serial n l ≡ false → same_part (first_list (items_of s ls) q) (part.List n) ≡ false → same_part (if h then part.List l.serial else first_list (items_of s ls) q) (part.List n) ≡ false
-        by_point true other rest = other
-        by_point false other rest = rest
-    by_window false h other rest = rest
-
-pub list_behind_controls : (n : ℕ) (q : Point) (behind : Part) (cs : List ControlRecord) → same_part behind (part.List n) ≡ false → same_part (first_control cs q behind) (part.List n) ≡ false
-list_behind_controls n q behind [] other = other
-list_behind_controls n q behind (c ∷ cs) other = by_point (control_has c q) (list_behind_controls n q behind cs other)
-  where
-    by_point : (h : Bool) → same_part (first_control cs q behind) (part.List n) ≡ false → same_part (if h then part.Control c.serial else first_control cs q behind) (part.List n) ≡ false
-    by_point true rest = refl
-    by_point false rest = rest
-
-pub no_control_behind : (n : ℕ) (q : Point) (ls : List KeptList) → same_part (first_list ls q) (part.Control n) ≡ false
-no_control_behind n q [] = refl
-no_control_behind n q (l ∷ ls) = by_point (list_has l q) (no_control_behind n q ls)
-  where
-    by_point : (h : Bool) → same_part (first_list ls q) (part.Control n) ≡ false → same_part (if h then part.List l.serial else first_list ls q) (part.Control n) ≡ false
-    by_point true rest = refl
-    by_point false rest = rest
-
-pub no_control : (n : ℕ) (q : Point) (behind : Part) (cs : List ControlRecord) → list_any (has_serial n) cs ≡ false → same_part behind (part.Control n) ≡ false → same_part (first_control cs q behind) (part.Control n) ≡ false
+-- no control that the window has not owns a pixel
+no_control : (n : ℕ) (q : Point) (behind : Part) (cs : List ControlRecord) → list_any (has_serial n) cs ≡ false → same_part behind (part.Control n) ≡ false → same_part (first_control cs q behind) (part.Control n) ≡ false
 no_control n q behind [] none other = other
 no_control n q behind (c ∷ cs) none other =
     let parts = or_parts (has_serial n c) (list_any (has_serial n) cs) none in
@@ -195,20 +131,40 @@ no_control n q behind (c ∷ cs) none other =
     by_point true away rest = away
     by_point false away rest = rest
 
--- the owner is no such part, where the window has none
-pub no_part : (window s : ℕ) (its p : Part) → (window ≡ s → same_part p its ≡ false) → is_part window its (Content s p) ≡ false
-no_part window s its p none = by_window (s == window) refl
+no_control_there : (n : ℕ) (cs : List ControlRecord) (ks : List Layer) (q : Point) → AreLayersOf cs ks → list_any (has_serial n) cs ≡ false → same_part (part_at ks q) (part.Control n) ≡ false
+no_control_there n cs ks q joined none = ap (λ p. same_part p (part.Control n)) (of_controls cs ks joined q) ∙ no_control n q (part_at (behind_controls ks) q) cs none (no_control_behind n q ks)
+
+-- so no list
+no_list_there : (n : ℕ) (ls : List KeptList) (ks : List Layer) (q : Point) → AreListLayers ls ks → list_any (has_serial n) ls ≡ false → same_part (part_at ks q) (part.List n) ≡ false
+no_list_there n ls [] q joined none = refl
+no_list_there n ls (k ∷ ks) q joined none = by_kind (is_of Lists k.part) refl ls joined none (layer_has k q) (λ xs. no_list_there n xs ks q)
   where
-    by_window : (b : Bool) → (s == window) ≡ b → (b && same_part p its) ≡ false
-    by_window true e = none (sym (eqb-true s window e))
-    by_window false e = refl
+    by_kind : (b : Bool) → is_of Lists k.part ≡ b → (xs : List KeptList) → AllZip IsLayerOf xs (cond b (k ∷ layers_of_lists ks) (layers_of_lists ks)) → list_any (has_serial n) xs ≡ false → (h : Bool)
+        → ((ys : List KeptList) → AreListLayers ys ks → list_any (has_serial n) ys ≡ false → same_part (part_at ks q) (part.List n) ≡ false)
+        → same_part (cond h k.part (part_at ks q)) (part.List n) ≡ false
+    by_kind false is xs joined none true rest = no_list k.part n is
+    by_kind false is xs joined none false rest = rest xs joined none
+    by_kind true is [] joined none h rest = absurd joined
+    by_kind true is (y ∷ ys) joined none true rest = ap (λ p. same_part p (part.List n)) joined.0.part ∙ (or_parts (has_serial n y) (list_any (has_serial n) ys) none).0
+    by_kind true is (y ∷ ys) joined none false rest = rest ys joined.1 (or_parts (has_serial n y) (list_any (has_serial n) ys) none).1
+
+-- ---- owners that are there no more
+
+pub no_list_owner : (window n : ℕ) (d : FullDesk) (ls : List KeptList) → All (λ w. AreListLayers (items_of w.serial ls) w.layers) d.windows → list_any (has_serial n) ls ≡ false → (p : Point)
+    → is_part window (part.List n) (owner (layered_desk d) p) ≡ false
+no_list_owner window n d ls joined none p = owners_are (λ o. is_part window (part.List n) o ≡ false) (plain_part window (part.List n)) d
+    (All-weaker (λ (w : WindowRecord). AreListLayers (items_of w.serial ls) w.layers) (HasSuch (λ o. is_part window (part.List n) o ≡ false))
+    (λ w its q. no_part window w.serial (part.List n) (part_at w.layers q) (λ e. no_list_there n (items_of w.serial ls) w.layers q its (none_in_window n w.serial ls none))) d.windows joined) p
 
 -- the window has none of the scroll bars that a list was made with
 abbrev pub IsBarAway : ℕ → Option ℕ → List ControlRecord → Type 0
 IsBarAway window None cs = Unit {0}
 IsBarAway window (Some n) cs = IsAway window n cs
 
-pub no_bar : (window : ℕ) (o : Option ℕ) (cs : List ControlRecord) (ls : List KeptList) → IsBarAway window o cs → (s : ℕ) (q : Point) → is_bar window o (Content s (part_of cs ls s q)) ≡ false
-no_bar window None cs ls away s q = refl
-no_bar window (Some n) cs ls away s q = no_part window s (part.Control n) (part_of cs ls s q)
-    (λ e. no_control n q (first_list (items_of s ls) q) (items_of s cs) (ap (λ k. list_any (has_serial n) (items_of k cs)) (sym e) ∙ away) (no_control_behind n q (items_of s ls)))
+pub no_bar : (window : ℕ) (o : Option ℕ) (d : FullDesk) (cs : List ControlRecord) → All (λ w. AreLayersOf (items_of w.serial cs) w.layers) d.windows → IsBarAway window o cs → (p : Point)
+    → is_bar window o (owner (layered_desk d) p) ≡ false
+no_bar window None d cs joined away p = refl
+no_bar window (Some n) d cs joined away p = owners_are (λ o. is_part window (part.Control n) o ≡ false) (plain_part window (part.Control n)) d
+    (All-weaker (λ (w : WindowRecord). AreLayersOf (items_of w.serial cs) w.layers) (HasSuch (λ o. is_part window (part.Control n) o ≡ false))
+    (λ w its q. no_part window w.serial (part.Control n) (part_at w.layers q)
+    (λ e. no_control_there n (items_of w.serial cs) w.layers q its (ap (λ k. list_any (has_serial n) (items_of k cs)) (sym e) ∙ away))) d.windows joined) p

@@ -41,10 +41,11 @@ use Rattle.control_mgr.proofs.ControlBits.{bare}
 use Rattle.control_mgr.proofs.ControlFacts.{control_facts}
 use Rattle.control_mgr.proofs.Stocks.{stocked_with, stocked_without, use_of, uses-append}
 use Rattle.list_mgr.proofs.ListFacts.{list_facts}
+use Rattle.desk_toolbox.proofs.TextFacts.{text_facts}
 use Rattle.menu_mgr.proofs.MenuKeeps.{menu_keeps}
 use Rattle.desk_toolbox.specs.Reached.{AreWindowsStocked}
 use Rattle.desk_toolbox.specs.Run.{IsStep, IsWindowAnswer, IsWindowMade}
-use Rattle.desk_toolbox.specs.ToolboxStates.{ToolboxState, with_controls, with_lists, with_menus}
+use Rattle.desk_toolbox.specs.ToolboxStates.{ToolboxState, with_controls, with_lists, with_menus, with_texts}
 use Rattle.desk_toolbox.proofs.EachManager.{HoldsOfEach, of_step}
 use Rattle.desk_call.specs.declared.window.WindowReply.TheVariants as window_reply
 use Rattle.desk_toolbox.proofs.Outlined.{outline_keeps_desk}
@@ -302,15 +303,19 @@ each_keeps_stocked = record {
   window = λ call answer before after may step h. made_stocked call answer before after step h;
   update = λ call answer before after may step rest h. still_stocked before after (update_keeps_desk call answer before.desk after.desk step) h;
   frame = λ call answer before after may step rest h. of_frame StaysStocked frames_stocked call answer before.desk after.desk step h;
-  control = λ call answer before after may step events lists menus h.
+  control = λ call answer before after may step events lists texts menus h.
       let facts = (control_facts call answer (with_controls before) (with_controls after) step).0 in
       same_stocked before.desk.windows.desk after.desk.windows.desk
       (record { stock = facts.stock; all = λ k. same_but_layers k before.desk.windows.desk.windows after.desk.windows.desk.windows facts.windows }) h;
-  list = λ call answer before after may step events menus h.
+  list = λ call answer before after may step events texts menus h.
       let facts = (list_facts call answer (with_lists before) (with_lists after) step).0 in
       same_stocked before.desk.windows.desk after.desk.windows.desk
       (record { stock = ap (λ (d : FullDesk). d.stock) facts.rest; all = λ k. same_but_layers k before.desk.windows.desk.windows after.desk.windows.desk.windows facts.windows }) h;
-  menu = λ call answer before after may step events controls lists h.
+  text = λ call answer before after may step events controls lists menus h.
+      let facts = (text_facts call answer (with_texts before) (with_texts after) step).0 in
+      same_stocked before.desk.windows.desk after.desk.windows.desk
+      (record { stock = ap (λ (d : FullDesk). d.stock) facts.rest; all = λ k. same_but_layers k before.desk.windows.desk.windows after.desk.windows.desk.windows facts.windows }) h;
+  menu = λ call answer before after may step events controls lists texts h.
       same_stocked before.desk.windows.desk after.desk.windows.desk (record {
         stock = menu_keeps (λ d. d.stock) (λ d titles. refl) call answer (with_menus before) (with_menus after) step;
         all = λ k. menu_keeps (λ d. takes k d.windows) (λ d titles. refl) call answer (with_menus before) (with_menus after) step;

@@ -3,32 +3,33 @@ use Rattle.std.proofs.Common.{◌≡◌, ℕ, zero, suc, Bool, true, false, not,
 use Rattle.std.specs.Prelude.{All, slice_get}
 use Rattle.std.specs.List.{list_any}
 use Rattle.std.proofs.lemmas.Bool.{false≢true}
-use Rattle.std.proofs.lemmas.List.Elements.{All-cons, All-head, All-nil, All-tail}
+use Rattle.std.proofs.lemmas.List.Elements.{All-cons, All-head, All-nil, All-tail, All-weaker}
 use Rattle.tb_geom.specs.declared.point.Point.{Point}
 use Rattle.tb_geom.specs.Points.{minus}
 use Rattle.desk_layers.specs.declared.part.Part.{Part}
 use Rattle.desk_layers.specs.declared.part.Part.TheVariants as part
 use Rattle.desk_layers.specs.Desk.{on_screen, same_part}
-use Rattle.desk_layers.specs.Owner.{Owner, is_content, owner, same_owner}
-use Rattle.desk_layers.specs.Owner.Owner.{Bar, Content, Desktop, Frame}
+use Rattle.desk_layers.specs.Owner.{Owner, is_content, owner}
 use Rattle.desk_layers.specs.Scratch.{scratch}
 use Rattle.desk_layers.specs.Change.{IsChanged, State, had, no_change}
 use Rattle.window_items.specs.Items.{AreApart, edit_at, has_serial, is_in, items_of}
 use Rattle.window_items.proofs.SerialLemmas.{or_parts}
 use Rattle.desk_call.specs.declared.control.ControlOf.{ControlOf}
+use Rattle.window_list.specs.Holders.{part_at}
+use Rattle.vis_update.specs.Records.{WindowRecord}
 use Rattle.window_mgr.specs.FullDesk.{layered_desk, layered_state}
 use Rattle.control_mgr.specs.ControlDesks.{ControlRecord, ControlsState}
-use Rattle.control_mgr.specs.ControlSteps.{IsControlLaid}
+use Rattle.control_mgr.specs.ControlSteps.{AreLayersOf, IsControlLaid, behind_controls}
 use Rattle.control_mgr.specs.Fields.{with_shown}
 use Rattle.control_mgr.proofs.Places.{found_names}
 use Rattle.list_mgr.specs.ListDesks.{ListDesk, with_controls}
-use Rattle.desk_laws.proofs.GoneParts.{another, no_control_behind, no_part}
+use Rattle.list_mgr.proofs.ListsKept.{IsRightLists}
+use Rattle.desk_laws.proofs.GoneParts.{another}
 use Rattle.desk_laws.proofs.JoinedChanges.{drawing}
-use Rattle.desk_laws.proofs.MadeLists.{owners_laid}
-use Rattle.desk_laws.proofs.PartsThere.{control_has, first_control, first_list, IsRightAlone, part_of}
+use Rattle.desk_laws.proofs.PartsThere.{HasSuch, control_has, first_control, is_part, no_control_behind, no_part, of_controls, owners_are, plain_part}
 
 -- where owners are drawn afresh that own no pixel, nothing is drawn
-drawing_none : (these : Owner → Bool) (before after : State) → ((p : Point) → on_screen after.desk p ≡ true → these (owner after.desk p) ≡ false) → IsChanged (drawing these) before after → IsChanged no_change before after
+pub drawing_none : (these : Owner → Bool) (before after : State) → ((p : Point) → on_screen after.desk p ≡ true → these (owner after.desk p) ≡ false) → IsChanged (drawing these) before after → IsChanged no_change before after
 drawing_none these before after none changed = record {
   stale = λ p on.
       let o = owner after.desk p in
@@ -77,25 +78,22 @@ hidden_has_none n s q behind (c ∷ cs) hidden other =
     by_window true rest = by_serial (has_serial n c) (control_has c q) refl refl rest
     by_window false rest = rest
 
-pub hidden_changes : (c : ControlOf) (before after : ListDesk) → IsRightAlone before → IsRightAlone after → IsControlLaid c (with_shown false) (with_controls before) (with_controls after)
+pub hidden_changes : (c : ControlOf) (before after : ListDesk) → IsRightLists before → IsRightLists after → IsControlLaid c (with_shown false) (with_controls before) (with_controls after)
     → IsChanged no_change (layered_state before.desk.windows) (layered_state after.desk.windows)
 hidden_changes c before after was are done =
-    drawing_none (λ o. same_owner o (Content c.window (part.Control c.control))) (layered_state before.desk.windows) (layered_state after.desk.windows) none done.laid.set.pixels
+    drawing_none (is_part c.window (part.Control c.control)) (layered_state before.desk.windows) (layered_state after.desk.windows) none done.laid.set.pixels
   where
     x : ControlRecord
     x = done.changed.changed.control
 
     hidden : All (IsHidden c.control) after.controls.controls
     hidden = subst (All (IsHidden c.control)) (sym (ap (λ (s : ControlsState). s.controls) done.changed.state ∙ done.changed.changed.controls))
-        (edited_hidden c.control _ (λ y. refl) done.changed.at before.controls.controls x was.right.desk.whole.apart done.changed.changed.there (found_names c.window c.control done.changed.at before.controls.controls x done.changed.found done.changed.changed.there).1)
+        (edited_hidden c.control _ (λ y. refl) done.changed.at before.controls.controls x was.desk.whole.apart done.changed.changed.there (found_names c.window c.control done.changed.at before.controls.controls x done.changed.found done.changed.changed.there).1)
 
-    plain : (o : Owner) → is_content o ≡ false → same_owner o (Content c.window (part.Control c.control)) ≡ false
-    plain Desktop e = refl
-    plain Bar e = refl
-    plain (Frame s) e = refl
-    plain (Content s q) e = absurd (false≢true (sym e))
-
-    none : (p : Point) → on_screen (layered_desk after.desk.windows.desk) p ≡ true → same_owner (owner (layered_desk after.desk.windows.desk) p) (Content c.window (part.Control c.control)) ≡ false
-    none p on = owners_laid (λ o q. same_owner q (Content c.window (part.Control c.control)) ≡ false) plain after after are are (record { windows = refl; rest = refl })
-        (λ s q. no_part c.window s (part.Control c.control) (part_of after.controls.controls after.lists.lists s q)
-        (λ e. hidden_has_none c.control s q (first_list (items_of s after.lists.lists) q) after.controls.controls hidden (no_control_behind c.control q (items_of s after.lists.lists)))) p
+    none : (p : Point) → on_screen (layered_desk after.desk.windows.desk) p ≡ true → is_part c.window (part.Control c.control) (owner (layered_desk after.desk.windows.desk) p) ≡ false
+    none p on = owners_are (λ o. is_part c.window (part.Control c.control) o ≡ false) (plain_part c.window (part.Control c.control)) after.desk.windows.desk
+        (All-weaker (λ (w : WindowRecord). AreLayersOf (items_of w.serial after.controls.controls) w.layers) (HasSuch (λ o. is_part c.window (part.Control c.control) o ≡ false))
+        (λ w its q. no_part c.window w.serial (part.Control c.control) (part_at w.layers q)
+        (λ e. ap (λ p. same_part p (part.Control c.control)) (of_controls (items_of w.serial after.controls.controls) w.layers its q)
+        ∙ hidden_has_none c.control w.serial q (part_at (behind_controls w.layers) q) after.controls.controls hidden (no_control_behind c.control q w.layers)))
+        after.desk.windows.desk.windows are.desk.whole.joined) p

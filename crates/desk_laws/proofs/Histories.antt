@@ -37,6 +37,7 @@ use Rattle.desk_toolbox.proofs.Stands.{Stands, stands}
 use Rattle.desk_toolbox.proofs.Totals.{ordinary_is_present}
 use Rattle.desk_toolbox.proofs.TrackedControls.{control_counts}
 use Rattle.desk_toolbox.proofs.ListStands.{list_counts}
+use Rattle.desk_toolbox.proofs.TextStands.{text_counts}
 use Rattle.desk_toolbox.proofs.KeptDesks.{refused_keeps_desk}
 use Rattle.desk_toolbox.proofs.Telling.{forgotten_if, left_after, telling_on, event_tells, told_if}
 use Rattle.desk_laws.proofs.Consistent.{step_keeps_consistent, just_begun_is_consistent}
@@ -65,7 +66,7 @@ quiet (Some w) told active new_active new rest is = ap (λ t. telling t new_acti
 window_step : (call : WindowCall) (answer : Result WindowReply Refusal) (before after : ToolboxState) → IsWindowMade call answer before after → IsOneStep (asks.Window call) (replied reply.Window answer) before after
 window_step call (Ok answer) before after made = record {
   tells = λ rest. quiet (to_dispose call) before.events.told before.desk.windows.desk.active after.desk.windows.desk.active after.events.told rest (ap (λ (e : Events). e.told) (made.events ∙ left_after call before.events));
-  recount = window_recounts call answer before.desk made.middle made.told after.desk.windows after.controls.controls after.lists.lists made.answered made.caught_up made.shown;
+  recount = window_recounts call answer before.desk made.middle made.told after.desk.windows after.controls.controls after.lists.lists after.texts.texts made.answered made.caught_up made.shown;
 }
 window_step call (Err e) before after (answered, kept) = record {
   tells = λ rest. quiet None before.events.told before.desk.windows.desk.active after.desk.windows.desk.active after.events.told rest (ap (λ (e : Events). e.told) kept.events);
@@ -102,6 +103,7 @@ refused_step (asks.Window call) e before after events same = still_step (asks.Wi
 refused_step (asks.Update call) e before after events same = still_step (asks.Update call) (Err e) before after refl refl (λ rest. refl) events same
 refused_step (asks.Frame call) e before after events same = still_step (asks.Frame call) (Err e) before after refl refl (λ rest. refl) events same
 refused_step (asks.List call) e before after events same = still_step (asks.List call) (Err e) before after refl refl (λ rest. refl) events same
+refused_step (asks.Text call) e before after events same = still_step (asks.Text call) (Err e) before after refl refl (λ rest. refl) events same
 refused_step (asks.Control call) e before after events same = still_step (asks.Control call) (Err e) before after refl refl (λ rest. refl) events same
 refused_step (asks.Menu call) e before after events same = still_step (asks.Menu call) (Err e) before after refl refl (λ rest. refl) events same
 refused_step (asks.Outline call) e before after events same = still_step (asks.Outline call) (Err e) before after refl refl (λ rest. refl) events same
@@ -122,9 +124,10 @@ each_goes_on = record {
   window = λ call answer before after may step was. window_step call answer before after step;
   update = λ call answer before after may step kept was. still_step (asks.Update call) (replied reply.Window answer) before after refl refl (λ rest. refl) kept.events (same_desk before.desk.windows.desk after.desk.windows.desk (update_keeps_desk call answer before.desk after.desk step));
   frame = λ call answer before after may step kept was. still_step (asks.Frame call) (replied reply.Frame answer) before after refl refl (λ rest. refl) kept.events (frame_counts call answer before.desk after.desk step);
-  control = λ call answer before after may step events lists menus was. still_step (asks.Control call) (replied reply.Control answer) before after refl refl (λ rest. refl) events (control_counts call answer before after step);
-  list = λ call answer before after may step events menus was. still_step (asks.List call) (replied reply.List answer) before after refl refl (λ rest. refl) events (list_counts call answer before after step);
-  menu = λ call answer before after may step events controls lists was. still_step (asks.Menu call) (replied reply.Menu answer) before after refl refl (λ rest. refl) events (menu_counts call answer (with_menus before) (with_menus after) step);
+  control = λ call answer before after may step events lists texts menus was. still_step (asks.Control call) (replied reply.Control answer) before after refl refl (λ rest. refl) events (control_counts call answer before after step);
+  list = λ call answer before after may step events texts menus was. still_step (asks.List call) (replied reply.List answer) before after refl refl (λ rest. refl) events (list_counts call answer before after step);
+  text = λ call answer before after may step events controls lists menus was. still_step (asks.Text call) (replied reply.Text answer) before after refl refl (λ rest. refl) events (text_counts call answer before after step);
+  menu = λ call answer before after may step events controls lists texts was. still_step (asks.Menu call) (replied reply.Menu answer) before after refl refl (λ rest. refl) events (menu_counts call answer (with_menus before) (with_menus after) step);
   outline = λ call answer before after may step kept was. still_step (asks.Outline call) (replied reply.Outline answer) before after refl refl (λ rest. refl) kept.events (same_desk before.desk.windows.desk after.desk.windows.desk (outline_keeps_desk call answer before.desk after.desk step));
   moved = λ call move before after may step was. let moved = window_step (window_calls.Move move) (Ok window_reply.Done) (put_down before) after step in record { tells = moved.tells; recount = moved.recount };
   event = λ call answer before after step was. event_step_is call answer before after was step;

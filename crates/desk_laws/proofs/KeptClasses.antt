@@ -37,10 +37,11 @@ use Rattle.window_frame.proofs.ToldSteps.{HoldsOfFollowing, HoldsOfFrames, of_ca
 use Rattle.control_mgr.proofs.ControlBits.{bare}
 use Rattle.control_mgr.proofs.ControlFacts.{control_facts}
 use Rattle.list_mgr.proofs.ListFacts.{list_facts}
+use Rattle.desk_toolbox.proofs.TextFacts.{text_facts}
 use Rattle.menu_mgr.proofs.MenuKeeps.{menu_keeps}
 use Rattle.desk_toolbox.specs.Classes.{AreClassed}
 use Rattle.desk_toolbox.specs.Run.{IsStep, IsWindowAnswer, IsWindowMade, put_down}
-use Rattle.desk_toolbox.specs.ToolboxStates.{ToolboxState, with_controls, with_lists, with_menus}
+use Rattle.desk_toolbox.specs.ToolboxStates.{ToolboxState, with_controls, with_lists, with_menus, with_texts}
 use Rattle.desk_laws.proofs.Classed.{IsBesideOf, classed_alike, classed_brought, classed_next, classed_put_back, classed_put_front, classed_without, floating_activated, floating_changed, floating_lit, floating_mapped}
 use Rattle.desk_toolbox.proofs.EachManager.{HoldsOfEach, of_step}
 use Rattle.desk_toolbox.proofs.KeptDesks.{refused_keeps_desk}
@@ -247,13 +248,16 @@ each_stays_classed = record {
   window = λ call answer before after may step h. window_classed call answer before after step h;
   update = λ call answer before after may step rest h. still_classed before after (update_keeps_desk call answer before.desk after.desk step) h;
   frame = λ call answer before after may step rest h. then_classed before.desk.windows.desk after.desk.windows.desk (of_frame StaysAlike frames_alike call answer before.desk after.desk step) h;
-  control = λ call answer before after may step events lists menus h.
+  control = λ call answer before after may step events lists texts menus h.
       let facts = (control_facts call answer (with_controls before) (with_controls after) step).0 in
       then_classed before.desk.windows.desk after.desk.windows.desk (bare_alike before.desk.windows.desk.windows after.desk.windows.desk.windows facts.windows) h;
-  list = λ call answer before after may step events menus h.
+  list = λ call answer before after may step events texts menus h.
       let facts = (list_facts call answer (with_lists before) (with_lists after) step).0 in
       then_classed before.desk.windows.desk after.desk.windows.desk (bare_alike before.desk.windows.desk.windows after.desk.windows.desk.windows facts.windows) h;
-  menu = λ call answer before after may step events controls lists h.
+  text = λ call answer before after may step events controls lists menus h.
+      let facts = (text_facts call answer (with_texts before) (with_texts after) step).0 in
+      then_classed before.desk.windows.desk after.desk.windows.desk (bare_alike before.desk.windows.desk.windows after.desk.windows.desk.windows facts.windows) h;
+  menu = λ call answer before after may step events controls lists texts h.
       subst AreClassed (sym (menu_keeps (λ d. d.windows) (λ d titles. refl) call answer (with_menus before) (with_menus after) step)) h;
   outline = λ call answer before after may step rest h. still_classed before after (outline_keeps_desk call answer before.desk after.desk step) h;
   moved = λ call move before after may step h. window_classed (asks.Move move) (Ok window_reply.Done) (put_down before) after step h;

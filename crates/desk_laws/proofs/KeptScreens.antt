@@ -19,9 +19,10 @@ use Rattle.window_mgr.specs.FullDesk.{FullDesk, FullState}
 use Rattle.window_frame.proofs.ToldSteps.{HoldsOfFollowing, HoldsOfFrames, of_caught_up, of_frame}
 use Rattle.control_mgr.proofs.ControlFacts.{control_facts}
 use Rattle.list_mgr.proofs.ListFacts.{list_facts}
+use Rattle.desk_toolbox.proofs.TextFacts.{text_facts}
 use Rattle.menu_mgr.proofs.MenuKeeps.{menu_keeps}
 use Rattle.desk_toolbox.specs.Run.{IsRunOfCalls, IsStep, IsWindowAnswer, IsWindowMade, put_down}
-use Rattle.desk_toolbox.specs.ToolboxStates.{ToolboxState, with_controls, with_lists, with_menus}
+use Rattle.desk_toolbox.specs.ToolboxStates.{ToolboxState, with_controls, with_lists, with_menus, with_texts}
 use Rattle.desk_laws.specs.Headline.{IsDeskOf}
 use Rattle.desk_toolbox.proofs.EachManager.{HoldsOfEach, of_step}
 use Rattle.desk_toolbox.proofs.KeptDesks.{refused_keeps_desk}
@@ -86,11 +87,12 @@ each_keeps_screen = record {
   window = λ call answer before after may step. window_stays_on call answer before after step;
   update = λ call answer before after may step rest. ap ground (update_keeps_desk call answer before.desk after.desk step);
   frame = λ call answer before after may step rest. of_frame StaysOn frames_stay_on call answer before.desk after.desk step;
-  control = λ call answer before after may step events lists menus.
+  control = λ call answer before after may step events lists texts menus.
       let facts = (control_facts call answer (with_controls before) (with_controls after) step).0 in
       λ i. (facts.width i, (facts.height i, ((facts.bar i).rows, facts.font i)));
-  list = λ call answer before after may step events menus. ap ground (list_facts call answer (with_lists before) (with_lists after) step).0.rest;
-  menu = λ call answer before after may step events controls lists. menu_keeps ground (λ d titles. refl) call answer (with_menus before) (with_menus after) step;
+  list = λ call answer before after may step events texts menus. ap ground (list_facts call answer (with_lists before) (with_lists after) step).0.rest;
+  text = λ call answer before after may step events controls lists menus. ap ground (text_facts call answer (with_texts before) (with_texts after) step).0.rest;
+  menu = λ call answer before after may step events controls lists texts. menu_keeps ground (λ d titles. refl) call answer (with_menus before) (with_menus after) step;
   outline = λ call answer before after may step rest. ap ground (outline_keeps_desk call answer before.desk after.desk step);
   moved = λ call move before after may step. window_stays_on (asks.Move move) (Ok window_reply.Done) (put_down before) after step;
   event = λ call answer before after step. ap ground step.desk.windows.desk;

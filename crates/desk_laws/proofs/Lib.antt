@@ -8,6 +8,8 @@ pub mod KeptScreens
 pub mod HeldWindows
 pub mod ControlNumbers
 pub mod ListNumbers
+pub mod TextLaws
+pub mod TextsAsked
 pub mod GivenBars
 pub mod Consistent
 pub mod Histories
@@ -21,6 +23,7 @@ pub mod Floaters
 pub mod LeftByMenus
 pub mod OutlineLaws
 pub mod OpenUpdates
+pub mod KeptSelectables
 pub mod ServedRuns
 pub mod RegionLaws
 pub mod KeptValues
@@ -35,5 +38,9 @@ pub mod ShownKinds
 pub mod GoneParts
 pub mod GoneLists
 pub mod HiddenControls
+pub mod SelectionsStay
+pub mod HeldTexts
+pub mod SelectableStays
+pub mod TextChanges
 pub mod EachChange
 pub mod HeadlineLaws

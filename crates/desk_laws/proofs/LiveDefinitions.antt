@@ -38,10 +38,11 @@ use Rattle.window_frame.proofs.ToldSteps.{HoldsOfFollowing, HoldsOfFrames, of_ca
 use Rattle.control_mgr.proofs.ControlBits.{bare}
 use Rattle.control_mgr.proofs.ControlFacts.{control_facts}
 use Rattle.list_mgr.proofs.ListFacts.{list_facts}
+use Rattle.desk_toolbox.proofs.TextFacts.{text_facts}
 use Rattle.menu_mgr.proofs.MenuKeeps.{menu_keeps}
 use Rattle.desk_toolbox.specs.Reached.{HasLiveDefinition}
 use Rattle.desk_toolbox.specs.Run.{IsStep, IsWindowAnswer, IsWindowMade}
-use Rattle.desk_toolbox.specs.ToolboxStates.{ToolboxState, with_controls, with_lists, with_menus}
+use Rattle.desk_toolbox.specs.ToolboxStates.{ToolboxState, with_controls, with_lists, with_menus, with_texts}
 use Rattle.desk_toolbox.proofs.EachManager.{HoldsOfEach, of_step}
 use Rattle.desk_call.specs.declared.window.WindowReply.TheVariants as window_reply
 use Rattle.desk_toolbox.proofs.Outlined.{outline_keeps_desk}
@@ -329,11 +330,13 @@ each_keeps_live = record {
   window = λ call answer before after may step h. made_live call answer before after step h;
   update = λ call answer before after may step rest h. same_live before.desk.windows after.desk.windows (update_keeps_desk call answer before.desk after.desk step) h;
   frame = λ call answer before after may step rest h. of_frame StaysLive frames_live call answer before.desk after.desk step h;
-  control = λ call answer before after may step events lists menus h.
+  control = λ call answer before after may step events lists texts menus h.
       same_but_layers before.desk.windows.desk.windows after.desk.windows.desk.windows (control_facts call answer (with_controls before) (with_controls after) step).0.windows h;
-  list = λ call answer before after may step events menus h.
+  list = λ call answer before after may step events texts menus h.
       same_but_layers before.desk.windows.desk.windows after.desk.windows.desk.windows (list_facts call answer (with_lists before) (with_lists after) step).0.windows h;
-  menu = λ call answer before after may step events controls lists h.
+  text = λ call answer before after may step events controls lists menus h.
+      same_but_layers before.desk.windows.desk.windows after.desk.windows.desk.windows (text_facts call answer (with_texts before) (with_texts after) step).0.windows h;
+  menu = λ call answer before after may step events controls lists texts h.
       subst HaveLive (sym (menu_keeps (λ d. d.windows) (λ d titles. refl) call answer (with_menus before) (with_menus after) step)) h;
   outline = λ call answer before after may step rest h. same_live before.desk.windows after.desk.windows (outline_keeps_desk call answer before.desk after.desk step) h;
   moved = λ call move before after may step h. made_live (asks.Move move) (Ok window_reply.Done) (put_down before) after step h;

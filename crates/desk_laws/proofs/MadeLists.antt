@@ -1,5 +1,5 @@
 -- What a call that makes a list or disposes of one changes of pixels, with its scroll bars, is its change.
-use Rattle.std.proofs.Common.{◌≡◌, ℕ, Bool, true, false, ◌==◌, ◌&&◌, ◌||◌, if◌then◌else◌, List, [], ◌∷◌, ◌++◌, length, map, Option, None, Some, refl, sym, ap, ◌∙◌, subst, eqb-true}
+use Rattle.std.proofs.Common.{◌≡◌, ℕ, Bool, true, false, ◌==◌, ◌&&◌, ◌||◌, if◌then◌else◌, List, [], ◌∷◌, ◌++◌, length, Option, None, Some, refl, sym, ap, ◌∙◌, subst, eqb-true}
 use Rattle.std.specs.Prelude.{slice_get}
 use Rattle.std.specs.Option.{option_map_or}
 use Rattle.std.proofs.lemmas.Bool.{false≢true}
@@ -7,7 +7,7 @@ use Rattle.tb_geom.specs.declared.point.Point.{Point}
 use Rattle.desk_layers.specs.declared.part.Part.{Part}
 use Rattle.desk_layers.specs.declared.part.Part.TheVariants as part
 use Rattle.desk_layers.specs.Desk.{on_screen}
-use Rattle.desk_layers.specs.Owner.{Owner, is_content, owner, same_owner}
+use Rattle.desk_layers.specs.Owner.{Owner, owner}
 use Rattle.desk_layers.specs.Owner.Owner.{Content}
 use Rattle.desk_layers.specs.Change.{Change, IsChanged, no_change}
 use Rattle.desk_layers.proofs.Owning.{same_number, same_part-self}
@@ -17,26 +17,24 @@ use Rattle.desk_call.specs.declared.control.ControlReply.TheVariants as control_
 use Rattle.desk_call.specs.declared.control.NewControl.{NewControl}
 use Rattle.desk_call.specs.declared.list.ListOf.{ListOf}
 use Rattle.desk_call.specs.declared.list.NewList.{NewList}
-use Rattle.window_mgr.specs.FullDesk.{FullDesk, IsRightState, layered_desk, layered_state, look_of}
+use Rattle.window_list.specs.Holders.{part_at}
+use Rattle.vis_update.specs.Records.{WindowRecord}
+use Rattle.window_mgr.specs.Finding.{record_with}
+use Rattle.window_mgr.specs.FullDesk.{IsRightState, layered_desk, layered_state}
 use Rattle.control_mgr.specs.ControlDesks.{ControlRecord}
-use Rattle.control_mgr.specs.ControlSteps.{IsControlMade, new_control}
-use Rattle.control_mgr.proofs.ControlBits.{bare, bare_laid}
+use Rattle.control_mgr.specs.ControlSteps.{IsControlMade, behind_controls, new_control}
 use Rattle.list_mgr.specs.ListDesks.{IsListDeskUnchanged, KeptList, ListDesk, ListsState, with_controls}
 use Rattle.list_mgr.specs.ListDesks as lists
-use Rattle.list_mgr.specs.ListSteps.{IsBarMade, IsListMade, IsListPut, horizontal_bar_of, new_list, vertical_bar_of}
+use Rattle.list_mgr.specs.ListSteps.{IsBarMade, IsListMade, IsListPut, horizontal_bar_of, new_list, vertical_bar_of, with_last}
 use Rattle.list_mgr.proofs.ListsBars.{bar_made_keeps, bar_made_lists}
+use Rattle.list_mgr.proofs.ListsKept.{IsRightLists}
 use Rattle.desk_toolbox.specs.ToolboxStates.{ToolboxState, with_lists}
 use Rattle.desk_laws.specs.Changes.{is_bar, is_bar_of, is_list, list_made}
 use Rattle.desk_laws.proofs.JoinedChanges.{AreOthersSame, drawing, drawn_then}
-use Rattle.desk_laws.proofs.PartsThere.{alike_laid, AreJoined, control_has, first_control, first_list, IsRightAlone, list_has, part_of, related_owners}
+use Rattle.desk_laws.proofs.PartsThere.{control_has, first_control, is_part, laid_part, last_part, other_part, owners_laid, same_screen, window_part}
 use Rattle.desk_laws.proofs.WindowChanges.{unchanged_changes}
-use Rattle.desk_toolbox.proofs.KnownLayers.{same_others_known}
-use Rattle.list_mgr.proofs.ListsBeside.{bar_made}
 
--- ---- the parts of other controls and lists
-
-abbrev pub is_part : ℕ → Part → Owner → Bool
-is_part window its o = same_owner o (Content window its)
+-- ---- one control more
 
 -- an item of this window is one of this window
 pub in_window : (s window : ℕ) (its : Part) → (window == s) ≡ true → is_part window its (Content s its) ≡ true
@@ -71,75 +69,7 @@ control_pushed c s q behind (x ∷ xs) other = by_window (is_in s x) (control_ha
         by_point false other = rest other
     by_window false h rest other = rest other
 
--- so one list more
-list_pushed : (l : KeptList) (s : ℕ) (q : Point) (ls : List KeptList)
-    → is_part l.window (part.List l.serial) (Content s (first_list (items_of s (ls ++ l ∷ [])) q)) ≡ false
-    → first_list (items_of s ls) q ≡ first_list (items_of s (ls ++ l ∷ [])) q
-list_pushed l s q [] other = by_window (is_in s l) refl other
-  where
-    by_point : (b : Bool) → is_in s l ≡ true → is_part l.window (part.List l.serial) (Content s (if b then part.List l.serial else part.Picture)) ≡ false → part.Picture ≡ (if b then part.List l.serial else part.Picture)
-    by_point true here other = absurd (false≢true (sym other ∙ in_window s l.window (part.List l.serial) here))
-    by_point false here other = refl
-
-    by_window : (b : Bool) → is_in s l ≡ b → is_part l.window (part.List l.serial) (Content s (first_list (if b then l ∷ [] else []) q)) ≡ false → part.Picture ≡ first_list (if b then l ∷ [] else []) q
-    by_window true here other = by_point (list_has l q) here other
-    by_window false away other = refl
-list_pushed l s q (x ∷ xs) other = by_window (is_in s x) (list_pushed l s q xs) other
-  where
-    by_point : (h : Bool) → (is_part l.window (part.List l.serial) (Content s (first_list (items_of s (xs ++ l ∷ [])) q)) ≡ false → first_list (items_of s xs) q ≡ first_list (items_of s (xs ++ l ∷ [])) q)
-        → is_part l.window (part.List l.serial) (Content s (if h then part.List x.serial else first_list (items_of s (xs ++ l ∷ [])) q)) ≡ false
-        → (if h then part.List x.serial else first_list (items_of s xs) q) ≡ (if h then part.List x.serial else first_list (items_of s (xs ++ l ∷ [])) q)
-    by_point true rest other = refl
-    by_point false rest other = rest other
-
-    by_window : (b : Bool) → (is_part l.window (part.List l.serial) (Content s (first_list (items_of s (xs ++ l ∷ [])) q)) ≡ false → first_list (items_of s xs) q ≡ first_list (items_of s (xs ++ l ∷ [])) q)
-        → is_part l.window (part.List l.serial) (Content s (first_list (if b then x ∷ items_of s (xs ++ l ∷ []) else items_of s (xs ++ l ∷ [])) q)) ≡ false
-        → first_list (if b then x ∷ items_of s xs else items_of s xs) q ≡ first_list (if b then x ∷ items_of s (xs ++ l ∷ []) else items_of s (xs ++ l ∷ [])) q
-    by_window true rest other = by_point (list_has x q) rest other
-    by_window false rest other = rest other
-
--- what lies behind the controls is another, where that is not this part
-list_behind : (s window : ℕ) (its : Part) (q : Point) (old new : Part) → (is_part window its (Content s new) ≡ false → old ≡ new) → (cs : List ControlRecord)
-    → is_part window its (Content s (first_control cs q new)) ≡ false → first_control cs q old ≡ first_control cs q new
-list_behind s window its q old new same [] other = same other
-list_behind s window its q old new same (c ∷ cs) other = by_point (control_has c q) (list_behind s window its q old new same cs) other
-  where
-    by_point : (h : Bool) → (is_part window its (Content s (first_control cs q new)) ≡ false → first_control cs q old ≡ first_control cs q new)
-        → is_part window its (Content s (if h then part.Control c.serial else first_control cs q new)) ≡ false
-        → (if h then part.Control c.serial else first_control cs q old) ≡ (if h then part.Control c.serial else first_control cs q new)
-    by_point true rest other = refl
-    by_point false rest other = rest other
-
--- ---- owners of desks with other controls or lists
-
--- the desks are the same but for layers, and what these show
-pub record AreLaidAgain (d e : FullDesk) : Type 0 where
-  pub windows : map bare e.windows ≡ map bare d.windows
-  pub rest : e ≡ record d { windows = e.windows; shows = e.shows }
-
-pub same_screen : (d e : FullDesk) → AreLaidAgain d e → (p : Point) → on_screen (layered_desk d) p ≡ on_screen (layered_desk e) p
-same_screen d e again p = sym (ap (λ (x : FullDesk). on_screen (layered_desk x) p) again.rest)
-
-pub joined_of : (s : ListDesk) → IsRightAlone s → AreJoined s.controls.controls s.lists.lists s.desk.windows.desk.windows
-joined_of s its = record { controls = its.right.desk.whole.joined; lists = its.right.lists.joined; known = its.known }
-
--- a relation of owners, by how the parts of controls and lists are related
-pub owners_laid : (R : Owner → Owner → Type 0) → ((o : Owner) → is_content o ≡ false → R o o) → (d e : ListDesk) → IsRightAlone d → IsRightAlone e → AreLaidAgain d.desk.windows.desk e.desk.windows.desk
-    → ((s : ℕ) (q : Point) → R (Content s (part_of d.controls.controls d.lists.lists s q)) (Content s (part_of e.controls.controls e.lists.lists s q)))
-    → (p : Point) → R (owner (layered_desk d.desk.windows.desk) p) (owner (layered_desk e.desk.windows.desk) p)
-owners_laid R itself d e was are again related p =
-    related_owners R itself d.desk.windows.desk e.desk.windows.desk p (ap (λ (x : FullDesk). x.bar.rows) again.rest)
-    (alike_laid R itself (look_of d.desk.windows.desk) (look_of e.desk.windows.desk) p d.controls.controls e.controls.controls d.lists.lists e.lists.lists related
-    d.desk.windows.desk.windows e.desk.windows.desk.windows again.windows (joined_of d was) (joined_of e are))
-
-abbrev pub LaidAgain : ListDesk → ListDesk → Type 0
-LaidAgain a b = AreLaidAgain a.desk.windows.desk b.desk.windows.desk
-
-pub unchanged_again : (a b : ListDesk) → IsListDeskUnchanged a b → LaidAgain a b
-unchanged_again a b same = record {
-  windows = ap (λ (x : FullDesk). map bare x.windows) same.desk.windows.desk;
-  rest = λ i. record (same.desk.windows.desk i) { windows = b.desk.windows.desk.windows; shows = b.desk.windows.desk.shows };
-}
+-- ---- lists that are made
 
 -- where nothing changed, all owners are the same
 pub unchanged_others : (these : Owner → Bool) (a b : ListDesk) → IsListDeskUnchanged a b → AreOthersSame these (layered_desk a.desk.windows.desk) (layered_desk b.desk.windows.desk)
@@ -147,8 +77,6 @@ unchanged_others these a b same = record {
   screen = λ p i. on_screen (layered_desk (sym same.desk.windows.desk i)) p;
   owners = λ p on other i. owner (layered_desk (sym same.desk.windows.desk i)) p;
 }
-
--- ---- lists that are made
 
 abbrev Changes : Change → ListDesk → ListDesk → Type 0
 Changes c a b = IsChanged c (layered_state a.desk.windows) (layered_state b.desk.windows)
@@ -158,16 +86,16 @@ record IsBarDrawn (window : ℕ) (serial : Option ℕ) (a b : ListDesk) : Type 0
   changed : Changes (drawing (is_bar window serial)) a b
   others : AreOthersSame (is_bar window serial) (layered_desk a.desk.windows.desk) (layered_desk b.desk.windows.desk)
 
-bar_drawn : (wanted : Bool) (n : NewControl) (serial : Option ℕ) (a b : ListDesk) → IsRightAlone a → IsRightAlone b → IsBarMade wanted n serial a b → IsBarDrawn n.window serial a b
+bar_drawn : (wanted : Bool) (n : NewControl) (serial : Option ℕ) (a b : ListDesk) → IsRightLists a → IsRightLists b → IsBarMade wanted n serial a b → IsBarDrawn n.window serial a b
 bar_drawn false n serial a b was are (none, same) = subst (λ o. IsBarDrawn n.window o a b) (sym none) (record {
-  changed = unchanged_changes a.desk.windows b.desk.windows was.right.desk.right same.desk.windows;
+  changed = unchanged_changes a.desk.windows b.desk.windows was.desk.right same.desk.windows;
   others = unchanged_others (is_bar n.window None) a b same;
 })
 bar_drawn true n serial a b was are ((c, is, step), same) = subst (λ o. IsBarDrawn n.window o a b) (sym is) (record {
   changed = subst (λ k. Changes (drawing (is_bar n.window (Some k))) a b) (sym number) done.laid.set.pixels;
   others = record {
-    screen = same_screen a.desk.windows.desk b.desk.windows.desk again;
-    owners = λ p on other. owners_laid (λ o q. is_bar n.window (Some c) q ≡ false → o ≡ q) (λ o e f. refl) a b was are again pushed p other;
+    screen = same_screen n.window done.laid.layers a.desk.windows.desk b.desk.windows.desk done.laid.set.desk;
+    owners = λ p on other. owners_laid (λ o q. is_bar n.window (Some c) q ≡ false → o ≡ q) (λ o e. refl) n.window done.laid.layers a.desk.windows.desk b.desk.windows.desk was.desk.right.plain.desk done.laid.set.desk pushed p other;
   };
 })
   where
@@ -180,43 +108,39 @@ bar_drawn true n serial a b was are ((c, is, step), same) = subst (λ o. IsBarDr
     number : c ≡ step.1.0
     number = same_made c step.1.0 step.1.1
 
-    again : LaidAgain a b
-    again = record {
-      windows = ap (λ (x : FullDesk). map bare x.windows) done.laid.set.desk ∙ bare_laid n.window done.laid.layers a.desk.windows.desk.windows;
-      rest = λ i. record (done.laid.set.desk i) { windows = b.desk.windows.desk.windows; shows = b.desk.windows.desk.shows };
-    }
-
     one : ControlRecord
     one = new_control n step.1.0 done.loan.slot done.begun
 
-    pushed : (s : ℕ) (q : Point) → is_bar n.window (Some c) (Content s (part_of b.controls.controls b.lists.lists s q)) ≡ false → Content s (part_of a.controls.controls a.lists.lists s q) ≡ Content s (part_of b.controls.controls b.lists.lists s q)
-    pushed s q = subst (λ (x : List ControlRecord × List KeptList × ℕ). is_bar n.window (Some x.2) (Content s (part_of x.0 x.1 s q)) ≡ false → Content s (part_of a.controls.controls a.lists.lists s q) ≡ Content s (part_of x.0 x.1 s q))
-        (λ i. (sym done.controls i, (sym same.lists i).lists, sym number i))
-        (λ other. ap (Content s) (control_pushed one s q (first_list (items_of s a.lists.lists) q) a.controls.controls other))
+    pushed : (w : WindowRecord) → record_with n.window a.desk.windows.desk.windows ≡ Some w → (q : Point) → is_bar n.window (Some c) (Content n.window (part_at done.laid.layers q)) ≡ false
+        → Content n.window (part_at w.layers q) ≡ Content n.window (part_at done.laid.layers q)
+    pushed w found q other = ap (Content n.window)
+        (window_part n.window a.controls.controls a.desk.windows.desk.windows w was.desk.whole.joined found q
+        ∙ control_pushed one n.window q behind a.controls.controls (sym (λ i. is_part n.window (part.Control (number i)) (Content n.window (now i))) ∙ other)
+        ∙ sym now)
+      where
+        behind : Part
+        behind = part_at (behind_controls w.layers) q
+
+        now : part_at done.laid.layers q ≡ first_control (items_of n.window (a.controls.controls ++ one ∷ [])) q behind
+        now = laid_part n.window (Some (part.Control step.1.0)) (with_controls a) (with_controls b) done.laid w found q
+            ∙ ap (λ cs. first_control (items_of n.window cs) q behind) done.controls
 
 -- the list was put behind the others and drawn, and the other owners are what they were
-put_others : (n : NewList) (serial : ℕ) (vertical horizontal : Option ℕ) (a b : ListDesk) → IsRightAlone a → IsRightAlone b → IsListPut n serial vertical horizontal a b
+put_others : (n : NewList) (serial : ℕ) (vertical horizontal : Option ℕ) (a b : ListDesk) → IsRightLists a → IsListPut n serial vertical horizontal a b
     → AreOthersSame (is_list (record { window = n.window; list = serial })) (layered_desk a.desk.windows.desk) (layered_desk b.desk.windows.desk)
-put_others n serial vertical horizontal a b was are put = record {
-  screen = same_screen a.desk.windows.desk b.desk.windows.desk again;
-  owners = λ p on other. owners_laid (λ o q. is_list (record { window = n.window; list = serial }) q ≡ false → o ≡ q) (λ o e f. refl) a b was are again pushed p other;
+put_others n serial vertical horizontal a b was put = record {
+  screen = same_screen n.window put.laid.layers a.desk.windows.desk b.desk.windows.desk put.laid.set.desk;
+  owners = λ p on other. owners_laid (λ o q. is_list (record { window = n.window; list = serial }) q ≡ false → o ≡ q) (λ o e. refl) n.window put.laid.layers a.desk.windows.desk b.desk.windows.desk was.desk.right.plain.desk put.laid.set.desk pushed p other;
 }
   where
-    again : LaidAgain a b
-    again = record {
-      windows = ap (λ (x : FullDesk). map bare x.windows) put.laid.set.desk ∙ bare_laid n.window put.laid.layers a.desk.windows.desk.windows;
-      rest = λ i. record (put.laid.set.desk i) { windows = b.desk.windows.desk.windows; shows = b.desk.windows.desk.shows };
-    }
-
-    one : KeptList
-    one = new_list n serial put.flags vertical horizontal (record { definition = put.begun; slot = put.loan.slot })
-
-    pushed : (s : ℕ) (q : Point) → is_list (record { window = n.window; list = serial }) (Content s (part_of b.controls.controls b.lists.lists s q)) ≡ false
-        → Content s (part_of a.controls.controls a.lists.lists s q) ≡ Content s (part_of b.controls.controls b.lists.lists s q)
-    pushed s q = subst (λ (x : List ControlRecord × List KeptList). is_list (record { window = n.window; list = serial }) (Content s (part_of x.0 x.1 s q)) ≡ false → Content s (part_of a.controls.controls a.lists.lists s q) ≡ Content s (part_of x.0 x.1 s q))
-        (λ i. ((sym put.beside.controls i).controls, sym put.lists i))
-        (λ other. ap (Content s) (list_behind s n.window (part.List serial) q (first_list (items_of s a.lists.lists) q) (first_list (items_of s (a.lists.lists ++ one ∷ [])) q)
-        (λ away. list_pushed one s q a.lists.lists away) (items_of s a.controls.controls) other))
+    pushed : (w : WindowRecord) → record_with n.window a.desk.windows.desk.windows ≡ Some w → (q : Point) → is_list (record { window = n.window; list = serial }) (Content n.window (part_at put.laid.layers q)) ≡ false
+        → Content n.window (part_at w.layers q) ≡ Content n.window (part_at put.laid.layers q)
+    pushed w found q other = ap (Content n.window)
+        (last_part put.layer (part.List serial) q put.its.part w.layers (other_part n.window (part.List serial) (part_at (with_last put.layer w.layers) q) (sym (ap (λ p. is_part n.window (part.List serial) (Content n.window p)) now) ∙ other))
+        ∙ sym now)
+      where
+        now : part_at put.laid.layers q ≡ part_at (with_last put.layer w.layers) q
+        now = ap (λ ks. part_at ks q) (put.laid.become w found)
 
 last_there : (ls : List KeptList) (l : KeptList) → slice_get (ls ++ l ∷ []) (length ls) ≡ Some l
 last_there [] l = refl
@@ -252,34 +176,28 @@ both_bars window vertical horizontal l a b c d first second right changed others
     neither true y e = absurd (false≢true (sym e))
     neither false true e = absurd (false≢true (sym e))
 
-pub list_made_changes : (n : NewList) (serial : ℕ) (before after : ToolboxState) → IsRightAlone (with_lists before) → IsRightAlone (with_lists after) → IsListMade n serial (with_lists before) (with_lists after)
+pub list_made_changes : (n : NewList) (serial : ℕ) (before after : ToolboxState) → IsRightLists (with_lists before) → IsRightLists (with_lists after) → IsListMade n serial (with_lists before) (with_lists after)
     → IsChanged (list_made n.window before after) (layered_state before.desk.windows) (layered_state after.desk.windows)
 list_made_changes n serial before after was are (first, mid, vertical, horizontal, bar, other, put) =
     subst (λ c. IsChanged c (layered_state before.desk.windows) (layered_state after.desk.windows)) (sym change_is)
     (both_bars n.window vertical horizontal (record { window = n.window; list = serial }) (with_lists before) first mid (with_lists after)
-    (bar_drawn n.vertical_bar (vertical_bar_of n) vertical (with_lists before) first was one bar) (bar_drawn n.horizontal_bar (horizontal_bar_of n) horizontal first mid one two other) are.right.desk.right
-    put.laid.set.pixels (put_others n serial vertical horizontal mid (with_lists after) two are put))
+    (bar_drawn n.vertical_bar (vertical_bar_of n) vertical (with_lists before) first was one bar) (bar_drawn n.horizontal_bar (horizontal_bar_of n) horizontal first mid one two other) are.desk.right
+    put.laid.set.pixels (put_others n serial vertical horizontal mid (with_lists after) two put))
   where
-    one : IsRightAlone first
-    one = record {
-      right = bar_made_keeps (with_lists before) first was.right n.vertical_bar (vertical_bar_of n) vertical bar;
-      known = same_others_known before.desk.windows.desk.windows first.desk.windows.desk.windows (bar_made (with_lists before) first was.right n.vertical_bar (vertical_bar_of n) vertical bar) was.known;
-    }
+    one : IsRightLists first
+    one = bar_made_keeps (with_lists before) first was n.vertical_bar (vertical_bar_of n) vertical bar
 
-    two : IsRightAlone mid
-    two = record {
-      right = bar_made_keeps first mid one.right n.horizontal_bar (horizontal_bar_of n) horizontal other;
-      known = same_others_known first.desk.windows.desk.windows mid.desk.windows.desk.windows (bar_made first mid one.right n.horizontal_bar (horizontal_bar_of n) horizontal other) one.known;
-    }
+    two : IsRightLists mid
+    two = bar_made_keeps first mid one n.horizontal_bar (horizontal_bar_of n) horizontal other
 
     made : KeptList
     made = new_list n serial put.flags vertical horizontal (record { definition = put.begun; slot = put.loan.slot })
 
     next : before.lists.next ≡ Some serial
-    next = sym (ap (λ (s : ListsState). s.next) (bar_made_lists first mid one.right n.horizontal_bar (horizontal_bar_of n) horizontal other ∙ bar_made_lists (with_lists before) first was.right n.vertical_bar (vertical_bar_of n) vertical bar)) ∙ put.serials
+    next = sym (ap (λ (s : ListsState). s.next) (bar_made_lists first mid one n.horizontal_bar (horizontal_bar_of n) horizontal other ∙ bar_made_lists (with_lists before) first was n.vertical_bar (vertical_bar_of n) vertical bar)) ∙ put.serials
 
     found : lists.with_serial serial after.lists.lists ≡ Some made
-    found = with_there serial (length mid.lists.lists) after.lists.lists made are.right.lists.apart (ap (λ ls. slice_get ls (length mid.lists.lists)) put.lists ∙ last_there mid.lists.lists made) (same_number serial)
+    found = with_there serial (length mid.lists.lists) after.lists.lists made are.lists.apart (ap (λ ls. slice_get ls (length mid.lists.lists)) put.lists ∙ last_there mid.lists.lists made) (same_number serial)
 
     change_is : list_made n.window before after ≡ drawing (λ o. is_list (record { window = n.window; list = serial }) o || is_bar_of n.window made o)
     change_is =

@@ -5,6 +5,7 @@ use Rattle.std.proofs.lemmas.Bool.{eqb-true}
 use Rattle.tb_geom.specs.declared.refusal.Refusal.{Refusal}
 use Rattle.tb_geom.specs.declared.refusal.Refusal.TheVariants.{NotBusy}
 use Rattle.tb_geom.specs.Points.{PixelSet}
+use Rattle.desk_layers.specs.declared.part.Part.{Part}
 use Rattle.desk_call.specs.declared.activity.Activity.{Activity}
 use Rattle.desk_call.specs.declared.activity.Activity.TheVariants.{Idle, Updating}
 use Rattle.desk_call.specs.declared.activity.Standing.{Standing}
@@ -18,13 +19,15 @@ use Rattle.desk_call.specs.declared.control.ControlCall.{ControlCall}
 use Rattle.desk_call.specs.declared.control.ControlReply.{ControlReply}
 use Rattle.desk_call.specs.declared.list.ListCall.{ListCall}
 use Rattle.desk_call.specs.declared.list.ListReply.{ListReply}
+use Rattle.desk_call.specs.declared.text.TextCall.{TextCall}
+use Rattle.desk_call.specs.declared.text.TextReply.{TextReply}
 use Rattle.desk_call.specs.declared.update.LayerKind.{LayerKind}
 use Rattle.desk_call.specs.declared.update.UpdateCall.{UpdateCall}
 use Rattle.desk_call.specs.declared.update.UpdateCall.TheVariants as update
 use Rattle.desk_call.specs.declared.window.WindowCall.{WindowCall}
 use Rattle.desk_call.specs.declared.window.WindowCall.TheVariants as asks
 use Rattle.desk_call.specs.declared.window.WindowReply.{WindowReply}
-use Rattle.desk_call.specs.Gates.{gate, window_standing, update_standing, frame_standing, menu_standing, control_standing, list_standing}
+use Rattle.desk_call.specs.Gates.{gate, window_standing, update_standing, frame_standing, menu_standing, control_standing, list_standing, text_standing}
 use Rattle.window_mgr.specs.DeskStates.{DeskState, IsDeskUnchanged, SameActivity, narrowed}
 use Rattle.window_mgr.specs.Effects.{IsUnchanged}
 use Rattle.window_mgr.specs.FullDesk.{FullDesk, FullState}
@@ -37,13 +40,16 @@ use Rattle.control_mgr.specs.ControlDesks.{ControlsState, ShowsControls, control
 use Rattle.control_mgr.specs.ControlSteps.{IsControlStep}
 use Rattle.list_mgr.specs.ListDesks.{ListsState, lists_show}
 use Rattle.list_mgr.specs.ListSteps.{IsListStep}
-use Rattle.desk_toolbox.specs.Run.{AreControlsLeft, AreListsLeft, IsWindowAnswer, IsWindowMade, IsStep, replied}
-use Rattle.desk_toolbox.specs.ToolboxStates.{ToolboxState, with_controls, with_lists}
+use Rattle.text_mgr.specs.TextDesks.{TextsState, texts_show}
+use Rattle.text_mgr.specs.TextSteps.{IsTextStep}
+use Rattle.desk_toolbox.specs.Run.{AreControlsLeft, AreListsLeft, AreTextsLeft, IsWindowAnswer, IsWindowMade, IsStep, replied}
+use Rattle.desk_toolbox.specs.ToolboxStates.{ToolboxState, with_controls, with_lists, with_texts}
 use Rattle.desk_toolbox.proofs.EachManager.{HoldsOfEach, of_step}
 use Rattle.desk_call.specs.declared.outline.OutlineCall.{OutlineCall}
 use Rattle.desk_call.specs.declared.outline.OutlineCall.TheVariants.{Drag, StepDrag, EndDrag, Grow, StepGrow, EndGrow}
 use Rattle.desk_call.specs.Gates.{outline_standing}
 use Rattle.desk_toolbox.proofs.ListStands.{list_comes_then}
+use Rattle.desk_toolbox.proofs.TextStands.{AtMostText, text_comes_then}
 use Rattle.desk_toolbox.proofs.AskingCalls.{asked_changes_nothing, window_asks}
 use Rattle.desk_toolbox.proofs.TrackedControls.{AtMostControl, comes_then}
 use Rattle.desk_toolbox.proofs.UpdatesBeside.{frame_comes_apart, menu_comes_apart}
@@ -64,6 +70,7 @@ refused_draws_none (Update (update.Serve s)) e kinds = refl
 refused_draws_none (Frame call) e kinds = refl
 refused_draws_none (Control call) e kinds = refl
 refused_draws_none (calls.List call) e kinds = refl
+refused_draws_none (calls.Text call) e kinds = refl
 refused_draws_none (Menu call) e kinds = refl
 refused_draws_none (calls.Outline call) e kinds = refl
 refused_draws_none (Event call) e kinds = refl
@@ -86,14 +93,22 @@ asking_leaves_lists : (call : WindowCall) (before after : ListsState) → window
 asking_leaves_lists (asks.Dispose s) before after e left = absurd (cc)
 asking_leaves_lists call before after e left = left
 
--- where the windows show the controls and the lists, they still do so once a call asked
-shown_still : (before after : ToolboxState) (middle : FullState) → ShowsControls (with_controls before) → after.controls ≡ before.controls → after.lists ≡ before.lists
-    → after.desk.windows ≡ record middle { desk = record middle.desk { shows = controls_show (lists_show (λ font. all_white) after.lists.lists) after.controls.controls middle.desk.font } }
+asking_leaves_texts : (call : WindowCall) (before after : TextsState) → window_standing call ≡ Asks → AreTextsLeft call before after → after ≡ before
+asking_leaves_texts (asks.Dispose s) before after e left = absurd (cc)
+asking_leaves_texts call before after e left = left
+
+-- what these controls, lists and text records show
+abbrev contents_show : ControlsState → ListsState → TextsState → List ℕ → Part → PixelSet
+contents_show c l t = controls_show (lists_show (texts_show (λ font. all_white) t.texts) l.lists) c.controls
+
+-- where the windows show the controls, the lists and the text records, they still do so once a call asked
+shown_still : (before after : ToolboxState) (middle : FullState) → ShowsControls (with_controls before) → after.controls ≡ before.controls → after.lists ≡ before.lists → after.texts ≡ before.texts
+    → after.desk.windows ≡ record middle { desk = record middle.desk { shows = contents_show after.controls after.lists after.texts middle.desk.font } }
     → IsUnchanged before.desk.windows middle → IsUnchanged before.desk.windows after.desk.windows
-shown_still before after middle shows controls lists is same =
-    let look : FullDesk → FullDesk = λ d. record d { shows = controls_show (lists_show (λ font. all_white) after.lists.lists) after.controls.controls d.font } in
+shown_still before after middle shows controls lists texts is same =
+    let look : FullDesk → FullDesk = λ d. record d { shows = contents_show after.controls after.lists after.texts d.font } in
     let shown : look before.desk.windows.desk ≡ before.desk.windows.desk =
-    λ i. record before.desk.windows.desk { shows = (ap (λ (x : ControlsState × ListsState). controls_show (lists_show (λ font. all_white) x.1.lists) x.0.controls before.desk.windows.desk.font) (λ j. (controls j, lists j)) ∙ sym shows) i } in
+    λ i. record before.desk.windows.desk { shows = ((λ j. contents_show (controls j) (lists j) (texts j) before.desk.windows.desk.font) ∙ sym shows) i } in
     record {
       desk = ap (λ (s : FullState). s.desk) is ∙ ap look same.desk ∙ shown;
       stale = λ p on. ap (λ (s : FullState). s.stale p) is ∙ same.stale p on;
@@ -103,11 +118,12 @@ shown_still before after middle shows controls lists is same =
 made_changes_nothing : (call : WindowCall) (answer : Result WindowReply Refusal) (before after : ToolboxState) → window_standing call ≡ Asks → ShowsControls (with_controls before) → IsWindowMade call answer before after → IsUnchanged before.desk.windows after.desk.windows
 made_changes_nothing call (Ok answer) before after e shows made =
     let told_is : made.told ≡ made.middle.windows = subst (λ standing. IsCaughtUpBy standing made.middle.windows made.told) e made.caught_up in
-    shown_still before after made.told shows (asking_leaves_controls call before.controls after.controls e made.controls) (asking_leaves_lists call before.lists after.lists e made.lists) made.shown
+    shown_still before after made.told shows (asking_leaves_controls call before.controls after.controls e made.controls) (asking_leaves_lists call before.lists after.lists e made.lists)
+    (asking_leaves_texts call before.texts after.texts e made.texts) made.shown
     (subst (λ (s : FullState). IsUnchanged before.desk.windows s) (sym told_is) (answer_asks (narrowed call before.desk.activity before.desk.begun) call (Ok answer) before.desk made.middle made.answered e))
 made_changes_nothing call (Err e) before after asks_only shows step = answer_asks (narrowed call before.desk.activity before.desk.begun) call (Err e) before.desk after.desk step.0 asks_only
 
-made_stays_open : (call : WindowCall) (answer : Result WindowReply Refusal) (before after : ToolboxState) → IsWindowMade call answer before after → SameActivity before.desk after.desk
+pub made_stays_open : (call : WindowCall) (answer : Result WindowReply Refusal) (before after : ToolboxState) → IsWindowMade call answer before after → SameActivity before.desk after.desk
 made_stays_open call (Ok answer) before after made =
     let first = answer_stays_open (narrowed call before.desk.activity before.desk.begun) call (Ok answer) before.desk made.middle made.answered in
     record { activity = made.activity.activity ∙ first.activity; begun = made.activity.begun ∙ first.begun }
@@ -188,6 +204,16 @@ module _ (s : ℕ) where
       (λ idle. absurd (not_idle (sym opened ∙ idle)))
       (list_comes_then call answer (with_lists before) (with_lists after) may step.1)
 
+  not_text : AtMostText (Updating s) → ⊥
+  not_text most = ⊎_elim (λ idle. absurd (cc)) (λ (k, is). absurd (cc)) most
+
+  text_goes_on : (call : TextCall) (answer : Result TextReply Refusal) (before after : ToolboxState) → gate before.desk.activity (text_standing call) ≡ None → IsTextStep call answer (with_texts before) (with_texts after) → before.desk.activity ≡ Updating s → GoesOn (calls.Text call) (replied reply.Text answer) before after
+  text_goes_on call (Err e) before after may step opened = still_open (calls.Text call) (Err e) before after (λ kinds. refl) opened step.1.desk
+  text_goes_on call (Ok answer) before after may step opened = ⊎_elim
+      (λ same. still_open (calls.Text call) (Ok (reply.Text answer)) before after (λ kinds. refl) opened same.desk)
+      (λ most. absurd (not_text (subst AtMostText opened most)))
+      (text_comes_then call answer (with_texts before) (with_texts after) may step.1)
+
   none_is_outlined : (call : OutlineCall) → gate (Updating s) (outline_standing call) ≡ None → ⊥
   none_is_outlined (Drag d) may = absurd (cc)
   none_is_outlined (StepDrag p) may = absurd (cc)
@@ -204,9 +230,10 @@ module _ (s : ℕ) where
     window = λ call answer before after may step opened rests. window_goes_on call answer before after may step opened;
     update = λ call answer before after may step rest opened rests. update_goes_on call answer before after (may_then before.desk.activity (update_standing call) opened may) step opened rests;
     frame = λ call answer before after may step rest opened rests. absurd (frame_comes_apart call (Updating s) (may_then before.desk.activity (frame_standing call) opened may));
-    control = λ call answer before after may step events lists menus opened rests. control_goes_on call answer before after may step opened;
-    list = λ call answer before after may step events menus opened rests. list_goes_on call answer before after may step opened;
-    menu = λ call answer before after may step events controls lists opened rests. absurd (menu_comes_apart call (Updating s) (may_then before.desk.activity (menu_standing call) opened may));
+    control = λ call answer before after may step events lists texts menus opened rests. control_goes_on call answer before after may step opened;
+    list = λ call answer before after may step events texts menus opened rests. list_goes_on call answer before after may step opened;
+    text = λ call answer before after may step events controls lists menus opened rests. text_goes_on call answer before after may step opened;
+    menu = λ call answer before after may step events controls lists texts opened rests. absurd (menu_comes_apart call (Updating s) (may_then before.desk.activity (menu_standing call) opened may));
     outline = λ call answer before after may step rest opened rests. absurd (none_is_outlined call (may_then before.desk.activity (outline_standing call) opened may));
     moved = λ call move before after may step opened rests. absurd (none_is_outlined call (may_then before.desk.activity (outline_standing call) opened may));
     event = λ call answer before after step opened rests. still_open (Event call) (replied reply.Event answer) before after (λ kinds. refl) opened step.desk;

@@ -25,7 +25,7 @@ leaves_gated : (stopped : Option Refusal) (call : OutlineCall) (answer : Result 
 leaves_gated None call answer before after no_end (own, is, made) = leaves_made call before.desk.activity before.desk.windows.desk own before after no_end made
 leaves_gated (Some e) call (Ok answer) before after no_end step = absurd step
 leaves_gated (Some e) call (Err f) before after no_end (form, why, (is, same)) =
-    (same.desk.windows, record { events = same.events; controls = same.controls; lists = same.lists; menus = same.menus })
+    (same.desk.windows, record { events = same.events; controls = same.controls; lists = same.lists; texts = same.texts; menus = same.menus })
 
 pub outlines_leave_the_desk : (call : OutlineCall) (answer : Result Reply Refusal) (before after : ToolboxState) → ((p : Point) → call ≢ EndDrag p) → IsStep (Outline call) answer before after → IsUnchanged before.desk.windows after.desk.windows × IsRestKept before after
 outlines_leave_the_desk call answer before after no_end step = leaves_gated (gate before.desk.activity (standing_of (Outline call))) call answer before after no_end step

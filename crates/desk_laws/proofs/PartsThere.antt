@@ -1,38 +1,52 @@
--- Whose the pixels of a window's content are, by its controls and its lists, and desks whose owners are related.
-use Rattle.std.proofs.Common.{◌≡◌, ℕ, Bool, true, false, not, ◌&&◌, ◌||◌, if◌then◌else◌, List, [], ◌∷◌, map, refl, sym, ap, ◌∙◌, subst}
-use Rattle.std.specs.Prelude.{All, int_lt}
-use Rattle.std.specs.List.{AllZip}
-use Rattle.std.proofs.lemmas.List.Elements.{All-head, All-tail}
+-- Whose the pixels of a window's content are, by its layers, and desks whose owners are related.
+use Rattle.std.proofs.Common.{◌≡◌, ℕ, zero, suc, Bool, true, false, not, ◌==◌, ◌&&◌, cond, if◌then◌else◌, List, [], ◌∷◌, map, Option, None, Some, refl, sym, ap, ◌∙◌, subst, eqb-true}
+use Rattle.std.specs.Prelude.{All, int_lt, slice_get}
+use Rattle.std.specs.List.{AllZip, remove}
+use Rattle.std.specs.Option.{option_map_or}
+use Rattle.std.proofs.lemmas.Bool.{false≢true}
+use Rattle.std.proofs.lemmas.List.Elements.{All-cons, All-head, All-nil, All-tail}
 use Rattle.tb_geom.specs.declared.point.Point.{Point}
 use Rattle.tb_geom.specs.Points.{PixelSet, minus}
-use Rattle.tb_geom.specs.Rects.{rect_holds}
 use Rattle.desk_layers.specs.declared.part.Part.{Part}
 use Rattle.desk_layers.specs.declared.part.Part.TheVariants as part
 use Rattle.desk_layers.specs.Desk as layers
-use Rattle.desk_layers.specs.Owner.{Owner, is_content, owner, owner_among}
+use Rattle.desk_layers.specs.Desk.{on_screen}
+use Rattle.desk_layers.specs.Owner.{Owner, is_content, owner, owner_among, same_owner}
 use Rattle.desk_layers.specs.Owner.Owner.{Bar, Content, Desktop, Frame}
-use Rattle.window_list.specs.declared.layer.Layer.{Layer}
-use Rattle.window_list.specs.Holders.{part_at}
+use Rattle.desk_layers.proofs.Owning.{same_number, same_part-self}
 use Rattle.window_items.specs.Items.{items_of}
-use Rattle.list_view.specs.Views.{view_rect}
-use Rattle.desk_call.specs.declared.update.LayerKind.TheVariants.{Controls, Lists}
+use Rattle.window_list.specs.declared.layer.Layer.{Layer}
+use Rattle.window_list.specs.Holders.{layer_has, layer_index, part_at}
+use Rattle.window_list.proofs.Found.{found_low, found_part}
+use Rattle.desk_call.specs.declared.update.LayerKind.TheVariants.{Controls}
 use Rattle.window_paint.specs.Kinds.{is_of}
 use Rattle.vis_update.specs.Records.{Look, WindowRecord, layered_window}
+use Rattle.vis_update.specs.Relayings.{with_layers_of}
 use Rattle.vis_update.proofs.LayerOwners.{first_owner, owner_first}
+use Rattle.window_mgr.specs.Finding.{record_with}
 use Rattle.window_mgr.specs.FullDesk.{FullDesk, layered_desk, look_of}
-use Rattle.control_mgr.specs.ControlDesks.{ControlRecord}
-use Rattle.control_mgr.specs.ControlSteps.{AreLayersOf, behind_controls}
-use Rattle.control_mgr.proofs.ControlBits.{bare}
-use Rattle.list_mgr.specs.ListDesks.{KeptList, ListDesk}
-use Rattle.list_mgr.specs.ListSteps.{AreListLayers, IsLayerOf, layers_of_lists}
-use Rattle.list_mgr.proofs.ListedLayers.{control_no_list}
-use Rattle.list_mgr.proofs.ListsKept.{IsRightLists}
-use Rattle.desk_toolbox.specs.KnownLayers.{AreKnown, AreLayersKnown, is_known}
-use Rattle.desk_toolbox.specs.ToolboxStates.{ToolboxState, with_lists}
-use Rattle.desk_toolbox.proofs.ContentsBeside.{IsRightToolbox}
-use Rattle.desk_toolbox.proofs.ContentsLeft.{right_lists}
+use Rattle.control_mgr.specs.ControlDesks.{ControlDesk, ControlRecord}
+use Rattle.control_mgr.specs.ControlSteps.{AreControlsLaid, AreLayersOf, behind_controls}
+use Rattle.control_mgr.proofs.ControlBits.{at_serial}
+use Rattle.control_mgr.proofs.Places.{read_is, there_is}
+use Rattle.list_mgr.specs.ListSteps.{with_last, without_part}
 
 -- ---- the part at a point
+
+abbrev pub is_part : ℕ → Part → Owner → Bool
+is_part window its o = same_owner o (Content window its)
+
+-- the owner is no such part, where the window has none
+pub no_part : (window s : ℕ) (its p : Part) → (window ≡ s → layers.same_part p its ≡ false) → is_part window its (Content s p) ≡ false
+no_part window s its p none = by_window (s == window) refl
+  where
+    by_window : (b : Bool) → (s == window) ≡ b → (b && layers.same_part p its) ≡ false
+    by_window true e = none (sym (eqb-true s window e))
+    by_window false e = refl
+
+-- in the window itself it is another part
+pub other_part : (window : ℕ) (its p : Part) → is_part window its (Content window p) ≡ false → layers.same_part p its ≡ false
+other_part window its p other = sym (ap (λ b. b && layers.same_part p its) (same_number window)) ∙ other
 
 abbrev pub control_has : ControlRecord → PixelSet
 control_has c p = c.kept.shown && c.kept.definition.definition.region c.kept.size (minus p c.kept.place)
@@ -42,24 +56,6 @@ abbrev pub first_control : List ControlRecord → Point → Part → Part
 first_control [] p behind = behind
 first_control (c ∷ cs) p behind = if control_has c p then part.Control c.serial else first_control cs p behind
 
-abbrev pub list_has : KeptList → PixelSet
-list_has l p = rect_holds (view_rect l.kept.view) p
-
--- that of the first of these lists that has it, or the picture
-abbrev pub first_list : List KeptList → Point → Part
-first_list [] p = part.Picture
-first_list (l ∷ ls) p = if list_has l p then part.List l.serial else first_list ls p
-
--- that of the controls and the lists of a window
-abbrev pub part_of : List ControlRecord → List KeptList → ℕ → Point → Part
-part_of cs ls s p = first_control (items_of s cs) p (first_list (items_of s ls) p)
-
-of_lists : (ls : List KeptList) (ks : List Layer) → AllZip IsLayerOf ls ks → (p : Point) → part_at ks p ≡ first_list ls p
-of_lists [] [] its p = refl
-of_lists [] (k ∷ ks) its p = absurd its
-of_lists (l ∷ ls) [] its p = absurd its
-of_lists (l ∷ ls) (k ∷ ks) its p = λ i. if its.0.shown i && its.0.region p i then its.0.part i else of_lists ls ks its.1 p i
-
 -- where no layer is a control's, all are behind the controls
 none_before : (ks : List Layer) → All (λ (k : Layer). is_of Controls k.part ≡ false) ks → behind_controls ks ≡ ks
 none_before [] none = refl
@@ -68,7 +64,8 @@ none_before (k ∷ ks) none =
     let rest = none_before ks (All-tail (λ (x : Layer). is_of Controls x.part ≡ false) k ks none) in
     λ i. if not (first i) then k ∷ rest i else rest i
 
-of_controls : (cs : List ControlRecord) (ks : List Layer) → AreLayersOf cs ks → (p : Point) → part_at ks p ≡ first_control cs p (part_at (behind_controls ks) p)
+-- the part of layers at a point, by the controls in front of the others
+pub of_controls : (cs : List ControlRecord) (ks : List Layer) → AreLayersOf cs ks → (p : Point) → part_at ks p ≡ first_control cs p (part_at (behind_controls ks) p)
 of_controls [] ks its p = ap (λ x. part_at x p) (sym (none_before ks its))
 of_controls (c ∷ cs) [] its p = absurd its
 of_controls (c ∷ cs) (k ∷ ks) its p =
@@ -76,23 +73,86 @@ of_controls (c ∷ cs) (k ∷ ks) its p =
     (λ i. if its.0.shown i && its.0.region p i then its.0.part i else of_controls cs ks its.1 p i)
     ∙ ap (λ x. if control_has c p then part.Control c.serial else first_control cs p (part_at x p)) (sym behind)
 
--- where there are no layers but controls' and lists', the lists' lie behind the controls
-lists_behind : (ks : List Layer) → AreKnown ks → behind_controls ks ≡ layers_of_lists ks
-lists_behind [] known = refl
-lists_behind (k ∷ ks) known = by_test (is_of Controls k.part) refl (lists_behind ks (All-tail (λ (x : Layer). is_known x ≡ true) k ks known))
-  where
-    by_test : (b : Bool) → is_of Controls k.part ≡ b → behind_controls ks ≡ layers_of_lists ks
-        → (if not b then k ∷ behind_controls ks else behind_controls ks) ≡ (if is_of Lists k.part then k ∷ layers_of_lists ks else layers_of_lists ks)
-    by_test true is rest = rest ∙ sym (ap (λ c. if c then k ∷ layers_of_lists ks else layers_of_lists ks) (control_no_list k.part is))
-    by_test false is rest =
-        let its : is_of Lists k.part ≡ true = ap (λ b. b || is_of Lists k.part) (sym is) ∙ All-head (λ (x : Layer). is_known x ≡ true) k ks known in
-        ap (λ xs. k ∷ xs) rest ∙ sym (ap (λ c. if c then k ∷ layers_of_lists ks else layers_of_lists ks) its)
+-- so of the layers of the window of this serial
+pub window_part : (s : ℕ) (cs : List ControlRecord) (ws : List WindowRecord) (w : WindowRecord) → All (λ v. AreLayersOf (items_of v.serial cs) v.layers) ws → record_with s ws ≡ Some w → (q : Point)
+    → part_at w.layers q ≡ first_control (items_of s cs) q (part_at (behind_controls w.layers) q)
+window_part s cs ws w joined found q =
+    let its = at_serial (λ v. AreLayersOf (items_of v.serial cs) v.layers) s ws w found joined in
+    of_controls (items_of s cs) w.layers (subst (λ k. AreLayersOf (items_of k cs) w.layers) its.1 its.0) q
 
--- the part of a window's layers at a point
-pub part_there : (cs : List ControlRecord) (ls : List KeptList) (s : ℕ) (ks : List Layer) → AreLayersOf (items_of s cs) ks → AreListLayers (items_of s ls) ks → AreKnown ks → (p : Point) → part_at ks p ≡ part_of cs ls s p
-part_there cs ls s ks controls lists known p =
-    of_controls (items_of s cs) ks controls p
-    ∙ ap (first_control (items_of s cs) p) (ap (λ x. part_at x p) (lists_behind ks known) ∙ of_lists (items_of s ls) (layers_of_lists ks) lists p)
+-- and of those that it has then
+pub laid_part : (s : ℕ) (afresh : Option Part) (before after : ControlDesk) (laid : AreControlsLaid s afresh before after) (w : WindowRecord) → record_with s before.desk.windows.desk.windows ≡ Some w → (q : Point)
+    → part_at laid.layers q ≡ first_control (items_of s after.controls.controls) q (part_at (behind_controls w.layers) q)
+laid_part s afresh before after laid w found q =
+    of_controls (items_of s after.controls.controls) laid.layers laid.joined q
+    ∙ ap (λ ks. first_control (items_of s after.controls.controls) q (part_at ks q)) (laid.others w found)
+
+-- no control lies behind the controls
+pub no_control_behind : (n : ℕ) (q : Point) (ks : List Layer) → layers.same_part (part_at (behind_controls ks) q) (part.Control n) ≡ false
+no_control_behind n q [] = refl
+no_control_behind n q (k ∷ ks) = by_kind (is_of Controls k.part) refl (no_control_behind n q ks)
+  where
+    other : (l : Part) → is_of Controls l ≡ false → layers.same_part l (part.Control n) ≡ false
+    other part.Picture e = refl
+    other (part.Control m) e = absurd (false≢true (sym e))
+    other (part.List m) e = refl
+    other (part.Text m) e = refl
+
+    by_point : (h : Bool) → is_of Controls k.part ≡ false → layers.same_part (part_at (behind_controls ks) q) (part.Control n) ≡ false
+        → layers.same_part (if h then k.part else part_at (behind_controls ks) q) (part.Control n) ≡ false
+    by_point true e rest = other k.part e
+    by_point false e rest = rest
+
+    by_kind : (b : Bool) → is_of Controls k.part ≡ b → layers.same_part (part_at (behind_controls ks) q) (part.Control n) ≡ false
+        → layers.same_part (part_at (if not b then k ∷ behind_controls ks else behind_controls ks) q) (part.Control n) ≡ false
+    by_kind true e rest = rest
+    by_kind false e rest = by_point (layer_has k q) e rest
+
+-- ---- a layer more, and one less
+
+-- one layer more behind the others: another part has what it had
+pub last_part : (l : Layer) (its : Part) (q : Point) → l.part ≡ its → (ks : List Layer) → layers.same_part (part_at (with_last l ks) q) its ≡ false → part_at ks q ≡ part_at (with_last l ks) q
+last_part l its q is [] other = by_point (layer_has l q) other
+  where
+    by_point : (h : Bool) → layers.same_part (if h then l.part else part.Picture) its ≡ false → part.Picture ≡ (if h then l.part else part.Picture)
+    by_point true other = absurd (false≢true (sym other ∙ ap (λ p. layers.same_part p its) is ∙ same_part-self its))
+    by_point false other = refl
+last_part l its q is (k ∷ ks) other = by_point (layer_has k q) (last_part l its q is ks) other
+  where
+    by_point : (h : Bool) → (layers.same_part (part_at (with_last l ks) q) its ≡ false → part_at ks q ≡ part_at (with_last l ks) q)
+        → layers.same_part (if h then k.part else part_at (with_last l ks) q) its ≡ false
+        → (if h then k.part else part_at ks q) ≡ (if h then k.part else part_at (with_last l ks) q)
+    by_point true rest other = refl
+    by_point false rest other = rest other
+
+-- where a layer is taken out, another part has what it had
+part_removed : (its : Part) (q : Point) (i : ℕ) (ks : List Layer) (l : Layer) → slice_get ks i ≡ Some l → l.part ≡ its → layers.same_part (part_at ks q) its ≡ false → part_at ks q ≡ part_at (remove ks i) q
+part_removed its q i [] l there is other = absurd (cc)
+part_removed its q zero (k ∷ ks) l there is other = by_point (layer_has k q) other
+  where
+    same : k ≡ l
+    same = cc
+
+    by_point : (h : Bool) → layers.same_part (if h then k.part else part_at ks q) its ≡ false → (if h then k.part else part_at ks q) ≡ part_at ks q
+    by_point true other = absurd (false≢true (sym other ∙ ap (λ p. layers.same_part p its) (ap (λ (x : Layer). x.part) same ∙ is) ∙ same_part-self its))
+    by_point false other = refl
+part_removed its q (suc i) (k ∷ ks) l there is other = by_point (layer_has k q) (part_removed its q i ks l there is) other
+  where
+    by_point : (h : Bool) → (layers.same_part (part_at ks q) its ≡ false → part_at ks q ≡ part_at (remove ks i) q)
+        → layers.same_part (if h then k.part else part_at ks q) its ≡ false
+        → (if h then k.part else part_at ks q) ≡ (if h then k.part else part_at (remove ks i) q)
+    by_point true rest other = refl
+    by_point false rest other = rest other
+
+-- where the layer of a part is taken out, another part has what it had
+pub gone_part : (its : Part) (q : Point) (ks : List Layer) → layers.same_part (part_at ks q) its ≡ false → part_at ks q ≡ part_at (without_part its ks) q
+gone_part its q ks other = by_place (layer_index its ks) refl
+  where
+    by_place : (o : Option ℕ) → layer_index its ks ≡ o → part_at ks q ≡ part_at (option_map_or (λ i. remove ks i) o ks) q
+    by_place None e = refl
+    by_place (Some i) e =
+        let l = there_is ks i (found_low its ks i e) in
+        part_removed its q i ks l.item l.there (found_part its ks i e l.item (read_is ks i l.item l.there)) other
 
 -- ---- owners that are related
 
@@ -137,50 +197,88 @@ related_owners R itself d e p rows alike =
     by_bar true = itself Bar refl
     by_bar false = related_among R itself (look_of d) (look_of e) p d.windows e.windows alike
 
--- ---- windows with other controls or lists
+-- ---- a desk of which one window has other layers
 
--- the layers of each window are its controls and its lists, and it has no others
-pub record AreJoined (cs : List ControlRecord) (ls : List KeptList) (ws : List WindowRecord) : Type 0 where
-  pub controls : All (λ w. AreLayersOf (items_of w.serial cs) w.layers) ws
-  pub lists : All (λ w. AreListLayers (items_of w.serial ls) w.layers) ws
-  pub known : AreLayersKnown ws
+-- the windows of this serial have these layers, and nothing else of the desk changed but what layers show
+abbrev pub IsLaid : ℕ → List Layer → FullDesk → FullDesk → Type 0
+IsLaid s ls d e = e ≡ record d { windows = map (with_layers_of s ls) d.windows; shows = e.shows }
 
--- a right desk with lists whose windows have no layers but controls' and lists'
-pub record IsRightAlone (d : ListDesk) : Type 0 where
-  pub right : IsRightLists d
-  pub known : AreLayersKnown d.desk.windows.desk.windows
+-- what holds of each window of this serial, where no window has it
+of_none : (P : WindowRecord → Type 0) (look : Look) (s : ℕ) (ws : List WindowRecord) → layers.window_of s (map (layered_window look) ws) ≡ None → All (λ w. w.serial ≡ s → P w) ws
+of_none P look s [] none = All-nil (λ (w : WindowRecord). w.serial ≡ s → P w)
+of_none P look s (w ∷ ws) none = by_test (w.serial == s) refl none (of_none P look s ws)
+  where
+    by_test : (b : Bool) → (w.serial == s) ≡ b → cond b (Some (layered_window look w)) (layers.window_of s (map (layered_window look) ws)) ≡ None
+        → (layers.window_of s (map (layered_window look) ws) ≡ None → All (λ (x : WindowRecord). x.serial ≡ s → P x) ws) → All (λ (x : WindowRecord). x.serial ≡ s → P x) (w ∷ ws)
+    by_test true e none rest = absurd (cc)
+    by_test false e none rest = All-cons (λ (x : WindowRecord). x.serial ≡ s → P x) w ws (λ is. absurd (false≢true (sym e ∙ ap (λ n. n == s) is ∙ same_number s))) (rest none)
 
-pub alone : (s : ToolboxState) → IsRightToolbox s → IsRightAlone (with_lists s)
-alone s is = record { right = right_lists s is; known = is.contents.known }
+-- what holds of the window of this serial holds of each window that has it
+of_serial : (P : WindowRecord → Type 0) (look : Look) (s : ℕ) (ws : List WindowRecord) → layers.AreWindows (map (layered_window look) ws) → ((w : WindowRecord) → record_with s ws ≡ Some w → P w) → All (λ w. w.serial ≡ s → P w) ws
+of_serial P look s [] apart h = All-nil (λ (w : WindowRecord). w.serial ≡ s → P w)
+of_serial P look s (w ∷ ws) apart h = by_test (w.serial == s) refl h (of_serial P look s ws apart.1.1)
+  where
+    by_test : (b : Bool) → (w.serial == s) ≡ b → ((x : WindowRecord) → cond b (Some w) (record_with s ws) ≡ Some x → P x)
+        → (((x : WindowRecord) → record_with s ws ≡ Some x → P x) → All (λ (x : WindowRecord). x.serial ≡ s → P x) ws) → All (λ (x : WindowRecord). x.serial ≡ s → P x) (w ∷ ws)
+    by_test true e h rest =
+        All-cons (λ (x : WindowRecord). x.serial ≡ s → P x) w ws (λ is. h w refl)
+        (of_none P look s ws (ap (λ n. layers.window_of n (map (layered_window look) ws)) (sym (eqb-true w.serial s e)) ∙ apart.0))
+    by_test false e h rest =
+        All-cons (λ (x : WindowRecord). x.serial ≡ s → P x) w ws (λ is. absurd (false≢true (sym e ∙ ap (λ n. n == s) is ∙ same_number s))) (rest h)
 
-module _ (R : Owner → Owner → Type 0) (itself : (o : Owner) → is_content o ≡ false → R o o) (look other : Look) (p : Point) (cs ds : List ControlRecord) (ls ks : List KeptList)
-    (related : (s : ℕ) (q : Point) → R (Content s (part_of cs ls s q)) (Content s (part_of ds ks s q))) where
-  pub alike_laid : (ws vs : List WindowRecord) → map bare vs ≡ map bare ws → AreJoined cs ls ws → AreJoined ds ks vs → AllZip (IsAlike R itself look other p) ws vs
-  alike_laid [] [] same was are = tt
-  alike_laid [] (v ∷ vs) same was are = absurd (cc)
-  alike_laid (w ∷ ws) [] same was are = absurd (cc)
-  alike_laid (w ∷ ws) (v ∷ vs) same was are = (
-    record {
-      inside = sym (ap (λ (x : WindowRecord). x.shown && x.definition.structure x.size (minus p x.place)) one);
-      content = sym (ap (λ (x : WindowRecord). x.definition.content x.size (minus p x.place)) one);
-      serial = sym (ap (λ (x : WindowRecord). x.serial) one);
-      part = subst (λ (x : Part × Owner). R (Content w.serial x.0) x.1) (λ i. (sym first i, second i)) (related w.serial (minus p w.place));
-    },
-    alike_laid ws vs rest
-        (record { controls = All-tail (λ (x : WindowRecord). AreLayersOf (items_of x.serial cs) x.layers) w ws was.controls; lists = All-tail (λ (x : WindowRecord). AreListLayers (items_of x.serial ls) x.layers) w ws was.lists; known = All-tail (λ (x : WindowRecord). AreKnown x.layers) w ws was.known })
-        (record { controls = All-tail (λ (x : WindowRecord). AreLayersOf (items_of x.serial ds) x.layers) v vs are.controls; lists = All-tail (λ (x : WindowRecord). AreListLayers (items_of x.serial ks) x.layers) v vs are.lists; known = All-tail (λ (x : WindowRecord). AreKnown x.layers) v vs are.known }),
+-- the parts of the window are related to those of these layers
+abbrev pub HasRelated : (Owner → Owner → Type 0) → ℕ → List Layer → WindowRecord → Type 0
+HasRelated R s ls w = (q : Point) → R (Content s (part_at w.layers q)) (Content s (part_at ls q))
+
+module _ (R : Owner → Owner → Type 0) (itself : (o : Owner) → R o o) (look other : Look) (p : Point) (s : ℕ) (ls : List Layer) where
+  one_laid : (w : WindowRecord) (b : Bool) → (w.serial == s) ≡ b → (w.serial ≡ s → HasRelated R s ls w) → IsAlike R (λ o e. itself o) look other p w (cond b (record w { layers = ls }) w)
+  one_laid w true e related = record {
+    inside = refl;
+    content = refl;
+    serial = refl;
+    part = let is = eqb-true w.serial s e in
+        subst (λ n. R (Content n (part_at w.layers (minus p w.place))) (Content n (part_at ls (minus p w.place)))) (sym is) (related is (minus p w.place));
+  }
+  one_laid w false e related = record { inside = refl; content = refl; serial = refl; part = itself (Content w.serial (part_at w.layers (minus p w.place))) }
+
+  alike_laid : (ws : List WindowRecord) → All (λ w. w.serial ≡ s → HasRelated R s ls w) ws → AllZip (IsAlike R (λ o e. itself o) look other p) ws (map (with_layers_of s ls) ws)
+  alike_laid [] related = tt
+  alike_laid (w ∷ ws) related = (
+    one_laid w (w.serial == s) refl (All-head (λ (x : WindowRecord). x.serial ≡ s → HasRelated R s ls x) w ws related),
+    alike_laid ws (All-tail (λ (x : WindowRecord). x.serial ≡ s → HasRelated R s ls x) w ws related),
   )
-    where
-      one : bare v ≡ bare w
-      one = cc
 
-      rest : map bare vs ≡ map bare ws
-      rest = cc
+-- a relation of owners, by how the parts of the window are related
+pub owners_laid : (R : Owner → Owner → Type 0) → ((o : Owner) → R o o) → (s : ℕ) (ls : List Layer) (d e : FullDesk) → layers.IsDesk (layered_desk d) → IsLaid s ls d e
+    → ((w : WindowRecord) → record_with s d.windows ≡ Some w → HasRelated R s ls w) → (p : Point) → R (owner (layered_desk d) p) (owner (layered_desk e) p)
+owners_laid R itself s ls d e apart laid related p =
+    related_owners R (λ o f. itself o) d e p (ap (λ (x : FullDesk). x.bar.rows) laid)
+    (subst (AllZip (IsAlike R (λ o f. itself o) (look_of d) (look_of e) p) d.windows) (sym (ap (λ (x : FullDesk). x.windows) laid))
+    (alike_laid R itself (look_of d) (look_of e) p s ls d.windows (of_serial (HasRelated R s ls) (look_of d) s d.windows apart related)))
 
-      first : part_at w.layers (minus p w.place) ≡ part_of cs ls w.serial (minus p w.place)
-      first = part_there cs ls w.serial w.layers (All-head (λ (x : WindowRecord). AreLayersOf (items_of x.serial cs) x.layers) w ws was.controls) (All-head (λ (x : WindowRecord). AreListLayers (items_of x.serial ls) x.layers) w ws was.lists) (All-head (λ (x : WindowRecord). AreKnown x.layers) w ws was.known) (minus p w.place)
+pub same_screen : (s : ℕ) (ls : List Layer) (d e : FullDesk) → IsLaid s ls d e → (p : Point) → on_screen (layered_desk d) p ≡ on_screen (layered_desk e) p
+same_screen s ls d e laid p = sym (ap (λ (x : FullDesk). on_screen (layered_desk x) p) laid)
 
-      second : Content w.serial (part_of ds ks w.serial (minus p w.place)) ≡ Content v.serial (part_at v.layers (minus p v.place))
-      second =
-          ap (λ (x : WindowRecord). Content x.serial (part_of ds ks x.serial (minus p x.place))) (sym one)
-          ∙ ap (Content v.serial) (sym (part_there ds ks v.serial v.layers (All-head (λ (x : WindowRecord). AreLayersOf (items_of x.serial ds) x.layers) v vs are.controls) (All-head (λ (x : WindowRecord). AreListLayers (items_of x.serial ks) x.layers) v vs are.lists) (All-head (λ (x : WindowRecord). AreKnown x.layers) v vs are.known) (minus p v.place)))
+-- ---- what holds of each owner
+
+-- the parts of the window are such owners
+abbrev pub HasSuch : (Owner → Type 0) → WindowRecord → Type 0
+HasSuch P w = (q : Point) → P (Content w.serial (part_at w.layers q))
+
+-- each owner of a pixel is such a one, where the parts of each window are
+pub owners_are : (P : Owner → Type 0) → ((o : Owner) → is_content o ≡ false → P o) → (d : FullDesk) → All (HasSuch P) d.windows → (p : Point) → P (owner (layered_desk d) p)
+owners_are P plain d such p = related_owners (λ o q. P q) plain d d p refl (alike d.windows such)
+  where
+    alike : (ws : List WindowRecord) → All (HasSuch P) ws → AllZip (IsAlike (λ o q. P q) plain (look_of d) (look_of d) p) ws ws
+    alike [] such = tt
+    alike (w ∷ ws) such = (
+      record { inside = refl; content = refl; serial = refl; part = All-head (HasSuch P) w ws such (minus p w.place) },
+      alike ws (All-tail (HasSuch P) w ws such),
+    )
+
+-- none that is no content is a part of a window
+pub plain_part : (window : ℕ) (its : Part) (o : Owner) → is_content o ≡ false → is_part window its o ≡ false
+plain_part window its Desktop e = refl
+plain_part window its Bar e = refl
+plain_part window its (Frame s) e = refl
+plain_part window its (Content s q) e = absurd (false≢true (sym e))

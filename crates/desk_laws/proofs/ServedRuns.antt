@@ -107,6 +107,7 @@ module _ (s : ℕ) where
   drawn_before (Frame call) answer kinds kind here = here
   drawn_before (Control call) answer kinds kind here = here
   drawn_before (calls.List call) answer kinds kind here = here
+  drawn_before (calls.Text call) answer kinds kind here = here
   drawn_before (Menu call) answer kinds kind here = here
   drawn_before (calls.Outline call) answer kinds kind here = here
   drawn_before (Event call) answer kinds kind here = here
@@ -166,11 +167,12 @@ rest_kept a b c first second = record {
   events = second.events ∙ first.events;
   controls = second.controls ∙ first.controls;
   lists = second.lists ∙ first.lists;
+  texts = second.texts ∙ first.texts;
   menus = second.menus ∙ first.menus;
 }
 
 none_done : (s : ToolboxState) → IsRestKept s s
-none_done s = record { events = refl; controls = refl; lists = refl; menus = refl }
+none_done s = record { events = refl; controls = refl; lists = refl; texts = refl; menus = refl }
 
 all_done : (cs : List UpdateCall) (first last : ToolboxState) → IsRunOfCalls first (map Update cs) (map (λ c. done) cs) last → AreDone cs first.desk last.desk × IsRestKept first last
 all_done [] first last run = (ap (λ (x : ToolboxState). x.desk) run, subst (IsRestKept first) (sym run) (none_done first))

@@ -5,12 +5,12 @@ use Rattle.std.specs.Prelude.{ℕ, Bool, false, not, ◌&&◌, ◌||◌, if◌th
 use Rattle.std.specs.Option.{option_and_then, option_map, option_map_or}
 use Rattle.tb_geom.specs.declared.point.Point.{Point}
 use Rattle.tb_geom.specs.declared.refusal.Refusal.{Refusal}
-use Rattle.desk_layers.specs.declared.part.Part.TheVariants.{Control, List as ListPart}
+use Rattle.desk_layers.specs.declared.part.Part.TheVariants.{Control, List as ListPart, Text as TextPart}
 use Rattle.desk_layers.specs.Owner.{Owner, same_owner}
 use Rattle.desk_layers.specs.Owner.Owner.{Content}
 use Rattle.desk_layers.specs.Change.{Change, no_change}
 use Rattle.desk_call.specs.declared.activity.Activity.{Activity}
-use Rattle.desk_call.specs.declared.activity.Activity.TheVariants.{TrackingControl}
+use Rattle.desk_call.specs.declared.activity.Activity.TheVariants.{TrackingControl, Selecting}
 use Rattle.desk_call.specs.declared.call.Call.{Call}
 use Rattle.desk_call.specs.declared.call.Call.TheVariants as calls
 use Rattle.desk_call.specs.declared.call.Reply.{Reply}
@@ -21,6 +21,9 @@ use Rattle.desk_call.specs.declared.list.ListCall.{ListCall}
 use Rattle.desk_call.specs.declared.list.ListCall.TheVariants as lists
 use Rattle.desk_call.specs.declared.list.ListOf.{ListOf}
 use Rattle.desk_call.specs.declared.outline.OutlineCall.{OutlineCall}
+use Rattle.desk_call.specs.declared.text.TextCall.{TextCall}
+use Rattle.desk_call.specs.declared.text.TextCall.TheVariants as texts
+use Rattle.desk_call.specs.declared.text.TextOf.{TextOf}
 use Rattle.desk_call.specs.declared.update.UpdateCall.{UpdateCall}
 use Rattle.desk_call.specs.declared.update.UpdateCall.TheVariants as updates
 use Rattle.desk_call.specs.declared.window.WindowCall.{WindowCall}
@@ -179,6 +182,43 @@ change_of_list (lists.Select k) before after = cells_selected k.cell.list before
 change_of_list (lists.Click k) before after = cells_selected k.list before after
 change_of_list call before after = no_change
 
+-- ---- calls about text records
+
+-- all that the text record owns then is drawn
+abbrev pub text_afresh : TextOf → Change
+text_afresh t = afresh_change t.window (Some (TextPart t.text))
+
+-- the text record is shown anew where it is not stale
+abbrev pub text_anew : TextOf → Change
+text_anew t = redrawn_change t.window (TextPart t.text)
+
+-- so is the text record in which the mouse selects, if it does
+abbrev pub selected_anew : Activity → Change
+selected_anew (Selecting k) = text_anew k.text
+selected_anew _ = no_change
+
+-- a text record that is made, placed or shown is drawn; one that is edited, or in which the mouse selects, is shown anew
+abbrev pub change_of_text : TextCall → ToolboxState → Change
+change_of_text (texts.New n) before = afresh_change n.window (option_map TextPart before.texts.next)
+change_of_text (texts.Place p) before = text_afresh p.text
+change_of_text (texts.Show t) before = text_afresh t
+change_of_text (texts.Set b) before = text_anew b.text
+change_of_text (texts.Insert b) before = text_anew b.text
+change_of_text (texts.Delete t) before = text_anew t
+change_of_text (texts.Key n) before = text_anew n.text
+change_of_text (texts.Cut t) before = text_anew t
+change_of_text (texts.Paste t) before = text_anew t
+change_of_text (texts.Select z) before = text_anew z.text
+change_of_text (texts.Activate f) before = text_anew f.text
+change_of_text (texts.Idle n) before = text_anew n.text
+change_of_text (texts.Justify n) before = text_anew n.text
+change_of_text (texts.Scroll z) before = text_anew z.text
+change_of_text (texts.ShowSelection t) before = text_anew t
+change_of_text (texts.Click c) before = text_anew c.text
+change_of_text (texts.Step p) before = selected_anew before.desk.activity
+change_of_text (texts.End p) before = selected_anew before.desk.activity
+change_of_text call before = no_change
+
 -- ---- any call
 
 -- a call that is done
@@ -187,6 +227,7 @@ change_of_done (calls.Window call) before after = change_of_window call before.d
 change_of_done (calls.Update call) before after = change_of_update call before.desk.windows
 change_of_done (calls.Control call) before after = change_of_control call before
 change_of_done (calls.List call) before after = change_of_list call before after
+change_of_done (calls.Text call) before after = change_of_text call before
 change_of_done (calls.Outline call) before after = change_of_outline call before.desk
 -- calls about frames, menus and events
 change_of_done call before after = no_change

@@ -55,8 +55,8 @@ pub record IsHeadline (first : ToolboxState) (calls : List Call) (answers : List
   pub screen : IsScreenRight last
   -- once every update is served, every pixel does
   pub served : AreAllServed last.desk.windows → IsScreenAllRight last
-  -- what is painted is the desk: the layers of each window are its controls and lists, and show what these show, and each
-  -- window is shown and hit by what its record says
+  -- what is painted is the desk: the layers of each window are its controls, its lists and its text records, and show what
+  -- these show, and each window is shown and hit by what its record says
   pub contents : AreContentsRight last
   pub records : All (λ w. WindowGoesBy (news_by_record w) w.definition) last.desk.windows.desk.windows
   -- the pixels of the update regions are the stale ones

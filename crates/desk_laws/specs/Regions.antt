@@ -15,7 +15,8 @@ abbrev pub IsInRegion : (ℕ → FullState → PixelSet) → ℕ → FullState �
 IsInRegion region window s p =
     (w : WindowRecord) × (record_with window s.desk.windows ≡ Some w) × (region window s (minus p w.place) ≡ true)
 
--- it is one of the screen, and its owner is a content layer of the window: its picture, one of its lists or of its controls
+-- it is one of the screen, and its owner is a content layer of the window: its picture, one of its text
+-- records, of its lists or of its controls
 abbrev pub IsOfContent : ℕ → FullState → Point → Type 0
 IsOfContent window s p =
     (on_screen (layered_desk s.desk) p ≡ true) × ((layer : Part) × (owner (layered_desk s.desk) p ≡ Content window layer))

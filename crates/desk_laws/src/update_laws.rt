@@ -1,5 +1,5 @@
 //! What serving an update does, and what the regions of windows are.
-ghost use Rattle.std.specs.Prelude.{◌≡◌, ◌≢◌, ◌↔◌, ℕ, true, false, List, map, Result, Ok};
+ghost use Rattle.std.specs.Prelude.{◌≡◌, ◌≢◌, ◌↔◌, ℕ, true, false, List, map, All, Result, Ok};
 ghost use Rattle.tb_geom.specs.declared.point.Point.{Point};
 ghost use Rattle.tb_geom.specs.declared.refusal.Refusal.{Refusal};
 ghost use Rattle.desk_layers.specs.Desk.{on_screen};
@@ -13,6 +13,7 @@ ghost use Rattle.desk_call.specs.declared.update.UpdateCall.TheVariants.{End, Se
 ghost use Rattle.desk_call.specs.declared.window.WindowCall.TheVariants.{UpdateRegion, VisibleRegion};
 ghost use Rattle.desk_call.specs.declared.window.WindowReply.{WindowReply};
 ghost use Rattle.desk_call.specs.declared.window.WindowReply.TheVariants.{Done};
+ghost use Rattle.window_items.specs.Items.{items_of};
 ghost use Rattle.window_mgr.specs.DeskStates.{is_updating};
 ghost use Rattle.window_mgr.specs.FullDesk.{FullState, IsRightState, layered_desk};
 ghost use Rattle.window_mgr.specs.Telling.{IsRegionTold, update_of, visible_of};
@@ -46,11 +47,13 @@ pub fn an_update_whose_layers_were_drawn_is_served()
         → other ≢ window → (p : Point) → update_of other last.desk.windows p ≡ update_of other first.desk.windows p }
 {}
 
-/// In a state that a run reaches no window shows text records, since no call makes one: there an update is served where its
+/// In a state that a run reaches a window of which no text record is shown shows none: there an update is served where its
 /// picture, its lists and its controls were drawn.
 #[tactic(auto, using(crate::proofs::ShownKinds::shows_no_texts))]
-pub fn no_window_shows_text_records()
-    ensures { (window : ℕ) (state : ToolboxState) → IsConsistent state → ShowsNone window Texts state.desk.windows }
+pub fn a_window_without_shown_text_records_shows_none()
+    ensures { (window : ℕ) (state : ToolboxState)
+        → IsConsistent state → All (λ t. t.kept.shown ≡ false) (items_of window state.texts.texts)
+        → ShowsNone window Texts state.desk.windows }
 {}
 
 /// Where no other call came between, the Toolbox is left as serving the update at once leaves it.

@@ -14,6 +14,7 @@ unchanged s = record {
   desk = record { windows = record { desk = refl; stale = λ p on. refl; image = λ p on. refl }; activity = refl; begun = refl };
   controls = refl;
   lists = refl;
+  texts = refl;
   menus = refl;
   events = refl;
 }

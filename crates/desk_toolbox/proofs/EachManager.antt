@@ -23,6 +23,8 @@ use Rattle.desk_call.specs.declared.menu.MenuReply.{MenuReply}
 use Rattle.desk_call.specs.declared.outline.OutlineCall.{OutlineCall}
 use Rattle.desk_call.specs.declared.outline.OutlineReply.{OutlineReply}
 use Rattle.desk_call.specs.declared.outline.OutlineReply.TheVariants.{Shown}
+use Rattle.desk_call.specs.declared.text.TextCall.{TextCall}
+use Rattle.desk_call.specs.declared.text.TextReply.{TextReply}
 use Rattle.desk_call.specs.declared.update.UpdateCall.{UpdateCall}
 use Rattle.desk_call.specs.declared.window.MoveWindow.{MoveWindow}
 use Rattle.desk_call.specs.declared.window.WindowCall.{WindowCall}
@@ -36,9 +38,10 @@ use Rattle.window_outline.specs.Outlining.{let_go_of}
 use Rattle.window_outline.specs.OutlineSteps.{IsOutlineStep}
 use Rattle.control_mgr.specs.ControlSteps.{IsControlStep}
 use Rattle.list_mgr.specs.ListSteps.{IsListStep}
+use Rattle.text_mgr.specs.TextSteps.{IsTextStep}
 use Rattle.menu_mgr.specs.MenuSteps.{IsMenuStep}
 use Rattle.desk_toolbox.specs.Fronts.{is_on_menu}
-use Rattle.desk_toolbox.specs.ToolboxStates.{ToolboxState, IsToolboxUnchanged, with_controls, with_lists, with_menus}
+use Rattle.desk_toolbox.specs.ToolboxStates.{ToolboxState, IsToolboxUnchanged, with_controls, with_lists, with_menus, with_texts}
 use Rattle.desk_toolbox.specs.Run.{IsWindowMade, IsWindowTold, IsControlTold, IsEventAnswer, IsAdmitted, IsGated, IsLetGo, IsOutlineMade, IsRestKept, IsStep, found_menu, is_covered, is_hidden_by_menu, is_under_menu, put_down, replied}
 
 -- `R` relates a call, what it is answered, and the states before and after it
@@ -54,14 +57,17 @@ module _ (R : Call → Result Reply Refusal → ToolboxState → ToolboxState �
     pub frame : (call : FrameCall) (answer : Result FrameReply Refusal) (before after : ToolboxState) → gate before.desk.activity (standing_of (Frame call)) ≡ None
         → IsFrameStep call answer before.desk after.desk → IsRestKept before after → R (Frame call) (replied reply.Frame answer) before after
     pub menu : (call : MenuCall) (answer : Result MenuReply Refusal) (before after : ToolboxState) → gate before.desk.activity (standing_of (Menu call)) ≡ None
-        → IsMenuStep call answer (with_menus before) (with_menus after) → after.events ≡ before.events → after.controls ≡ before.controls → after.lists ≡ before.lists → R (Menu call) (replied reply.Menu answer) before after
+        → IsMenuStep call answer (with_menus before) (with_menus after) → after.events ≡ before.events → after.controls ≡ before.controls → after.lists ≡ before.lists → after.texts ≡ before.texts → R (Menu call) (replied reply.Menu answer) before after
     pub hidden : (p : PointInWindow) (before after : ToolboxState) → IsToolboxUnchanged before after → R (Control (controls.Find p)) (Ok (reply.Control (control_reply.Found None))) before after
     pub control : (call : ControlCall) (answer : Result ControlReply Refusal) (before after : ToolboxState) → gate before.desk.activity (standing_of (Control call)) ≡ None
-        → IsControlStep call answer (with_controls before) (with_controls after) → after.events ≡ before.events → after.lists ≡ before.lists → after.menus ≡ before.menus
+        → IsControlStep call answer (with_controls before) (with_controls after) → after.events ≡ before.events → after.lists ≡ before.lists → after.texts ≡ before.texts → after.menus ≡ before.menus
         → R (Control call) (replied reply.Control answer) before after
     pub list : (call : ListCall) (answer : Result ListReply Refusal) (before after : ToolboxState) → gate before.desk.activity (standing_of (calls.List call)) ≡ None
-        → IsListStep call answer (with_lists before) (with_lists after) → after.events ≡ before.events → after.menus ≡ before.menus
+        → IsListStep call answer (with_lists before) (with_lists after) → after.events ≡ before.events → after.texts ≡ before.texts → after.menus ≡ before.menus
         → R (calls.List call) (replied reply.List answer) before after
+    pub text : (call : TextCall) (answer : Result TextReply Refusal) (before after : ToolboxState) → gate before.desk.activity (standing_of (calls.Text call)) ≡ None
+        → IsTextStep call answer (with_texts before) (with_texts after) → after.events ≡ before.events → after.controls ≡ before.controls → after.lists ≡ before.lists → after.menus ≡ before.menus
+        → R (calls.Text call) (replied reply.Text answer) before after
     pub outline : (call : OutlineCall) (answer : Result OutlineReply Refusal) (before after : ToolboxState) → gate before.desk.activity (standing_of (Outline call)) ≡ None
         → IsOutlineStep call answer before.desk after.desk → IsRestKept before after → R (Outline call) (replied reply.Outline answer) before after
     -- (the window that was dragged is let go, and moved)
@@ -82,14 +88,14 @@ module _ (R : Call → Result Reply Refusal → ToolboxState → ToolboxState �
 
     -- whether the point lies under a pulled menu, or the controls answer
     of_controls : (covered : Bool) (call : ControlCall) (p : PointInWindow) → call ≡ controls.Find p → (own : Result ControlReply Refusal) (before after : ToolboxState) → gate before.desk.activity (standing_of (Control call)) ≡ None → IsControlTold covered call own before after → R (Control call) (replied reply.Control own) before after
-    of_controls false call p is own before after may told = each.control call own before after may told.step told.events told.lists told.menus
+    of_controls false call p is own before after may told = each.control call own before after may told.step told.events told.lists told.texts told.menus
     of_controls true call p is own before after may (told, same) =
         subst (λ c. R (Control c) (replied reply.Control own) before after) (sym is)
         (subst (λ r. R (Control (controls.Find p)) (replied reply.Control r) before after) (sym told) (each.hidden p before after same))
 
     of_control : (call : ControlCall) (own : Result ControlReply Refusal) (before after : ToolboxState) → gate before.desk.activity (standing_of (Control call)) ≡ None → IsControlTold (is_hidden_by_menu call before) call own before after → R (Control call) (replied reply.Control own) before after
     of_control (controls.Find p) own before after may step = of_controls (is_under_menu before p) (controls.Find p) p refl own before after may step
-    of_control call own before after may told = each.control call own before after may told.step told.events told.lists told.menus
+    of_control call own before after may told = each.control call own before after may told.step told.events told.lists told.texts told.menus
 
     -- the window that was dragged is let go: the move is done or refused
     of_let_go : (call : OutlineCall) (move : MoveWindow) (own : Result OutlineReply Refusal) (before after : ToolboxState) → gate before.desk.activity (standing_of (Outline call)) ≡ None → IsLetGo move own before after → R (Outline call) (replied reply.Outline own) before after
@@ -106,8 +112,9 @@ module _ (R : Call → Result Reply Refusal → ToolboxState → ToolboxState �
     of_admitted (Update call) answer before after may (own, is, step) = subst (λ r. R (Update call) r before after) (sym is) (each.update call own before after may step.0 step.1)
     of_admitted (Frame call) answer before after may (own, is, step) = subst (λ r. R (Frame call) r before after) (sym is) (each.frame call own before after may step.0 step.1)
     of_admitted (Control call) answer before after may (own, is, step) = subst (λ r. R (Control call) r before after) (sym is) (of_control call own before after may step)
-    of_admitted (calls.List call) answer before after may (own, is, told) = subst (λ r. R (calls.List call) r before after) (sym is) (each.list call own before after may told.step told.events told.menus)
-    of_admitted (Menu call) answer before after may (own, is, told) = subst (λ r. R (Menu call) r before after) (sym is) (each.menu call own before after may told.step told.events told.controls told.lists)
+    of_admitted (calls.List call) answer before after may (own, is, told) = subst (λ r. R (calls.List call) r before after) (sym is) (each.list call own before after may told.step told.events told.texts told.menus)
+    of_admitted (calls.Text call) answer before after may (own, is, told) = subst (λ r. R (calls.Text call) r before after) (sym is) (each.text call own before after may told.step told.events told.controls told.lists told.menus)
+    of_admitted (Menu call) answer before after may (own, is, told) = subst (λ r. R (Menu call) r before after) (sym is) (each.menu call own before after may told.step told.events told.controls told.lists told.texts)
     of_admitted (Outline call) answer before after may (own, is, step) = subst (λ r. R (Outline call) r before after) (sym is) (of_outline (let_go_of call before.desk.activity before.desk.windows.desk) call own before after may step)
     of_admitted (Event call) answer before after may (own, is, step) = subst (λ r. R (Event call) r before after) (sym is) (each.event call own before after step)
 

@@ -7,9 +7,14 @@ use Rattle.control_mgr.specs.ControlClosing.{IsWindowLeft}
 use Rattle.control_mgr.specs.ControlDesks.{ControlsState}
 use Rattle.list_mgr.specs.ListClosing.{AreListsOfLeft}
 use Rattle.list_mgr.specs.ListDesks.{ListsState}
+use Rattle.text_mgr.specs.declared.texts.Texts.{Texts}
+use Rattle.text_mgr.specs.TextClosing as text_mgr
+use Rattle.text_mgr.specs.TextDesks.{TextsState}
+use Rattle.text_mgr.specs.WholeTexts.{texts_state}
+use Rattle.desk_toolbox.specs.TextsLeft.{AreTextsOfLeft}
 use Rattle.desk_toolbox.specs.declared.events.Events.{Events}
 use Rattle.desk_toolbox.specs.EventSteps.{events_left}
-use Rattle.desk_toolbox.specs.Run.{AreControlsLeft, AreListsLeft}
+use Rattle.desk_toolbox.specs.Run.{AreControlsLeft, AreListsLeft, AreTextsLeft}
 
 -- of all calls the end of a window alone ends it
 ended_by_dispose : (call : WindowCall) (s : ℕ) → window_ends call ≡ Some s → call ≡ Dispose s
@@ -26,6 +31,13 @@ controls_end call ends s before after is ended left = of_the_end (λ k. AreContr
 pub lists_end : (call : WindowCall) (ends : Option ℕ) (s : ℕ) (before after : ListsState) → window_ends call ≡ ends → ends ≡ Some s → AreListsOfLeft s before after → AreListsLeft call before after
 lists_end call ends s before after is ended left = of_the_end (λ k. AreListsLeft k before after) call ends s is ended left
 
+-- so do its text records
+texts_of_left : (s : ℕ) (before after : Texts) → text_mgr.AreTextsLeft s before after → AreTextsOfLeft s (texts_state before) (texts_state after)
+texts_of_left s before after left = record { gone = left.gone; others = left.others; within = left.within; apart = left.apart; next = left.next; scrap = left.scrap }
+
+pub texts_end : (call : WindowCall) (ends : Option ℕ) (s : ℕ) (before after : Texts) → window_ends call ≡ ends → ends ≡ Some s → text_mgr.AreTextsLeft s before after → AreTextsLeft call (texts_state before) (texts_state after)
+texts_end call ends s before after is ended left = of_the_end (λ k. AreTextsLeft k (texts_state before) (texts_state after)) call ends s is ended (texts_of_left s before after left)
+
 -- and after others nothing is forgotten
 pub events_stay : (call : WindowCall) (ends : Option ℕ) (e : Events) → window_ends call ≡ ends → ((s : ℕ) → ends ≡ Some s → ⊥) → e ≡ events_left call e
 events_stay (Dispose s) ends e is none = absurd (none s (sym is))
@@ -38,3 +50,7 @@ controls_stay _ ends s is none = refl
 pub lists_stay : (call : WindowCall) (ends : Option ℕ) (s : ListsState) → window_ends call ≡ ends → ((w : ℕ) → ends ≡ Some w → ⊥) → AreListsLeft call s s
 lists_stay (Dispose w) ends s is none = absurd (none w (sym is))
 lists_stay _ ends s is none = refl
+
+pub texts_stay : (call : WindowCall) (ends : Option ℕ) (s : TextsState) → window_ends call ≡ ends → ((w : ℕ) → ends ≡ Some w → ⊥) → AreTextsLeft call s s
+texts_stay (Dispose w) ends s is none = absurd (none w (sym is))
+texts_stay _ ends s is none = refl

@@ -4,6 +4,9 @@ pub mod KeptDesks
 pub mod Bonds
 pub mod KnownLayers
 pub mod ContentsBeside
+pub mod TextFacts
+pub mod TextsBeside
+pub mod TextsGone
 pub mod ContentsLeft
 pub mod Sides
 pub mod EachManager
@@ -35,6 +38,9 @@ pub mod PulledSteps
 pub mod MenuStands
 pub mod TrackedControls
 pub mod ListStands
+pub mod TextStands
+pub mod SelectedTexts
+pub mod TextsAside
 pub mod ControlsAside
 pub mod ListsAside
 pub mod MenusBeside

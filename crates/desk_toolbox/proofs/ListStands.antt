@@ -1,5 +1,5 @@
--- What holds of a reached state holds after a call about lists, and of no lists at the beginning.
-use Rattle.std.proofs.Common.{◌≡◌, ◌⊎◌, ⊎_elim, inl, inr, ℕ, ◌≤◌, List, [], false, Option, None, Some, Result, Ok, Err, sym, ap, ◌∙◌, subst, arith}
+-- What holds of a reached state holds after a call about lists, and of no lists and no text records at the beginning.
+use Rattle.std.proofs.Common.{◌≡◌, ◌⊎◌, ⊎_elim, inl, inr, ℕ, ◌≤◌, List, [], true, false, Option, None, Some, Result, Ok, Err, sym, ap, ◌∙◌, subst, arith}
 use Rattle.std.specs.Prelude.{All}
 use Rattle.std.proofs.lemmas.List.Elements.{All-nil, All-same}
 use Rattle.tb_geom.specs.declared.refusal.Refusal.{Refusal}
@@ -10,7 +10,7 @@ use Rattle.desk_call.specs.declared.list.ListCall.{ListCall}
 use Rattle.desk_call.specs.declared.list.ListCall.TheVariants.{GetCell, IsSelected, FirstSelected, NextCell, Search}
 use Rattle.desk_call.specs.declared.list.ListReply.{ListReply}
 use Rattle.desk_call.specs.Gates.{gate, list_standing}
-use Rattle.window_items.specs.Items.{are_before, count_of, items_of}
+use Rattle.window_items.specs.Items.{AreApart, are_before, count_of, items_of}
 use Rattle.vis_update.specs.Records.{WindowRecord}
 use Rattle.window_mgr.specs.FullDesk.{FullDesk}
 use Rattle.window_mgr.specs.Refused.{is_missing}
@@ -19,6 +19,12 @@ use Rattle.control_mgr.specs.InUse.{AreStocked}
 use Rattle.control_mgr.specs.WholeControls.{IsTrackable}
 use Rattle.list_mgr.specs.ListDesks.{IsListDeskUnchanged, KeptList, ListDesk, ListsState}
 use Rattle.list_mgr.specs.ListRefusals.{most_lists}
+use Rattle.tb_geom.specs.Rects.{is_in_range}
+use Rattle.text_record.specs.Placings.{box_of}
+use Rattle.text_mgr.specs.TextDesks.{KeptText, TextsState}
+use Rattle.text_mgr.specs.TextLayers.{AreTextLayersOf}
+use Rattle.text_mgr.specs.TextRefusals.{most_texts}
+use Rattle.text_mgr.specs.WholeTexts.{AreWholeTexts}
 use Rattle.list_mgr.specs.ListSteps.{AreListLayers, IsListEffect, IsListStep}
 use Rattle.list_mgr.specs.WholeLists.{AreListsApart, AreWholeLists, IsSettledList, slots_of}
 use Rattle.list_mgr.proofs.ListFacts.{IsBesideLayers, list_facts}
@@ -109,15 +115,27 @@ no_lists_whole windows s bare none next full = record {
   stocked = subst (λ own. AreStocked (λ (d : ListDefinition). d.stage) (slots_of own) s.stock) (sym none) (λ k. none_used_at (λ (d : ListDefinition). d.stage) s.stock k full);
 }
 
+-- nor text records
+pub no_texts_whole : (windows : List WindowRecord) (s : TextsState) → windows ≡ [] → s.texts ≡ [] → s.next ≡ Some 1 → AreWholeTexts windows s
+no_texts_whole windows s bare none next = record {
+  boxes = All-same (λ (t : KeptText). is_in_range (box_of t.kept.framed t.kept.view) ≡ true) s.texts [] none (All-nil (λ (t : KeptText). is_in_range (box_of t.kept.framed t.kept.view) ≡ true));
+  apart = subst (λ ts. AreApart ts) (sym none) tt;
+  given = (λ i. are_before (next i) (none i));
+  somewhere = All-same (λ (t : KeptText). is_missing t.window windows ≡ false) s.texts [] none (All-nil (λ (t : KeptText). is_missing t.window windows ≡ false));
+  few = λ w. subst (λ ts. count_of w ts ≤ most_texts) (sym none) (omega arith);
+  joined = All-same (λ (w : WindowRecord). AreTextLayersOf (items_of w.serial s.texts) w.layers) windows [] bare (All-nil (λ (w : WindowRecord). AreTextLayersOf (items_of w.serial s.texts) w.layers));
+}
+
 -- nor have they other layers
 pub none_known : (windows : List WindowRecord) → windows ≡ [] → AreLayersKnown windows
 none_known windows bare = subst AreLayersKnown (sym bare) (All-nil (λ (w : WindowRecord). AreKnown w.layers))
 
--- no controls and no lists
+-- no controls, no lists and no text records
 pub begun_contents : (s : ToolboxState) → IsJustBegun s → AreContentsRight s
 begun_contents s begun = record {
   controls = none_whole s.desk.windows.desk.windows s.controls begun.windows begun.controls begun.next_control begun.held;
   lists = no_lists_whole s.desk.windows.desk.windows s.lists begun.windows begun.lists begun.next_list begun.listed;
+  texts = no_texts_whole s.desk.windows.desk.windows s.texts begun.windows begun.texts begun.next_text;
   known = none_known s.desk.windows.desk.windows begun.windows;
   shown = begun.shown;
 }

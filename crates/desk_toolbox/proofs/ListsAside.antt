@@ -1,6 +1,8 @@
 -- What is kept for updates, and the menus, stay whole beside calls about lists, and so does the control that is tracked.
-use Rattle.std.proofs.Common.{◌≡◌, ◌⊎◌, ⊎_elim, inl, List, None, Result, Ok, Err, sym, ap, subst}
+use Rattle.std.proofs.Common.{◌≡◌, ◌⊎◌, ⊎_elim, inl, ℕ, List, None, Result, Ok, Err, sym, ap, subst}
 use Rattle.tb_geom.specs.declared.refusal.Refusal.{Refusal}
+use Rattle.tb_geom.specs.Points.{PixelSet}
+use Rattle.desk_layers.specs.declared.part.Part.{Part}
 use Rattle.def_iface.specs.Slots.{TakenBox}
 use Rattle.def_iface.specs.ControlMeaning.{ControlLoan}
 use Rattle.def_iface.specs.ListMeaning.{ListLoan}
@@ -36,13 +38,13 @@ use Rattle.desk_toolbox.proofs.MenusBeside.{AreMenusInFront}
 use Rattle.desk_toolbox.proofs.MenusBeside as menus
 use Rattle.desk_toolbox.proofs.UpdatesBeside as updates
 
-module _ {V : Type 0} {H : V → Type 0} (loan : TakenBox V H → WindowLoan) {W : Type 0} {K : W → Type 0} (menu_loan : TakenBox W K → MenuLoan) {U : Type 0} {J : U → Type 0} (control_loan : TakenBox U J → ControlLoan) {X : Type 0} {L : X → Type 0} (list_loan : TakenBox X L → ListLoan)
+module _ {V : Type 0} {H : V → Type 0} (loan : TakenBox V H → WindowLoan) {W : Type 0} {K : W → Type 0} (menu_loan : TakenBox W K → MenuLoan) {U : Type 0} {J : U → Type 0} (control_loan : TakenBox U J → ControlLoan) {X : Type 0} {L : X → Type 0} (list_loan : TakenBox X L → ListLoan) (others : List ℕ → Part → PixelSet)
     (t new : WindowManager V H) (before after : List WindowSlot) (o : Opened) (cs now : Controls (TakenBox U J)) (held left : List ControlSlot) (ls rest : Lists (TakenBox X L)) (kept put : List ListSlot) where
   abbrev first : ListDesk
-  first = list_desk list_loan loan t (λ font. all_white) o before (controls_state control_loan cs held) ls kept
+  first = list_desk list_loan loan t others o before (controls_state control_loan cs held) ls kept
 
   abbrev last : ListDesk
-  last = list_desk list_loan loan new (λ font. all_white) o after (controls_state control_loan now left) rest put
+  last = list_desk list_loan loan new others o after (controls_state control_loan now left) rest put
 
   -- the windows did not change, whatever they show of controls and lists
   unchanged : IsListDeskUnchanged first last → IsUnchanged (state_of loan t before) (state_of loan new after)

@@ -19,6 +19,8 @@ use Rattle.window_frame.specs.Followers.{AreInformed}
 use Rattle.window_outline.specs.ShownOutlines.{IsOutlineShown}
 use Rattle.menu_list.specs.Lists.{menu_index}
 use Rattle.menu_mgr.specs.MenuDesks.{MenuDesk}
+use Rattle.text_mgr.specs.TextDesks.{KeptText}
+use Rattle.text_mgr.specs.WholeTexts.{IsSelectable}
 use Rattle.menu_mgr.specs.MenuSteps.{IsDisposedAt, IsMenuEffect, IsMenuStep, IsMoved, IsMovedOn, IsPressedOn, IsMenuReleased, other_title}
 use Rattle.menu_mgr.specs.Pulling.{TitleOf, title_of_point}
 use Rattle.menu_mgr.proofs.MenuKeeps.{menu_keeps, menu_keeps_bar}
@@ -115,6 +117,13 @@ none_tracked a cs none = ⊎_elim
 -- no control is tracked where a call about menus came
 pub menu_trackable : (call : MenuCall) (answer : Result MenuReply Refusal) (before after : MenuDesk) (cs : List ControlRecord) → gate before.desk.activity (menu_standing call) ≡ None → IsMenuStep call answer before after → IsTrackable after.desk.activity cs
 menu_trackable call answer before after cs may step = none_tracked after.desk.activity cs (step_opens call answer before after may step)
+
+-- nor does the mouse select
+pub menu_selectable : (call : MenuCall) (answer : Result MenuReply Refusal) (before after : MenuDesk) (ts : List KeptText) → gate before.desk.activity (menu_standing call) ≡ None → IsMenuStep call answer before after → IsSelectable after.desk.activity ts
+menu_selectable call answer before after ts may step = ⊎_elim
+    (λ idle. subst (λ b. IsSelectable b ts) (sym idle) tt)
+    (λ pulling. subst (λ b. IsSelectable b ts) (sym pulling.1) tt)
+    (step_opens call answer before after may step)
 
 -- nor is a window dragged or grown
 pub menu_outlines_none : {V : Type 0} {H : V → Type 0} (call : MenuCall) (answer : Result MenuReply Refusal) (before after : MenuDesk) (t : WindowManager V H) (front : Overlay) → gate before.desk.activity (menu_standing call) ≡ None → IsMenuStep call answer before after

@@ -17,7 +17,7 @@ told call answer s set is tells = subst (λ o. IsWindowAnswer o call answer s.de
 
 pub narrowed_made : (call : WindowCall) (answer : Result WindowReply Refusal) (s : ToolboxState) (set : PixelSet)
     → narrowed call s.desk.activity s.desk.begun ≡ Some set → IsToldOf set answer
-    → s.desk.windows ≡ shown_with s.controls.controls s.lists.lists s.desk.windows → IsWindowMade call answer s s
+    → s.desk.windows ≡ shown_with s.controls.controls s.lists.lists s.texts.texts s.desk.windows → IsWindowMade call answer s s
 narrowed_made (VisibleRegion w) (Ok answer) s set is tells shown = record {
   middle = s.desk;
   answered = told (VisibleRegion w) (Ok answer) s set is tells;
@@ -27,6 +27,7 @@ narrowed_made (VisibleRegion w) (Ok answer) s set is tells shown = record {
   shown = shown;
   controls = refl;
   lists = refl;
+  texts = refl;
   events = refl;
   menus = refl;
 }
@@ -39,8 +40,9 @@ narrowed_made (UpdateRegion w) (Ok answer) s set is tells shown = record {
   shown = shown;
   controls = refl;
   lists = refl;
+  texts = refl;
   events = refl;
   menus = refl;
 }
-narrowed_made call (Err e) s set is tells shown = (told call (Err e) s set is tells, record { events = refl; controls = refl; lists = refl; menus = refl })
+narrowed_made call (Err e) s set is tells shown = (told call (Err e) s set is tells, record { events = refl; controls = refl; lists = refl; texts = refl; menus = refl })
 narrowed_made _ (Ok answer) s set is tells shown = absurd (cc)

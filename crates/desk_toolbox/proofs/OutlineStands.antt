@@ -20,6 +20,8 @@ use Rattle.control_mgr.specs.WholeControls.{IsTrackable}
 use Rattle.window_frame.specs.Followers.{AreInformed}
 use Rattle.window_outline.specs.Outlining.{begins, open_after, outline_after}
 use Rattle.window_outline.specs.OutlineSteps.{IsOutlineStep, why_refused}
+use Rattle.text_mgr.specs.TextDesks.{KeptText}
+use Rattle.text_mgr.specs.WholeTexts.{IsSelectable}
 use Rattle.desk_toolbox.specs.declared.events.Events.{Events}
 use Rattle.desk_toolbox.specs.Reached.{open_window}
 use Rattle.desk_toolbox.specs.Run.{IsRestKept, put_down}
@@ -109,6 +111,17 @@ outlining_tracks_none (Tracking s) cs is = absurd is
 outlining_tracks_none (TrackingControl c) cs is = absurd is
 outlining_tracks_none (Selecting k) cs is = absurd is
 outlining_tracks_none (Pulling m) cs is = absurd is
+
+-- nor does the mouse select
+pub outlining_selects_none : (a : Activity) (ts : List KeptText) → IsOutlining a → IsSelectable a ts
+outlining_selects_none Idle ts is = tt
+outlining_selects_none (Dragging d) ts is = tt
+outlining_selects_none (Growing g) ts is = tt
+outlining_selects_none (Updating s) ts is = absurd is
+outlining_selects_none (Tracking s) ts is = absurd is
+outlining_selects_none (TrackingControl c) ts is = absurd is
+outlining_selects_none (Selecting k) ts is = absurd is
+outlining_selects_none (Pulling m) ts is = absurd is
 
 outlining_misleads_none : (a : Activity) (ws : List WindowRecord) → IsOutlining a → total (misled a) ws ≡ total (misled Idle) ws
 outlining_misleads_none Idle ws is = refl
@@ -206,5 +219,5 @@ outline_stands call (Err e) before after may was right step rest = stands_still 
 -- nothing is open any more
 pub put_down_stands : (s : ToolboxState) → IsOutlining s.desk.activity → Stands s → Stands (put_down s)
 put_down_stands s was_open was =
-    opens_stand s (put_down s) refl (record { events = refl; controls = refl; lists = refl; menus = refl }) was_open tt tt was
+    opens_stand s (put_down s) refl (record { events = refl; controls = refl; lists = refl; texts = refl; menus = refl }) was_open tt tt was
     (put_down_right s (record { right = was.right; contents = was.contents }))

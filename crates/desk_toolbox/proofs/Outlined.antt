@@ -21,5 +21,5 @@ outline_keeps_desk call answer before after step = (outline_unchanged call answe
 pub put_down_right : (s : ToolboxState) → IsRightToolbox s → IsRightToolbox (put_down s)
 put_down_right s was = record {
   right = was.right;
-  contents = record { controls = was.contents.controls; lists = was.contents.lists; known = was.contents.known; shown = was.contents.shown };
+  contents = record { controls = was.contents.controls; lists = was.contents.lists; texts = was.contents.texts; known = was.contents.known; shown = was.contents.shown };
 }

@@ -107,6 +107,7 @@ refused_drop move e before after activity (answered, rest) = record {
   desk = record { windows = answered.1.1; activity = activity; begun = answered.0.begun };
   controls = rest.controls;
   lists = rest.lists;
+  texts = rest.texts;
   menus = rest.menus;
   events = rest.events;
 }

@@ -7,7 +7,7 @@ use Rattle.def_iface.specs.Slots.{TakenBox}
 use Rattle.def_iface.specs.WindowMeaning.{WindowLoan}
 use Rattle.desk_call.specs.declared.activity.Activity.{Activity}
 use Rattle.desk_call.specs.declared.call.Call.{Call}
-use Rattle.desk_call.specs.declared.call.Call.TheVariants.{Window, Update, Frame, Control, List, Menu, Outline, Event}
+use Rattle.desk_call.specs.declared.call.Call.TheVariants.{Window, Update, Frame, Control, List, Text, Menu, Outline, Event}
 use Rattle.desk_call.specs.declared.call.Reply.{Reply}
 use Rattle.desk_call.specs.declared.call.Reply.TheVariants as reply
 use Rattle.desk_call.specs.declared.window.MoveWindow.{MoveWindow}
@@ -28,6 +28,7 @@ quiet_untouched (Update call) result screen = tt
 quiet_untouched (Frame call) result screen = tt
 quiet_untouched (Control call) result screen = tt
 quiet_untouched (List call) result screen = tt
+quiet_untouched (Text call) result screen = tt
 quiet_untouched (Menu call) result screen = tt
 quiet_untouched (Outline call) result screen = tt
 quiet_untouched (Event call) result screen = tt
@@ -49,5 +50,6 @@ module _ {V : Type 0} {H : V → Type 0} (loan : TakenBox V H → WindowLoan) wh
   spared_untouched (Frame call) activity t = tt
   spared_untouched (Control call) activity t = tt
   spared_untouched (List call) activity t = tt
+  spared_untouched (Text call) activity t = tt
   spared_untouched (Menu call) activity t = tt
   spared_untouched (Event call) activity t = tt

@@ -40,7 +40,7 @@ use Rattle.control_mgr.specs.ControlSteps.{IsControlStep}
 use Rattle.menu_mgr.specs.MenuSteps.{IsMenuStep}
 use Rattle.menu_mgr.proofs.MenuKeeps.{menu_keeps, menu_stays_right}
 use Rattle.desk_toolbox.specs.Reached.{AreContentsRight}
-use Rattle.desk_toolbox.specs.ToolboxStates.{ToolboxState, with_controls, with_lists, with_menus}
+use Rattle.desk_toolbox.specs.ToolboxStates.{ToolboxState, with_controls, with_lists, with_menus, with_texts}
 use Rattle.desk_toolbox.specs.Run.{IsWindowAnswer, IsWindowMade, IsEventAnswer, IsAdmitted, replied, IsStep, IsRunOf, IsRunOfCalls, serial_made, made, AreCounted}
 use Rattle.window_update.proofs.ServedLaws.{all_served_is_right}
 use Rattle.window_update.proofs.UpdateLaws.{update_stays_right}
@@ -54,10 +54,14 @@ use Rattle.desk_call.specs.declared.outline.OutlineReply.{OutlineReply}
 use Rattle.window_outline.specs.OutlineSteps.{IsOutlineStep}
 use Rattle.desk_toolbox.proofs.UpdatedDesks.{update_keeps_desk}
 use Rattle.desk_toolbox.proofs.ContentsBeside.{IsRightToolbox, still, beside_frames, beside_menus}
-use Rattle.desk_toolbox.proofs.ContentsLeft.{control_stays_right, list_stays_right, made_stays_right}
+use Rattle.desk_toolbox.proofs.ContentsLeft.{control_stays_right, list_stays_right, made_stays_right, text_stays_right}
 use Rattle.control_mgr.proofs.ControlFacts.{control_facts}
 use Rattle.list_mgr.specs.ListSteps.{IsListStep}
 use Rattle.list_mgr.proofs.ListFacts.{list_facts}
+use Rattle.text_mgr.specs.TextSteps.{IsTextStep}
+use Rattle.desk_call.specs.declared.text.TextCall.{TextCall}
+use Rattle.desk_call.specs.declared.text.TextReply.{TextReply}
+use Rattle.desk_toolbox.proofs.TextFacts.{text_facts}
 use Rattle.desk_toolbox.proofs.KeptDesks.{refused_keeps_desk}
 
 -- ---- what is right stays so
@@ -72,19 +76,19 @@ unchanged_desk_stays_right before after right same = unchanged_stays_right befor
 window_stays_right : (call : WindowCall) (answer : Result WindowReply Refusal) (before after : ToolboxState) → IsRightToolbox before → IsWindowMade call answer before after → IsRightToolbox after
 window_stays_right call (Ok answer) before after was made =
     let asked = narrowed call before.desk.activity before.desk.begun in
-    made_stays_right call answer before made.middle made.told after was made.answered made.caught_up made.shown made.controls made.lists
+    made_stays_right call answer before made.middle made.told after was made.answered made.caught_up made.shown made.controls made.lists made.texts
     (caught_up_stays_right (window_standing call) made.middle.windows made.told (answer_stays_right asked call (Ok answer) before.desk made.middle was.right made.answered) made.caught_up)
 window_stays_right call (Err e) before after was (answered, rest) =
     let asked = narrowed call before.desk.activity before.desk.begun in
     record {
       right = answer_stays_right asked call (Err e) before.desk after.desk was.right answered;
-      contents = still before after (refused_keeps_desk asked call e before.desk after.desk answered) rest.controls rest.lists was.contents;
+      contents = still before after (refused_keeps_desk asked call e before.desk after.desk answered) rest.controls rest.lists rest.texts was.contents;
     }
 
-unchanged_stays : (before after : ToolboxState) → IsDeskUnchanged before.desk after.desk → after.controls ≡ before.controls → after.lists ≡ before.lists → IsRightToolbox before → IsRightToolbox after
-unchanged_stays before after same controls lists was = record {
+unchanged_stays : (before after : ToolboxState) → IsDeskUnchanged before.desk after.desk → after.controls ≡ before.controls → after.lists ≡ before.lists → after.texts ≡ before.texts → IsRightToolbox before → IsRightToolbox after
+unchanged_stays before after same controls lists texts was = record {
   right = unchanged_desk_stays_right before after was.right same;
-  contents = still before after same.windows.desk controls lists was.contents;
+  contents = still before after same.windows.desk controls lists texts was.contents;
 }
 
 abbrev StaysRight : Call → Result Reply Refusal → ToolboxState → ToolboxState → Type 0
@@ -92,30 +96,31 @@ StaysRight call answer before after = IsRightToolbox before → IsRightToolbox a
 
 each_stays_right : HoldsOfEach StaysRight
 each_stays_right = record {
-  unchanged = λ call e before after same was. unchanged_stays before after same.desk same.controls same.lists was;
-  covered = λ p before after same was. unchanged_stays before after same.desk same.controls same.lists was;
-  hidden = λ p before after same was. unchanged_stays before after same.desk same.controls same.lists was;
+  unchanged = λ call e before after same was. unchanged_stays before after same.desk same.controls same.lists same.texts was;
+  covered = λ p before after same was. unchanged_stays before after same.desk same.controls same.lists same.texts was;
+  hidden = λ p before after same was. unchanged_stays before after same.desk same.controls same.lists same.texts was;
   window = λ call answer before after may step was. window_stays_right call answer before after was step;
   update = λ call answer before after may step rest was. record {
     right = update_stays_right call answer before.desk after.desk was.right step;
-    contents = still before after (update_keeps_desk call answer before.desk after.desk step) rest.controls rest.lists was.contents;
+    contents = still before after (update_keeps_desk call answer before.desk after.desk step) rest.controls rest.lists rest.texts was.contents;
   };
   frame = λ call answer before after may step rest was. record {
     right = frame_stays_right call answer before.desk after.desk was.right step;
-    contents = beside_frames call answer before after step rest.controls rest.lists was.contents;
+    contents = beside_frames call answer before after step rest.controls rest.lists rest.texts was.contents;
   };
-  control = λ call answer before after may step events lists menus was. control_stays_right call answer before after was step lists;
-  list = λ call answer before after may step events menus was. list_stays_right call answer before after was step;
-  menu = λ call answer before after may step events controls lists was. record {
+  control = λ call answer before after may step events lists texts menus was. control_stays_right call answer before after was step lists texts;
+  list = λ call answer before after may step events texts menus was. list_stays_right call answer before after was step texts;
+  text = λ call answer before after may step events controls lists menus was. text_stays_right call answer before after was step controls lists;
+  menu = λ call answer before after may step events controls lists texts was. record {
     right = menu_stays_right call answer (with_menus before) (with_menus after) was.right step;
-    contents = beside_menus call answer before after step controls lists was.contents;
+    contents = beside_menus call answer before after step controls lists texts was.contents;
   };
   outline = λ call answer before after may step rest was. record {
     right = unchanged_stays_right before.desk.windows after.desk.windows was.right (outline_unchanged call answer before.desk after.desk step);
-    contents = still before after (outline_keeps_desk call answer before.desk after.desk step) rest.controls rest.lists was.contents;
+    contents = still before after (outline_keeps_desk call answer before.desk after.desk step) rest.controls rest.lists rest.texts was.contents;
   };
   moved = λ call move before after may step was. window_stays_right (asks.Move move) (Ok window_reply.Done) (put_down before) after (put_down_right before was) step;
-  event = λ call answer before after step was. unchanged_stays before after step.desk step.controls step.lists was;
+  event = λ call answer before after step was. unchanged_stays before after step.desk step.controls step.lists step.texts was;
 }
 
 pub admitted_stays_right : (call : Call) (answer : Result Reply Refusal) (before after : ToolboxState) → gate before.desk.activity (standing_of call) ≡ None → IsRightToolbox before → IsAdmitted call answer before after → IsRightToolbox after
@@ -150,9 +155,10 @@ each_keeps_kinds = record {
   hidden = λ p before after same. same_kinds before.desk.windows after.desk.windows same.desk.windows.desk;
   update = λ call answer before after may step rest. same_kinds before.desk.windows after.desk.windows (update_keeps_desk call answer before.desk after.desk step);
   frame = λ call answer before after may step rest. frame_keeps (λ d. map (λ slot. slot.kind) d.stock) (λ d ws. refl) call answer before.desk after.desk step;
-  control = λ call answer before after may step events lists menus. ap (λ stock. map (λ slot. slot.kind) stock) (control_facts call answer (with_controls before) (with_controls after) step).0.stock;
-  list = λ call answer before after may step events menus. ap (λ (d : FullDesk). map (λ slot. slot.kind) d.stock) (list_facts call answer (with_lists before) (with_lists after) step).0.rest;
-  menu = λ call answer before after may step events controls lists. menu_keeps (λ d. map (λ slot. slot.kind) d.stock) (λ d titles. refl) call answer (with_menus before) (with_menus after) step;
+  control = λ call answer before after may step events lists texts menus. ap (λ stock. map (λ slot. slot.kind) stock) (control_facts call answer (with_controls before) (with_controls after) step).0.stock;
+  list = λ call answer before after may step events texts menus. ap (λ (d : FullDesk). map (λ slot. slot.kind) d.stock) (list_facts call answer (with_lists before) (with_lists after) step).0.rest;
+  text = λ call answer before after may step events controls lists menus. ap (λ (d : FullDesk). map (λ slot. slot.kind) d.stock) (text_facts call answer (with_texts before) (with_texts after) step).0.rest;
+  menu = λ call answer before after may step events controls lists texts. menu_keeps (λ d. map (λ slot. slot.kind) d.stock) (λ d titles. refl) call answer (with_menus before) (with_menus after) step;
   outline = λ call answer before after may step rest. same_kinds before.desk.windows after.desk.windows (outline_keeps_desk call answer before.desk after.desk step);
   moved = λ call move before after may step. window_keeps_kinds (asks.Move move) (Ok window_reply.Done) (put_down before) after step;
   event = λ call answer before after step. same_kinds before.desk.windows after.desk.windows step.desk.windows.desk;
@@ -267,6 +273,7 @@ made_by (Ok (reply.Window answer)) = serial_made answer
 made_by (Ok (reply.Frame answer)) = []
 made_by (Ok (reply.Control answer)) = []
 made_by (Ok (reply.List answer)) = []
+made_by (Ok (reply.Text answer)) = []
 made_by (Ok (reply.Menu answer)) = []
 made_by (Ok (reply.Outline answer)) = []
 made_by (Ok (reply.Event answer)) = []
@@ -312,6 +319,10 @@ list_is_counted : (call : ListCall) (answer : Result ListReply Refusal) (before 
 list_is_counted call (Ok answer) before after numbers step h = next_counted before.desk.windows after.desk.windows numbers (ap (λ (d : FullDesk). d.next) (list_facts call (Ok answer) (with_lists before) (with_lists after) step).0.rest) h
 list_is_counted call (Err e) before after numbers step h = next_counted before.desk.windows after.desk.windows numbers (ap (λ (d : FullDesk). d.next) (list_facts call (Err e) (with_lists before) (with_lists after) step).0.rest) h
 
+text_is_counted : (call : TextCall) (answer : Result TextReply Refusal) (before after : ToolboxState) (numbers : List ℕ) → IsTextStep call answer (with_texts before) (with_texts after) → AreCounted after.desk.windows.desk.next numbers → AreCounted before.desk.windows.desk.next (made_by (replied reply.Text answer) ++ numbers)
+text_is_counted call (Ok answer) before after numbers step h = next_counted before.desk.windows after.desk.windows numbers (ap (λ (d : FullDesk). d.next) (text_facts call (Ok answer) (with_texts before) (with_texts after) step).0.rest) h
+text_is_counted call (Err e) before after numbers step h = next_counted before.desk.windows after.desk.windows numbers (ap (λ (d : FullDesk). d.next) (text_facts call (Err e) (with_texts before) (with_texts after) step).0.rest) h
+
 -- the numbers of what this was answered follow, in front of others
 abbrev GoesOnCounting : Call → Result Reply Refusal → ToolboxState → ToolboxState → Type 0
 GoesOnCounting call answer before after = (numbers : List ℕ) → AreCounted after.desk.windows.desk.next numbers → AreCounted before.desk.windows.desk.next (made_by answer ++ numbers)
@@ -324,9 +335,10 @@ each_is_counted = record {
   hidden = λ p before after same numbers h. counted_on before.desk.windows after.desk.windows numbers same.desk.windows h;
   update = λ call answer before after may step rest numbers h. update_is_counted call answer before.desk after.desk numbers step h;
   frame = λ call answer before after may step rest numbers h. frame_is_counted call answer before.desk after.desk numbers step h;
-  control = λ call answer before after may step events lists menus numbers h. control_is_counted call answer before after numbers step h;
-  list = λ call answer before after may step events menus numbers h. list_is_counted call answer before after numbers step h;
-  menu = λ call answer before after may step events controls lists numbers h. menu_is_counted call answer before after numbers step h;
+  control = λ call answer before after may step events lists texts menus numbers h. control_is_counted call answer before after numbers step h;
+  list = λ call answer before after may step events texts menus numbers h. list_is_counted call answer before after numbers step h;
+  text = λ call answer before after may step events controls lists menus numbers h. text_is_counted call answer before after numbers step h;
+  menu = λ call answer before after may step events controls lists texts numbers h. menu_is_counted call answer before after numbers step h;
   outline = λ call answer before after may step rest numbers h. outline_is_counted call answer before.desk after.desk numbers step h;
   moved = λ call move before after may step numbers h. window_is_counted (asks.Move move) (Ok window_reply.Done) (put_down before) after numbers step h;
   event = λ call answer before after step numbers h. event_is_counted call answer before after numbers step h;
@@ -337,6 +349,7 @@ made_first (Ok (reply.Window answer)) answers = refl
 made_first (Ok (reply.Frame answer)) answers = refl
 made_first (Ok (reply.Control answer)) answers = refl
 made_first (Ok (reply.List answer)) answers = refl
+made_first (Ok (reply.Text answer)) answers = refl
 made_first (Ok (reply.Menu answer)) answers = refl
 made_first (Ok (reply.Outline answer)) answers = refl
 made_first (Ok (reply.Event answer)) answers = refl

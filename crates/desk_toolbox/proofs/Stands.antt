@@ -24,6 +24,7 @@ use Rattle.control_mgr.specs.ControlDesks.{ControlsState}
 use Rattle.control_mgr.specs.WholeControls.{IsTrackable}
 use Rattle.list_mgr.specs.GivenBars.{AreBarsGiven}
 use Rattle.menu_list.specs.Lists.{titles_of}
+use Rattle.text_mgr.specs.WholeTexts.{IsSelectable}
 use Rattle.menu_mgr.specs.MenuDesks.{IsBarOf, MenusState}
 use Rattle.window_frame.specs.Followers.{AreInformed, IsCaughtUp, IsCaughtUpBy}
 use Rattle.window_frame.proofs.FrameKeeps.{caught_up_keeps}
@@ -32,7 +33,7 @@ use Rattle.desk_toolbox.specs.declared.events.Events.{Events}
 use Rattle.desk_toolbox.specs.Activations.{to_dispose}
 use Rattle.desk_toolbox.specs.Classes.{AreClassed, IsOrdinary}
 use Rattle.desk_toolbox.specs.EventSteps.{event_step}
-use Rattle.desk_toolbox.specs.Reached.{AreMenusApart, AreContentsRight, AreWindowsStocked, HasLiveDefinition, IsThere, IsConsistent, open_window}
+use Rattle.desk_toolbox.specs.Reached.{AreRecords, AreMenusApart, AreContentsRight, AreWindowsStocked, HasLiveDefinition, IsThere, IsConsistent, open_window}
 use Rattle.desk_toolbox.specs.Run.{AreControlsLeft, IsWindowAnswer, IsWindowMade, IsEventAnswer}
 use Rattle.desk_toolbox.specs.ToolboxStates.{ToolboxState}
 use Rattle.desk_toolbox.proofs.AskingCalls.{asked_changes_nothing}
@@ -100,8 +101,9 @@ stands s h = record {
   pull = record { pulled = h.pulled; lit = h.lit };
 }
 
-pub consistent : (s : ToolboxState) → Stands s → AreWindowsStocked s.desk.windows.desk → All HasLiveDefinition s.desk.windows.desk.windows → AreClassed s.desk.windows.desk.windows → AreMenusHeld s.menus → AreBarsGiven s.controls.next s.lists.lists → IsConsistent s
-consistent s h held live classed menus bars = record {
+pub consistent : (s : ToolboxState) → Stands s → AreWindowsStocked s.desk.windows.desk → All HasLiveDefinition s.desk.windows.desk.windows → AreClassed s.desk.windows.desk.windows → AreMenusHeld s.menus → AreBarsGiven s.controls.next s.lists.lists
+    → IsSelectable s.desk.activity s.texts.texts → AreRecords s.texts → IsConsistent s
+consistent s h held live classed menus bars selectable records = record {
   right = h.right;
   active = counts_ordinary s.desk.windows.desk.active s.desk.windows.desk (right_is_numbered s.desk.windows h.right) h.active;
   told = counts_ordinary s.events.told s.desk.windows.desk (right_is_numbered s.desk.windows h.right) h.told;
@@ -109,6 +111,8 @@ consistent s h held live classed menus bars = record {
   opened = present_is_there (open_window s.desk.activity) s.desk.windows.desk.windows h.opened;
   contents = h.contents;
   trackable = h.trackable;
+  selectable = selectable;
+  records = records;
   bars = bars;
   queued = h.queued;
   held = held;
@@ -222,8 +226,8 @@ done_stands call answer before after may was right made =
     let asked = narrowed call before.desk.activity before.desk.begun in
     let was_desk = before.desk.windows.desk in
     let desk = after.desk.windows.desk in
-    let recount = window_recounts call answer before.desk made.middle made.told after.desk.windows after.controls.controls after.lists.lists made.answered made.caught_up made.shown in
-    let followed = same_and_same made.middle.windows.desk made.told.desk desk (caught_up_counts (window_standing call) made.middle.windows made.told made.caught_up) (shown_counts after.controls.controls after.lists.lists made.told after.desk.windows made.shown) in
+    let recount = window_recounts call answer before.desk made.middle made.told after.desk.windows after.controls.controls after.lists.lists after.texts.texts made.answered made.caught_up made.shown in
+    let followed = same_and_same made.middle.windows.desk made.told.desk desk (caught_up_counts (window_standing call) made.middle.windows made.told made.caught_up) (shown_counts after.controls.controls after.lists.lists after.texts.texts made.told after.desk.windows made.shown) in
     let activity : after.desk.activity ≡ before.desk.activity = made.activity.activity ∙ answer_keeps_activity asked call (Ok answer) before.desk made.middle made.answered in
     let left : after.events ≡ record before.events { told = _ } = made.events ∙ left_after call before.events in
     record {

@@ -32,6 +32,7 @@ use Rattle.window_frame.specs.FrameSteps.{IsFrameStep, with_flag, with_title, wi
 use Rattle.window_frame.proofs.ToldSteps.{HoldsOfFrames, of_caught_up, of_frame}
 use Rattle.control_mgr.specs.ControlDesks.{ControlRecord}
 use Rattle.list_mgr.specs.ListDesks.{KeptList}
+use Rattle.text_mgr.specs.TextDesks.{KeptText}
 use Rattle.menu_mgr.specs.MenuDesks.{MenuDesk}
 use Rattle.menu_mgr.specs.MenuSteps.{IsMenuStep}
 use Rattle.menu_mgr.proofs.MenuKeeps.{menu_keeps}
@@ -167,17 +168,17 @@ told_recounts call answer before middle told answered caught =
     (answer_recounts (narrowed call before.activity before.begun) call answer before middle (narrowed_keeps call before.activity before.begun) answered)
     (caught_up_counts (window_standing call) middle.windows told caught)
 
--- whatever is shown of controls and lists then
-pub shown_counts : (cs : List ControlRecord) (ls : List KeptList) (told after : FullState) → after ≡ shown_with cs ls told → HasSame told.desk after.desk
-shown_counts cs ls told after shown = record {
+-- whatever is shown of controls, lists and text records then
+pub shown_counts : (cs : List ControlRecord) (ls : List KeptList) (ts : List KeptText) (told after : FullState) → after ≡ shown_with cs ls ts told → HasSame told.desk after.desk
+shown_counts cs ls ts told after shown = record {
   next = ap (λ (s : FullState). s.desk.next) shown;
   count = λ c s. ap (λ (x : FullState). counted c s x.desk.windows) shown;
 }
 
-pub window_recounts : (call : WindowCall) (answer : WindowReply) (before middle : DeskState) (told after : FullState) (cs : List ControlRecord) (ls : List KeptList) → IsWindowAnswered call (Ok answer) before middle → IsCaughtUpBy (window_standing call) middle.windows told
-    → after ≡ shown_with cs ls told → Recount (to_dispose call) before.windows.desk after.desk
-window_recounts call answer before middle told after cs ls answered caught shown =
-    recount_and_same (to_dispose call) before.windows.desk told.desk after.desk (told_recounts call answer before middle told answered caught) (shown_counts cs ls told after shown)
+pub window_recounts : (call : WindowCall) (answer : WindowReply) (before middle : DeskState) (told after : FullState) (cs : List ControlRecord) (ls : List KeptList) (ts : List KeptText) → IsWindowAnswered call (Ok answer) before middle → IsCaughtUpBy (window_standing call) middle.windows told
+    → after ≡ shown_with cs ls ts told → Recount (to_dispose call) before.windows.desk after.desk
+window_recounts call answer before middle told after cs ls ts answered caught shown =
+    recount_and_same (to_dispose call) before.windows.desk told.desk after.desk (told_recounts call answer before middle told answered caught) (shown_counts cs ls ts told after shown)
 
 -- ---- which windows stay, and which are gone
 

@@ -3,6 +3,7 @@
 pub mod EventSteps
 pub mod ToolboxStates
 pub mod KnownLayers
+pub mod TextsLeft
 pub mod Fronts
 pub mod FrontMaps
 pub mod WholeToolbox

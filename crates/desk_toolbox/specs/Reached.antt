@@ -1,5 +1,5 @@
 -- What holds of each state that a Toolbox reaches.
-use Rattle.std.specs.Prelude.{◌≡◌, ℕ, ◌+◌, ◌≤◌, pos, true, false, if◌then◌else◌, List, [], ◌∷◌, map, Option, None, Some, IfSome, All}
+use Rattle.std.specs.Prelude.{◌≡◌, ℕ, ◌+◌, ◌≤◌, pos, true, false, if◌then◌else◌, List, [], ◌∷◌, length, map, Option, None, Some, IfSome, All}
 use Rattle.std.specs.Option.{is_some}
 use Rattle.def_iface.specs.declared.window_def.Stage.TheVariants.{Live}
 use Rattle.def_iface.specs.WindowMeaning.{WindowDefinition, WindowGoesBy}
@@ -19,6 +19,9 @@ use Rattle.control_mgr.specs.InUse.{AreStocked}
 use Rattle.control_mgr.specs.WholeControls.{AreWholeControls, IsTrackable}
 use Rattle.list_mgr.specs.GivenBars.{AreBarsGiven}
 use Rattle.list_mgr.specs.WholeLists.{AreWholeLists}
+use Rattle.text_record.specs.Texts.{Record}
+use Rattle.text_mgr.specs.TextDesks.{TextsState}
+use Rattle.text_mgr.specs.WholeTexts.{AreWholeTexts, IsSelectable}
 use Rattle.menu_list.specs.Lists.{has_number, is_in_bar}
 use Rattle.menu_mgr.specs.MenuDesks.{IsBarOf, MenuRecord, MenusState}
 use Rattle.menu_mgr.specs.WholeMenus.{AreMenusStocked}
@@ -86,17 +89,31 @@ IsPulledThere _ menus = Unit {0}
 abbrev pub IsTitleInBar : MenusState → Type 0
 IsTitleInBar menus = IfSome menus.highlighted (λ id. is_in_bar (pos id) menus.menus ≡ true)
 
--- the controls and the lists of a state are whole beside its windows, which show them, and have no other layers
+-- the controls, the lists and the text records of a state are whole beside its windows, which show them, and have no other
+-- layers
 pub record AreContentsRight (s : ToolboxState) : Type 0 where
   pub controls : AreWholeControls s.desk.windows.desk.windows s.controls
   pub lists : AreWholeLists s.desk.windows.desk.windows s.lists
+  pub texts : AreWholeTexts s.desk.windows.desk.windows s.texts
   pub known : AreLayersKnown s.desk.windows.desk.windows
   pub shown : ShowsControls (with_controls s)
 
+-- no selection reaches past its text, and that has no more bytes than it may have
+pub record IsHeld (r : Record) : Type 0 where
+  pub order : r.start ≤ r.end
+  pub within : r.end ≤ length r.text.bytes
+  pub short : length r.text.bytes ≤ 32000
+
+-- so of each text record, and the scrap has no more bytes than a text may have
+pub record AreRecords (s : TextsState) : Type 0 where
+  pub texts : All (λ t. IsHeld t.kept) s.texts
+  pub scrap : length s.scrap ≤ 32000
+
 -- a right state, in which the active window and the one last told active are ordinary windows of the desk, that of what is open
 -- is one of its windows, and only events of kinds that are posted are queued. Windows that float stand in front of the others. Each window's definition is live and knows how the window stands, and none
--- heard last that a go-away box is tracked which is not. Its controls and lists are whole, the control that is tracked is there,
--- and its windows show them. The scroll bars of each list have serials that controls were given, and two bars of one list have
+-- heard last that a go-away box is tracked which is not. Its controls, lists and text records are whole, the control that is
+-- tracked and the text record in which the mouse selects are there, and its windows show them. No selection reaches past its
+-- text, and no text and no scrap is too long. The scroll bars of each list have serials that controls were given, and two bars of one list have
 -- two. The menu bar has the titles of the menus that are inserted, no two menus have one number, and a highlighted title is in
 -- the bar. The menu that is pulled down is there, and each menu's definition goes by which of its items is highlighted. The
 -- stocks of windows and of menus have all definitions but those of the windows and menus that are there, as those of controls
@@ -114,6 +131,8 @@ pub record IsConsistent (s : ToolboxState) : Type 0 where
   pub tracked : All (IsTrackedIfHeard s.desk.activity) s.desk.windows.desk.windows
   pub contents : AreContentsRight s
   pub trackable : IsTrackable s.desk.activity s.controls.controls
+  pub selectable : IsSelectable s.desk.activity s.texts.texts
+  pub records : AreRecords s.texts
   pub bars : AreBarsGiven s.controls.next s.lists.lists
   pub bar : IsBarOf s.menus s.desk.windows.desk
   pub apart : AreMenusApart s.menus.menus
@@ -122,8 +141,8 @@ pub record IsConsistent (s : ToolboxState) : Type 0 where
   pub title : IsTitleInBar s.menus
   pub stocked : AreMenusStocked s.menus.menus s.menus.stock
 
--- a right state of a desk that just began: it has no windows, no controls, no lists and no menus, the stocks of all of them are
--- full, and nothing is open, told or queued
+-- a right state of a desk that just began: it has no windows, no controls, no lists, no text records and no menus, the stocks of
+-- all of them are full, nothing is in the scrap, and nothing is open, told or queued
 pub record IsJustBegun (s : ToolboxState) : Type 0 where
   pub right : IsRightState s.desk.windows
   pub windows : s.desk.windows.desk.windows ≡ []
@@ -137,6 +156,9 @@ pub record IsJustBegun (s : ToolboxState) : Type 0 where
   pub lists : s.lists.lists ≡ []
   pub next_list : s.lists.next ≡ Some 1
   pub listed : All IsListFull s.lists.stock
+  pub texts : s.texts.texts ≡ []
+  pub next_text : s.texts.next ≡ Some 1
+  pub scrap : s.texts.scrap ≡ []
   pub shown : ShowsControls (with_controls s)
   pub titles : s.desk.windows.desk.bar.titles ≡ []
   pub menus : s.menus.menus ≡ []

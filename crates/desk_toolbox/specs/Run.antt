@@ -30,6 +30,9 @@ use Rattle.desk_call.specs.declared.nature.Asked.TheVariants.{WindowAt, ControlA
 use Rattle.desk_call.specs.declared.outline.OutlineCall.{OutlineCall}
 use Rattle.desk_call.specs.declared.outline.OutlineReply.{OutlineReply}
 use Rattle.desk_call.specs.declared.outline.OutlineReply.TheVariants.{Shown}
+use Rattle.desk_call.specs.declared.text.TextCall.{TextCall}
+use Rattle.desk_call.specs.declared.text.TextReply.{TextReply}
+use Rattle.desk_call.specs.declared.text.TextReply.TheVariants as text_reply
 use Rattle.desk_call.specs.declared.update.UpdateCall.{UpdateCall}
 use Rattle.desk_call.specs.declared.window.MoveWindow.{MoveWindow}
 use Rattle.desk_call.specs.declared.window.WindowCall.{WindowCall}
@@ -62,11 +65,14 @@ use Rattle.list_mgr.specs.ListClosing.{AreListsOfLeft}
 use Rattle.list_mgr.specs.ListDesks.{KeptList, ListsState, lists_show}
 use Rattle.list_mgr.specs.ListRefusals.{bars_wanted, list_form_refusals}
 use Rattle.list_mgr.specs.ListSteps.{IsListStep}
+use Rattle.text_mgr.specs.TextDesks.{KeptText, TextsState, texts_show}
+use Rattle.text_mgr.specs.TextSteps.{IsTextStep}
 use Rattle.menu_mgr.specs.MenuRefusals.{menu_form_refusals}
 use Rattle.menu_mgr.specs.MenuSteps.{IsMenuStep}
 use Rattle.desk_toolbox.specs.EventSteps.{event_step, events_left}
 use Rattle.desk_toolbox.specs.Fronts.{is_on_menu}
-use Rattle.desk_toolbox.specs.ToolboxStates.{ToolboxState, IsToolboxUnchanged, with_controls, with_lists, with_menus}
+use Rattle.desk_toolbox.specs.TextsLeft.{AreTextsOfLeft}
+use Rattle.desk_toolbox.specs.ToolboxStates.{ToolboxState, IsToolboxUnchanged, with_controls, with_lists, with_menus, with_texts}
 
 -- ---- one step
 
@@ -84,6 +90,7 @@ pub record IsEventAnswer (call : EventCall) (result : Result EventReply Refusal)
   pub desk : IsDeskUnchanged before.desk after.desk
   pub controls : after.controls ≡ before.controls
   pub lists : after.lists ≡ before.lists
+  pub texts : after.texts ≡ before.texts
   pub menus : after.menus ≡ before.menus
   pub update : Option ℕ
   pub first : IsFirstToUpdate before.desk update
@@ -94,6 +101,7 @@ pub record IsRestKept (before after : ToolboxState) : Type 0 where
   pub events : after.events ≡ before.events
   pub controls : after.controls ≡ before.controls
   pub lists : after.lists ≡ before.lists
+  pub texts : after.texts ≡ before.texts
   pub menus : after.menus ≡ before.menus
 
 -- the controls of a window that was disposed of go with it, and all others stay
@@ -106,21 +114,27 @@ abbrev pub AreListsLeft : WindowCall → ListsState → ListsState → Type 0
 AreListsLeft (Dispose s) before after = AreListsOfLeft s before after
 AreListsLeft _ before after = after ≡ before
 
--- the windows, showing these controls and lists
-abbrev pub shown_with : List ControlRecord → List KeptList → FullState → FullState
-shown_with cs ls s = state_showing (controls_show (lists_show (λ font. all_white) ls) cs) s
+-- and its text records
+abbrev pub AreTextsLeft : WindowCall → TextsState → TextsState → Type 0
+AreTextsLeft (Dispose s) before after = AreTextsOfLeft s before after
+AreTextsLeft _ before after = after ≡ before
+
+-- the windows, showing these controls, lists and text records
+abbrev pub shown_with : List ControlRecord → List KeptList → List KeptText → FullState → FullState
+shown_with cs ls ts s = state_showing (controls_show (lists_show (texts_show (λ font. all_white) ts) ls) cs) s
 
 -- a call on windows that was done: then definitions were told how their windows stand, and a window that is gone is forgotten,
--- with its controls and its lists
+-- with its controls, its lists and its text records
 pub record IsWindowDone (call : WindowCall) (answer : WindowReply) (before after : ToolboxState) : Type 0 where
   pub middle : DeskState
   pub answered : IsWindowAnswered call (Ok answer) before.desk middle
   pub told : FullState
   pub activity : SameActivity middle after.desk
   pub caught_up : IsCaughtUpBy (window_standing call) middle.windows told
-  pub shown : after.desk.windows ≡ shown_with after.controls.controls after.lists.lists told
+  pub shown : after.desk.windows ≡ shown_with after.controls.controls after.lists.lists after.texts.texts told
   pub controls : AreControlsLeft call before.controls after.controls
   pub lists : AreListsLeft call before.lists after.lists
+  pub texts : AreTextsLeft call before.texts after.texts
   pub events : after.events ≡ events_left call before.events
   pub menus : after.menus ≡ before.menus
 
@@ -155,11 +169,12 @@ IsWindowTold true call result before after = (result ≡ Ok found_menu) × IsToo
 abbrev pub is_hidden_by_menu : ControlCall → ToolboxState → Bool
 is_hidden_by_menu call s = is_behind_menu (control_asks call) s
 
--- a call about controls leaves the events, the lists and the menus as they are, and is a step of the controls
+-- a call about controls leaves the events, the lists, the text records and the menus as they are, and is a step of the controls
 pub record IsControlAnswer (call : ControlCall) (result : Result ControlReply Refusal) (before after : ToolboxState) : Type 0 where
   pub step : IsControlStep call result (with_controls before) (with_controls after)
   pub events : after.events ≡ before.events
   pub lists : after.lists ≡ before.lists
+  pub texts : after.texts ≡ before.texts
   pub menus : after.menus ≡ before.menus
 
 -- a call about controls, where the pulled menu lies or not
@@ -167,18 +182,29 @@ abbrev pub IsControlTold : Bool → ControlCall → Result ControlReply Refusal 
 IsControlTold false call result before after = IsControlAnswer call result before after
 IsControlTold true call result before after = (result ≡ Ok (control_reply.Found None)) × IsToolboxUnchanged before after
 
--- a call about lists leaves the events and the menus as they are, and is a step of the lists
+-- a call about lists leaves the events, the text records and the menus as they are, and is a step of the lists
 pub record IsListAnswer (call : ListCall) (result : Result ListReply Refusal) (before after : ToolboxState) : Type 0 where
   pub step : IsListStep call result (with_lists before) (with_lists after)
   pub events : after.events ≡ before.events
+  pub texts : after.texts ≡ before.texts
   pub menus : after.menus ≡ before.menus
 
--- a call about menus leaves the events, the controls and the lists as they are, and is a step of the menus
+-- a call about text records leaves the events, the controls, the lists and the menus as they are, and is a step of the text
+-- records
+pub record IsTextAnswer (call : TextCall) (result : Result TextReply Refusal) (before after : ToolboxState) : Type 0 where
+  pub step : IsTextStep call result (with_texts before) (with_texts after)
+  pub events : after.events ≡ before.events
+  pub controls : after.controls ≡ before.controls
+  pub lists : after.lists ≡ before.lists
+  pub menus : after.menus ≡ before.menus
+
+-- a call about menus leaves the events, the controls, the lists and the text records as they are, and is a step of the menus
 pub record IsMenuAnswer (call : MenuCall) (result : Result MenuReply Refusal) (before after : ToolboxState) : Type 0 where
   pub step : IsMenuStep call result (with_menus before) (with_menus after)
   pub events : after.events ≡ before.events
   pub controls : after.controls ≡ before.controls
   pub lists : after.lists ≡ before.lists
+  pub texts : after.texts ≡ before.texts
 
 -- the answer of a manager, as one of the Toolbox
 abbrev pub replied : {R : Type 0} → (R → Reply) → Result R Refusal → Result Reply Refusal
@@ -224,6 +250,8 @@ IsAdmitted (Control call) result before after =
     (own : Result ControlReply Refusal) × (result ≡ replied reply.Control own) × IsControlTold (is_hidden_by_menu call before) call own before after
 IsAdmitted (asks.List call) result before after =
     (own : Result ListReply Refusal) × (result ≡ replied reply.List own) × IsListAnswer call own before after
+IsAdmitted (asks.Text call) result before after =
+    (own : Result TextReply Refusal) × (result ≡ replied reply.Text own) × IsTextAnswer call own before after
 IsAdmitted (Menu call) result before after =
     (own : Result MenuReply Refusal) × (result ≡ replied reply.Menu own) × IsMenuAnswer call own before after
 IsAdmitted (Outline call) result before after =
@@ -238,6 +266,7 @@ IsFormFault (Update call) before form = IsUpdateForm call form
 IsFormFault (Frame call) before form = form ≡ None
 IsFormFault (Control call) before form = form ≡ first_refusal (control_form_refusals call before.controls.stock)
 IsFormFault (asks.List call) before form = form ≡ first_refusal (list_form_refusals call before.lists.stock before.controls.stock)
+IsFormFault (asks.Text call) before form = form ≡ None
 IsFormFault (Menu call) before form = form ≡ first_refusal (menu_form_refusals call before.menus.stock)
 IsFormFault (Outline call) before form = form ≡ None
 IsFormFault (Event call) before form = form ≡ None
@@ -282,6 +311,7 @@ made (Ok (reply.Window answer) ∷ answers) = serial_made answer ++ made answers
 made (Ok (reply.Frame answer) ∷ answers) = made answers
 made (Ok (reply.Control answer) ∷ answers) = made answers
 made (Ok (reply.List answer) ∷ answers) = made answers
+made (Ok (reply.Text answer) ∷ answers) = made answers
 made (Ok (reply.Menu answer) ∷ answers) = made answers
 made (Ok (reply.Outline answer) ∷ answers) = made answers
 made (Ok (reply.Event answer) ∷ answers) = made answers
@@ -304,10 +334,29 @@ lists_made (Ok (reply.Window answer) ∷ answers) = lists_made answers
 lists_made (Ok (reply.Frame answer) ∷ answers) = lists_made answers
 lists_made (Ok (reply.Control answer) ∷ answers) = lists_made answers
 lists_made (Ok (reply.List answer) ∷ answers) = list_serial answer ++ lists_made answers
+lists_made (Ok (reply.Text answer) ∷ answers) = lists_made answers
 lists_made (Ok (reply.Menu answer) ∷ answers) = lists_made answers
 lists_made (Ok (reply.Outline answer) ∷ answers) = lists_made answers
 lists_made (Ok (reply.Event answer) ∷ answers) = lists_made answers
 lists_made (Err e ∷ answers) = lists_made answers
+
+-- the serial of the text record that was made, if one was
+abbrev pub text_serial : TextReply → List ℕ
+text_serial (text_reply.Text n) = n ∷ []
+text_serial _ = []
+
+-- the serials of the text records that were made
+abbrev pub texts_made : List (Result Reply Refusal) → List ℕ
+texts_made [] = []
+texts_made (Ok (reply.Window answer) ∷ answers) = texts_made answers
+texts_made (Ok (reply.Frame answer) ∷ answers) = texts_made answers
+texts_made (Ok (reply.Control answer) ∷ answers) = texts_made answers
+texts_made (Ok (reply.List answer) ∷ answers) = texts_made answers
+texts_made (Ok (reply.Text answer) ∷ answers) = text_serial answer ++ texts_made answers
+texts_made (Ok (reply.Menu answer) ∷ answers) = texts_made answers
+texts_made (Ok (reply.Outline answer) ∷ answers) = texts_made answers
+texts_made (Ok (reply.Event answer) ∷ answers) = texts_made answers
+texts_made (Err e ∷ answers) = texts_made answers
 
 -- so do these, some of which were told, and others taken and not told, as the scroll bars of a list take theirs
 abbrev pub AreCountedAlong : Option ℕ → List (Option ℕ) → Type 0

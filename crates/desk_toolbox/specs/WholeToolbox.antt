@@ -20,6 +20,8 @@ use Rattle.control_mgr.specs.WholeControls.{AreWholeControls, IsTrackable, contr
 use Rattle.list_mgr.specs.ListDesks.{lists_show}
 use Rattle.list_mgr.specs.WholeLists.{AreWholeLists, lists_state}
 use Rattle.list_mgr.specs.WholeLists as lists
+use Rattle.text_mgr.specs.TextDesks.{texts_show}
+use Rattle.text_mgr.specs.WholeTexts.{AreWholeTexts, IsSelectable, texts_state}
 use Rattle.menu_mgr.specs.WholeMenus.{AreLive, IsPlaced, IsWholeMenus, menus_of, menus_state}
 use Rattle.desk_toolbox.specs.declared.toolbox.Toolbox.{Toolbox}
 use Rattle.desk_toolbox.specs.FrontMaps.{IsFrontRight}
@@ -39,14 +41,17 @@ module _ {V : Type 0} {H : V → Type 0} (loan : TakenBox V H → WindowLoan) {W
     pub menus : IsWholeMenus menu_loan t.activity t.menus stocks.menus
     pub front : IsFrontRight menu_loan t.activity t.windows t.menus t.front
     pub lists : AreWholeLists (desk_of loan t.windows []).windows (lists_state list_loan t.lists stocks.lists)
+    pub texts : AreWholeTexts (desk_of loan t.windows []).windows (texts_state t.texts)
+    pub selectable : IsSelectable t.activity t.texts.list.items.items
     pub known : AreLayersKnown (desk_of loan t.windows []).windows
 
-  -- its state: what its windows show of controls and lists is what these show
+  -- its state: what its windows show of controls, lists and text records is what these show
   abbrev pub toolbox_state : Toolbox V U W X H J K L → AllSlots → ToolboxState
   toolbox_state t stocks = record {
-    desk = desk_with (opened t.activity t.updates) (state_showing (controls_show (lists_show (λ font. all_white) (lists.records_of list_loan t.lists)) (records_of control_loan t.controls)) (state_of loan t.windows stocks.windows));
+    desk = desk_with (opened t.activity t.updates) (state_showing (controls_show (lists_show (texts_show (λ font. all_white) t.texts.list.items.items) (lists.records_of list_loan t.lists)) (records_of control_loan t.controls)) (state_of loan t.windows stocks.windows));
     controls = controls_state control_loan t.controls stocks.controls;
     lists = lists_state list_loan t.lists stocks.lists;
+    texts = texts_state t.texts;
     menus = menus_state menu_loan t.menus stocks.menus;
     events = t.events;
   }

@@ -3,30 +3,33 @@ ghost use Rattle.std.specs.Prelude.{◌≡◌, [], None, OnErr};
 ghost use Rattle.def_iface.specs.Stocks.{AllSlots};
 ghost use Rattle.desk_call.specs.declared.call.Call.TheVariants as calls;
 ghost use Rattle.desk_call.specs.declared.window.WindowCall.{WindowCall as Named};
-ghost use Rattle.desk_call.specs.Gates.{control_standing, gate, list_standing, standing_of, update_standing, window_standing};
+ghost use Rattle.desk_call.specs.Gates.{control_standing, gate, list_standing, standing_of, text_standing, update_standing, window_standing};
 ghost use Rattle.desk_call.specs.Natures.{control_asks, nature_of, window_ends, window_nature};
 ghost use Rattle.control_mgr.specs.InUse.{AreStocked};
 ghost use Rattle.control_mgr.specs.WholeControls.{AreLiveControls, slots_of};
 ghost use Rattle.list_mgr.specs.WholeLists.{AreLiveLists};
 ghost use Rattle.list_mgr.specs.WholeLists as whole_lists;
+ghost use Rattle.text_mgr.specs.WholeTexts.{texts_state};
 ghost use Rattle.window_frame.specs.Followers.{AreInformed};
 ghost use Rattle.desk_toolbox.specs.Economy.{IsQuietRefusal};
 ghost use Rattle.desk_toolbox.specs.EventSteps.{events_left};
-ghost use Rattle.desk_toolbox.specs.Run.{AreControlsLeft, AreListsLeft, IsAdmitted, IsControlTold, IsEventAnswer};
-ghost use Rattle.desk_toolbox.specs.Run.{IsFormFault, IsListAnswer, IsUpdateTold, IsWindowTold, is_behind_menu};
+ghost use Rattle.desk_toolbox.specs.Run.{AreControlsLeft, AreListsLeft, AreTextsLeft, IsAdmitted, IsControlTold, IsEventAnswer};
+ghost use Rattle.desk_toolbox.specs.Run.{IsFormFault, IsListAnswer, IsTextAnswer, IsUpdateTold, IsWindowTold, is_behind_menu};
 ghost use Rattle.desk_toolbox.specs.Run.{is_covered, is_hidden_by_menu, is_under_menu};
 ghost use Rattle.desk_toolbox.specs.ToolboxStates.{ToolboxState};
 
 use crate::events::Events;
 use crate::{
-    Call, ControlCall, ControlReply, Desk, EventCall, EventReply, Found, ListCall, ListReply,
-    PointInWindow, Reply, Toolbox, UpdateCall, WindowCall, WindowPart, WindowReply,
+    Call, Contents, ControlCall, ControlReply, Desk, EventCall, EventReply, Found, ListCall,
+    ListReply, PointInWindow, Reply, TextCall, TextReply, Toolbox, UpdateCall, WindowCall,
+    WindowPart, WindowReply,
 };
 use control_mgr::{Controls, ControlsOnStock};
 use def_iface::{ControlStock, ListStock, Stock, Stocked, StockedAll, TakenControl, TakenList};
 use desk_call::{Asked, Nature};
-use list_mgr::{Contents, Lists, ListsOnStock};
+use list_mgr::{Lists, ListsOnStock};
 use tb_geom::Refusal;
+use text_mgr::Texts;
 use window_frame::follow;
 use window_list::picture_place;
 use window_mgr::{DeskWindows, WindowManager, form_refusal};
@@ -61,6 +64,7 @@ impl Toolbox {
                 .control_call(call, nature.asks, stock)
                 .map(Reply::Control),
             Call::List(call) => self.list_call(call, stock).map(Reply::List),
+            Call::Text(call) => self.text_call(call).map(Reply::Text),
             Call::Menu(call) => self
                 .menus
                 .perform(
@@ -116,6 +120,7 @@ impl Toolbox {
                     &mut self.events,
                     &mut self.controls,
                     &mut self.lists,
+                    &mut self.texts,
                     &mut stock.controls,
                     &mut stock.lists,
                 );
@@ -153,6 +158,7 @@ impl Toolbox {
         let contents = Contents {
             controls: &self.controls,
             lists: &self.lists,
+            texts: &self.texts,
         };
         self.updates
             .perform(&mut self.windows, &mut self.activity, call, &contents)
@@ -221,6 +227,23 @@ impl Toolbox {
         )
     }
 
+    /// Answers a call about text records.
+    fn text_call(&mut self, call: &TextCall<'_>) -> Result<TextReply, Refusal>
+        requires kept { ⟦<Self as Desk>⟧.IsKept self.old }
+        requires admitted { gate self.old.activity (text_standing call.now) ≡ None }
+        ensures whole { (stocks : AllSlots)
+            → ⟦<Self as Desk>⟧.IsWholeOver self.old stocks
+            → ⟦<Self as Desk>⟧.HasWholeManagersOver self.new stocks }
+        ensures step { (stocks : AllSlots)
+            → ⟦<Self as Desk>⟧.IsWholeOver self.old stocks
+            → IsTextAnswer call.now result
+            (⟦<Self as Desk>⟧.state_over self.old stocks)
+            (⟦<Self as Desk>⟧.state_over self.new stocks) }
+    {
+        self.texts
+            .perform(&mut self.windows, &mut self.activity, call)
+    }
+
     /// Answers a call about events.
     fn answer_event(&mut self, call: EventCall) -> Result<EventReply, Refusal>
         requires { ⟦<Self as Desk>⟧.IsKept self.old }
@@ -237,12 +260,14 @@ impl Toolbox {
     }
 }
 
-/// Forgets the window that is gone once a call was done: no event tells of it any more, and its controls and its lists go with it.
+/// Forgets the window that is gone once a call was done: no event tells of it any more, and its controls, its lists and its
+/// text records go with it.
 fn forget(
     ends: Option<u64>,
     events: &mut Events,
     controls: &mut Controls<TakenControl>,
     lists: &mut Lists<TakenList>,
+    texts: &mut Texts,
     control_stock: &mut ControlStock,
     list_stock: &mut ListStock,
 )
@@ -261,11 +286,14 @@ fn forget(
     ensures lists { (call : Named) → window_ends call ≡ ends → AreListsLeft call
         (⟦<Lists<TakenList> as ListsOnStock>⟧.state lists.old list_stock.old)
         (⟦<Lists<TakenList> as ListsOnStock>⟧.state lists.new list_stock.new) }
+    ensures texts { (call : Named) → window_ends call ≡ ends
+        → AreTextsLeft call (texts_state texts.old) (texts_state texts.new) }
 {
     if let Some(window) = ends {
         events.forget(window);
         controls.end_of(window, control_stock);
         lists.end_of(window, list_stock);
+        texts.end_of(window);
     }
 }
 
@@ -282,6 +310,6 @@ pub fn form_refusal_of(call: &Call<'_>, stock: &Stock) -> Option<Refusal>
         Call::Control(call) => control_mgr::form_refusal(call, &stock.controls),
         Call::List(call) => list_mgr::form_refusal(call, &stock.lists, &stock.controls),
         Call::Menu(call) => menu_mgr::form_refusal(call, &stock.menus),
-        Call::Frame(_) | Call::Outline(_) | Call::Event(_) => None,
+        Call::Frame(_) | Call::Text(_) | Call::Outline(_) | Call::Event(_) => None,
     }
 }

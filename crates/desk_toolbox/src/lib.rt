@@ -2,7 +2,7 @@
 //!
 //! A `Call` says which manager it is for. What each does, its manager says (`window_mgr` for windows, `window_update` for
 //! update regions, `window_frame` for titles, highlighting and go-away boxes, `window_outline` for outlines, `control_mgr` for
-//! controls, `list_mgr` for lists, `menu_mgr` for menus, `event_queue` for events); here steps are strung together (`Run`). What
+//! controls, `list_mgr` for lists, `text_mgr` for text records, `menu_mgr` for menus, `event_queue` for events); here steps are strung together (`Run`). What
 //! follows of every step and run, `desk_laws` says.
 //!
 //! At most one thing is open at a time. Whether a call may come then, one table says for every call (`desk_call`'s `gate`):
@@ -17,23 +17,27 @@
 #![tactic(auto)]
 
 mod answering;
+mod contents;
 mod desk;
 mod events;
 mod outlining;
 mod toolbox;
 
 pub use answering::form_refusal_of;
+pub use contents::Contents;
 pub use desk::Desk;
 pub use desk_call::{
-    Activity, AppendItems, AreaRef, Call, CheckItem, Choice, ControlCall, ControlInfo,
+    Activity, AppendItems, AreaRef, Call, CheckItem, Choice, ClickText, ControlCall, ControlInfo,
     ControlNumber, ControlOf, ControlReply, ControlTitle, DragWindow, DraggedWindow, Drawing,
     EventCall, EventReply, FlushEvents, Found, FoundControl, FrameCall, FrameReply, GoAwayPoint,
     GrowWindow, GrownWindow, HiliteWindow, InsertMenu, ItemOfMenu, ItemText, LayerDraw, LayerKind,
     ListCall, ListReply, MenuCall, MenuReply, MoveControl, MoveWindow, NewControl, NewMenu,
-    NewPicture, NewTitle, NewWindow, OutlineCall, OutlineReply, PictureRef, PointAtControl,
-    PointInWindow, PostEvent, PulledMenu, Reply, ScrollPicture, SendBehind, ShowHide, SizeControl,
-    SizeLimits, SizeWindow, TrackedControl, UpdateCall, WindowArea, WindowCall, WindowInfo,
-    WindowPart, WindowReply, Zoom, ZoomWindow,
+    NewPicture, NewText, NewTitle, NewWindow, OutlineCall, OutlineReply, PictureRef, PlaceText,
+    PointAtControl, PointInText, PointInWindow, PostEvent, PulledMenu, Reply, ScrollPicture,
+    ScrollText, SelectText, SelectedText, SendBehind, ShowHide, SizeControl, SizeLimits,
+    SizeWindow, TextBytes, TextCall, TextFlag, TextInfo, TextNumber, TextOf, TextPlace, TextReply,
+    TrackedControl, UpdateCall, WindowArea, WindowCall, WindowInfo, WindowPart, WindowReply, Zoom,
+    ZoomWindow,
 };
 pub use toolbox::Toolbox;
 pub use window_mgr::NotBegun;

@@ -25,23 +25,25 @@ ghost use Rattle.desk_toolbox.specs.ToolboxStates.{IsToolboxUnchanged};
 
 use crate::answering::form_refusal_of;
 use crate::events::Events;
-use crate::{Activity, Call, Desk, Reply};
+use crate::{Activity, Call, Contents, Desk, Reply};
 use bit_map::BitMap;
 use control_mgr::Controls;
 use def_iface::{Stock, StockedAll, TakenControl, TakenList};
 use desk_ground::is_screen;
-use list_mgr::{Contents, Lists};
+use list_mgr::Lists;
 use menu_list::MenuList;
 use menu_mgr::Menus;
 use overlay::Overlay;
 use std::alloc::{AllocError, Global};
 use strike_font::Font;
 use tb_geom::{Rect, Refusal};
+use text_mgr::Texts;
 use window_list::{Ranks, WindowList};
 use window_mgr::{DeskWindows, NotBegun, WindowManager};
 use window_update::Updates;
 
-/// A desk: its screen, its windows with their controls and lists, what of them has to be drawn, its menus, what is open, and the events that are to be told.
+/// A desk: its screen, its windows with their controls, lists and text records, what of them has to be drawn, its menus, what is
+/// open, and the events that are to be told.
 #[derive(Drop)]
 pub struct Toolbox {
     pub(crate) alloc: Global,
@@ -54,6 +56,8 @@ pub struct Toolbox {
     pub(crate) front: Overlay,
     /// The lists of its windows.
     pub(crate) lists: Lists<TakenList>,
+    /// The text records of its windows, and the scrap.
+    pub(crate) texts: Texts,
     /// What is open between its begin and its end.
     pub(crate) activity: Activity,
     pub(crate) updates: Updates,
@@ -148,6 +152,8 @@ impl Toolbox {
         ensures menus { IfOk result (λ t. t.menus ≡ parts.menus) }
         ensures controls { IfOk result (λ t. (t.controls.list.items.items ≡ []) × (t.controls.list.next ≡ Some 1)) }
         ensures lists { IfOk result (λ t. (t.lists.list.items.items ≡ []) × (t.lists.list.next ≡ Some 1)) }
+        ensures texts { IfOk result (λ t. (t.texts.list.items.items ≡ [])
+            × ((t.texts.list.next ≡ Some 1) × (t.texts.scrap ≡ []))) }
         ensures whole { IfOk result (λ t. (stocks : AllSlots) → AreAllFull stocks
             → ⟦<Self as Desk>⟧.IsWholeOver t stocks) }
         ensures in_range { IfOk result (λ t. screens.is_screen width height bar ≡ true) }
@@ -169,6 +175,7 @@ impl Toolbox {
                 menus,
                 front,
                 lists: Lists::new(alloc),
+                texts: Texts::new(alloc),
                 activity: Activity::Idle,
                 updates,
                 events,
@@ -215,13 +222,22 @@ impl Toolbox {
         &self.lists
     }
 
-    /// Its controls and its lists, as its windows show them.
+    /// Its text records, to be read.
+    pub fn texts(&self) -> &Texts
+        ensures { result.now ≡ self.now.texts }
+    {
+        &self.texts
+    }
+
+    /// Its controls, its lists and its text records, as its windows show them.
     pub fn contents(&self) -> Contents<'_, TakenControl, TakenList>
-        ensures { (result.controls.now ≡ self.now.controls) × (result.lists.now ≡ self.now.lists) }
+        ensures { (result.controls.now ≡ self.now.controls)
+            × ((result.lists.now ≡ self.now.lists) × (result.texts.now ≡ self.now.texts)) }
     {
         Contents {
             controls: &self.controls,
             lists: &self.lists,
+            texts: &self.texts,
         }
     }
 
@@ -310,6 +326,7 @@ impl Toolbox {
         let contents = Contents {
             controls: &self.controls,
             lists: &self.lists,
+            texts: &self.texts,
         };
         self.updates
             .pixels_right(&self.windows, window, rect, &contents)

@@ -4,10 +4,10 @@ use Rattle.std.specs.Option.{ok_or}
 use Rattle.tb_geom.specs.declared.refusal.Refusal.{Refusal}
 use Rattle.tb_geom.specs.declared.refusal.Refusal.TheVariants.{BadSyntax, NoSuchName}
 use Rattle.line_words.specs.Hex.{hex_of}
-use Rattle.line_words.specs.Words.{◌>>=◌, Field, word_at, number_said, number_at, flag_of, flag_at, with_rest, name_at, hex_at, text_at}
-use Rattle.line_words.specs.Shapes.{Shape, ends, never, number, flag, text, name, hex, reading}
+use Rattle.line_words.specs.Words.{◌>>=◌, Field, word_at, number_said, number_at, flag_of, flag_at, with_rest, name_at, hex_at, text_at, bytes_at}
+use Rattle.line_words.specs.Shapes.{Shape, ends, never, number, flag, text, name, hex, bytes, reading}
 use Rattle.line_words.specs.Spelling.{IsSpelled}
-use Rattle.line_words.proofs.WordLemmas.{HasWord, WordCases, NumberCases, FlagCases, NameCases, HexCases, TextCases, word-cases, number-cases, number_at-at, flag-cases, flag_at-at, name-cases, name_at-at, hex-cases, hex_at-at, text-cases, text_at-at}
+use Rattle.line_words.proofs.WordLemmas.{HasWord, WordCases, NumberCases, FlagCases, NameCases, HexCases, TextCases, BytesCases, word-cases, number-cases, number_at-at, flag-cases, flag_at-at, name-cases, name_at-at, hex-cases, hex_at-at, text-cases, text_at-at, bytes-cases, bytes_at-at}
 
 -- what is read of this shape is in the grammar, or it is bad syntax
 abbrev pub Reads : {A : Type 0} → Shape A → Option (List ℕ) → Result A Refusal → Type 0
@@ -58,6 +58,11 @@ text-reads : {A : Type 0} (next : List ℕ → Shape A) (ih : ReadsOn next) (res
 text-reads next ih rest (Ok p) h = elim (ih p.0 p.1) [ inl s ↦ inl (p.0, p.1, h.is, h.plain, s) | inr e ↦ inr e ]
 text-reads next ih rest (Err e) h = inr (ap (λ x. Err x) h)
 
+bytes-reads : {A : Type 0} (next : List ℕ → Shape A) (ih : ReadsOn next) (rest : Option (List ℕ)) (w : Field (List ℕ)) → BytesCases rest w
+    → Reads (bytes next) rest (w >>= λ x. reading (next x.0) x.1)
+bytes-reads next ih rest (Ok p) h = elim (ih p.0 p.1) [ inl s ↦ inl (h.word, p.1, p.0, h.is, h.bytes, s) | inr e ↦ inr e ]
+bytes-reads next ih rest (Err e) h = inr (ap (λ x. Err x) h)
+
 -- what is read is in the grammar
 pub reads : {A : Type 0} (s : Shape A) (rest : Option (List ℕ)) → Reads s rest (reading s rest)
 unfolding number_at flag_at hex_at
@@ -66,8 +71,9 @@ reads (ends said) (Some rest) = inr refl
 reads never rest = inr refl
 reads (number next) rest = number-word next (λ z more. reads (next z) more) rest (word_at rest) (word-cases rest)
 reads (flag next) rest = flag-word next (λ b more. reads (next b) more) rest (word_at rest) (word-cases rest)
-reads (hex next) rest = hex-word next (λ bytes more. reads (next bytes) more) rest (word_at rest) (word-cases rest)
+reads (hex next) rest = hex-word next (λ said more. reads (next said) more) rest (word_at rest) (word-cases rest)
 reads (text next) rest = text-reads next (λ t more. reads (next t) more) rest (text_at rest) (text-cases rest)
+reads (bytes next) rest = bytes-reads next (λ said more. reads (next said) more) rest (bytes_at rest) (bytes-cases rest)
 reads (name next) rest = name-reads next (λ t more. reads (next t) more) rest (name_at rest) (name-cases rest)
 
 -- what is in the grammar is read
@@ -77,7 +83,8 @@ spelled never rest r h = absurd h
 spelled (number next) rest r (word, more, z, e, n, h) = rw (e, number_at-at word more z n) (spelled (next z) more r h)
 spelled (flag next) rest r (word, more, b, e, n, h) = rw (e, flag_at-at word more b n) (spelled (next b) more r h)
 spelled (text next) rest r (t, more, e, n, h) = rw (e, text_at-at t more n) (spelled (next t) more r h)
-spelled (hex next) rest r (word, more, bytes, e, n, h) = rw (e, hex_at-at word more bytes n) (spelled (next bytes) more r h)
+spelled (hex next) rest r (word, more, said, e, n, h) = rw (e, hex_at-at word more said n) (spelled (next said) more r h)
+spelled (bytes next) rest r (word, more, said, e, n, h) = rw (e, bytes_at-at word more said n) (spelled (next said) more r h)
 spelled (name next) rest r (word, more, e, n, h) = rw (e, name_at-at word more n) (spelled (next word) more r h)
 
 -- a name is known or not
@@ -93,4 +100,5 @@ says-or-unknown (number next) rest r (word, more, z, e, n, h) = says-or-unknown 
 says-or-unknown (flag next) rest r (word, more, b, e, n, h) = says-or-unknown (next b) more r h
 says-or-unknown (name next) rest r (word, more, e, n, h) = says-or-unknown (next word) more r h
 says-or-unknown (text next) rest r (t, more, e, n, h) = says-or-unknown (next t) more r h
-says-or-unknown (hex next) rest r (word, more, bytes, e, n, h) = says-or-unknown (next bytes) more r h
+says-or-unknown (hex next) rest r (word, more, said, e, n, h) = says-or-unknown (next said) more r h
+says-or-unknown (bytes next) rest r (word, more, said, e, n, h) = says-or-unknown (next said) more r h

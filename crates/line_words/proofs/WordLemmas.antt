@@ -1,5 +1,5 @@
 -- Reading a word gives what it stands for, and nothing else.
-use Rattle.std.proofs.Common.{◌≡◌, ℕ, suc, cond, ℤ, pos, neg_ℤ, inl, inr, Bool, true, false, List, [], ◌∷◌, ◌++◌, ◌+◌, ◌-◌, ◌==◌, not, length, take, drop, position, Option, Some, None, option_map, Ok, Err, refl, sym, ap, ◌∙◌, subst, append-nil, arith, if◌then◌else◌}
+use Rattle.std.proofs.Common.{◌≡◌, ℕ, suc, cond, ℤ, pos, neg_ℤ, inl, inr, Bool, true, false, List, [], ◌∷◌, ◌++◌, ◌+◌, ◌-◌, ◌==◌, not, length, take, drop, position, Option, Some, None, option_map, Ok, Err, refl, sym, ap, ◌∙◌, subst, append-nil, append_assoc, arith, if◌then◌else◌}
 use Rattle.std.specs.Char.{is_ascii_alphabetic, is_ascii_alphanumeric, is_ascii_hexdigit}
 use Rattle.std.specs.Prelude.{nat_lt}
 use Rattle.std.specs.List.{list_all, position_or_len}
@@ -7,8 +7,8 @@ use Rattle.std.proofs.lemmas.List.{take_rest, drop-drop}
 use Rattle.std.proofs.lemmas.Bool.{eq-eqb, ne_eqb, cases_Bool, and_parts, cases_eq}
 use Rattle.tb_geom.specs.declared.refusal.Refusal.TheVariants.{BadSyntax}
 use Rattle.line_words.specs.Hex.{is_hex_text, hex_of}
-use Rattle.line_words.specs.Words.{◌>>=◌, Field, split_at, parts, word_at, is_digit, is_number_text, digits_value, digits_of, number_said, number_at, flag_of, flag_at, is_name, name_at, hex_at, is_plain, quoted_at, quoted_parts, after_quote, text_at}
-use Rattle.line_words.specs.Forms.{follows, HasNo, IsDigits, IsNumber, IsFlag, IsName, IsPlainText, IsHex}
+use Rattle.line_words.specs.Words.{◌>>=◌, Field, split_at, parts, word_at, is_digit, is_number_text, digits_value, digits_of, number_said, number_at, flag_of, flag_at, is_name, name_at, hex_at, is_plain, quoted_at, quoted_parts, after_quote, text_at, with_rest, begins_text, bytes_at}
+use Rattle.line_words.specs.Forms.{follows, HasNo, IsDigits, IsNumber, IsFlag, IsName, IsPlainText, IsHex, IsBytes}
 
 -- the first mark: where it is, or that there is none
 abbrev Splits : ℕ → List ℕ → Option (List ℕ × List ℕ) → Type 0
@@ -318,3 +318,53 @@ after-at t (Some more) = refl
 pub text_at-at : (t : List ℕ) (more : Option (List ℕ)) → IsPlainText t → text_at (Some (34 ∷ (t ++ 34 ∷ follows more))) ≡ Ok (t, more)
 unfolding text_at quoted_at
 text_at-at t more h = ap quoted_parts (split_at-mark 34 t (follows more) h.1) ∙ rw h.0 (after-at t more)
+
+-- Bytes: a text or hex digits.
+
+-- what is left is a word of these bytes and this after it
+pub record HasBytes (rest : Option (List ℕ)) (p : List ℕ × Option (List ℕ)) : Type 0 where
+  pub word : List ℕ
+  pub is : rest ≡ Some (word ++ follows p.1)
+  pub bytes : IsBytes word p.0
+
+-- what is read is in the grammar
+abbrev pub BytesCases : Option (List ℕ) → Field (List ℕ) → Type 0
+BytesCases rest (Ok p) = HasBytes rest p
+BytesCases rest (Err e) = e ≡ BadSyntax
+
+text-bytes : (rest : Option (List ℕ)) (w : Field (List ℕ)) → TextCases rest w → BytesCases rest w
+text-bytes rest (Ok p) h = record {
+  word = 34 ∷ (p.0 ++ 34 ∷ []);
+  is = h.is ∙ ap (λ l. Some (34 ∷ l)) (sym (append_assoc p.0 (34 ∷ []) (follows p.1)));
+  bytes = inl (refl, h.plain);
+}
+text-bytes rest (Err e) h = h
+
+hex-said : (rest : Option (List ℕ)) (p : List ℕ × Option (List ℕ)) → HasWord rest p → (o : Option (List ℕ)) → HexCases p.0 o → BytesCases rest (with_rest o p.1)
+hex-said rest p w None h = refl
+hex-said rest p w (Some said) h = record { word = p.0; is = w.is; bytes = inr h }
+
+hex-bytes : (rest : Option (List ℕ)) (w : Field (List ℕ)) → WordCases rest w → BytesCases rest (w >>= λ p. with_rest (hex_of p.0) p.1)
+hex-bytes rest (Ok p) h = hex-said rest p h (hex_of p.0) (hex-cases p.0)
+hex-bytes rest (Err e) h = h
+
+pub bytes-cases : (rest : Option (List ℕ)) → BytesCases rest (bytes_at rest)
+unfolding bytes_at hex_at
+bytes-cases rest =
+    elim (cases_Bool (begins_text rest)) [
+      | inl t ↦ rw t (text-bytes rest (text_at rest) (text-cases rest))
+      | inr f ↦ rw f (hex-bytes rest (word_at rest) (word-cases rest))
+    ]
+
+-- a hex digit is no quote
+hex-begins : (word : List ℕ) (more : Option (List ℕ)) (said : List ℕ) → IsHex word said → begins_text (Some (word ++ follows more)) ≡ false
+hex-begins [] more said h = let bad : false ≡ true = h.0 in absurd (cc)
+hex-begins (b ∷ bs) more said h =
+    let p = and_parts (is_ascii_hexdigit b) (list_all is_ascii_hexdigit bs) (and_parts _ _ (and_parts _ _ h.0).1).1 in
+    ne_eqb b 34 (λ e. let bad : is_ascii_hexdigit 34 ≡ true = subst (λ x. is_ascii_hexdigit x ≡ true) e p.0 in cc)
+
+pub bytes_at-at : (word : List ℕ) (more : Option (List ℕ)) (said : List ℕ) → IsBytes word said → bytes_at (Some (word ++ follows more)) ≡ Ok (said, more)
+unfolding bytes_at
+bytes_at-at word more said (inl (e, plain)) =
+    rw e (ap (λ l. text_at (Some (34 ∷ l))) (append_assoc said (34 ∷ []) (follows more)) ∙ text_at-at said more plain)
+bytes_at-at word more said (inr h) = rw (hex-begins word more said h) (hex_at-at word more said h)

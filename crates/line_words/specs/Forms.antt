@@ -1,5 +1,5 @@
 -- Which words have which form, and what they stand for, apart from how they are read.
-use Rattle.std.specs.Prelude.{◌≡◌, ℕ, ℤ, pos, neg_ℤ, Bool, true, ◌⊎◌, List, [], ◌∷◌, Option, Some, None, if◌then◌else◌}
+use Rattle.std.specs.Prelude.{◌≡◌, ℕ, ℤ, pos, neg_ℤ, Bool, true, ◌⊎◌, List, [], ◌∷◌, ◌++◌, Option, Some, None, if◌then◌else◌}
 use Rattle.std.specs.Char.{is_ascii_alphabetic, is_ascii_alphanumeric}
 use Rattle.std.specs.List.{list_all}
 use Rattle.line_words.specs.Hex.{is_hex_text, hex_value}
@@ -40,3 +40,7 @@ IsPlainText t = (list_all is_plain t ≡ true) × HasNo 34 t
 -- an even count of hex digits, at least two, that stand for the bytes
 abbrev pub IsHex : List ℕ → List ℕ → Type 0
 IsHex word bytes = (is_hex_text word ≡ true) × (bytes ≡ hex_value word)
+
+-- a text between two quotes, or hex digits that stand for the bytes
+abbrev pub IsBytes : List ℕ → List ℕ → Type 0
+IsBytes word bytes = ((word ≡ 34 ∷ (bytes ++ 34 ∷ [])) × IsPlainText bytes) ⊎ IsHex word bytes

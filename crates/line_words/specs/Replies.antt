@@ -1,6 +1,8 @@
 -- What the replies of all managers are made of.
-use Rattle.std.specs.Prelude.{ℕ, Bool, List, ◌++◌, Option, None, Some, codes, decimal, if◌then◌else◌}
+use Rattle.std.specs.Prelude.{ℕ, Bool, not, ◌&&◌, ◌==◌, List, ◌++◌, Option, None, Some, codes, decimal, if◌then◌else◌}
+use Rattle.std.specs.List.{list_all}
 use Rattle.line_words.specs.Hex.{hex_text}
+use Rattle.line_words.specs.Words.{is_plain}
 
 -- a call that was done and has no value
 abbrev pub done_text : List ℕ
@@ -26,3 +28,15 @@ flag_text flag = if flag then codes "1" else codes "0"
 -- 1 for true, 0 for false
 abbrev pub flag_number : Bool → ℕ
 flag_number flag = if flag then 1 else 0
+
+-- the bytes that a text between two quotes may have
+abbrev pub is_text_byte : ℕ → Bool
+is_text_byte b = is_plain b && not (b == 34)
+
+-- bytes between two quotes
+abbrev pub quoted_text : List ℕ → List ℕ
+quoted_text bytes = codes "ok \"" ++ (bytes ++ codes "\"\n")
+
+-- bytes as a text, where each may stand in one, and else as hex digits, as those of a region
+abbrev pub bytes_text : List ℕ → List ℕ
+bytes_text bytes = if list_all is_text_byte bytes then quoted_text bytes else region_text bytes

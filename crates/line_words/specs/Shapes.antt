@@ -5,7 +5,7 @@ use Rattle.tb_geom.specs.declared.point.Point.{Point}
 use Rattle.tb_geom.specs.declared.rect.Rect.{Rect}
 use Rattle.tb_geom.specs.declared.refusal.Refusal.{Refusal}
 use Rattle.tb_geom.specs.declared.refusal.Refusal.TheVariants.{BadSyntax, NoSuchName}
-use Rattle.line_words.specs.Words.{◌>>=◌, number_at, flag_at, name_at, text_at, hex_at, end_at, serial_of}
+use Rattle.line_words.specs.Words.{◌>>=◌, number_at, flag_at, name_at, text_at, hex_at, bytes_at, end_at, serial_of}
 
 -- what has to come next in a line, and how the line goes on after it, up to its end. There `ends` has what all of it says,
 -- or None, where a name in it is not known; `never` is the shape of no line
@@ -17,6 +17,7 @@ pub data Shape (A : Type 0) : Type 0 where
   name : (List ℕ → Shape A) → Shape A
   text : (List ℕ → Shape A) → Shape A
   hex : (List ℕ → Shape A) → Shape A
+  bytes : (List ℕ → Shape A) → Shape A
 
 -- nothing more: the line says this
 abbrev pub says : {A : Type 0} → A → Shape A
@@ -43,6 +44,7 @@ mapped f (flag next) = flag (λ x. mapped f (next x))
 mapped f (name next) = name (λ x. mapped f (next x))
 mapped f (text next) = text (λ x. mapped f (next x))
 mapped f (hex next) = hex (λ x. mapped f (next x))
+mapped f (bytes next) = bytes (λ x. mapped f (next x))
 
 -- what is read of a line, word by word
 abbrev pub reading : {A : Type 0} → Shape A → Option (List ℕ) → Result A Refusal
@@ -53,3 +55,4 @@ reading (flag next) rest = flag_at rest >>= λ x. reading (next x.0) x.1
 reading (name next) rest = name_at rest >>= λ x. reading (next x.0) x.1
 reading (text next) rest = text_at rest >>= λ x. reading (next x.0) x.1
 reading (hex next) rest = hex_at rest >>= λ x. reading (next x.0) x.1
+reading (bytes next) rest = bytes_at rest >>= λ x. reading (next x.0) x.1

@@ -3,8 +3,8 @@ use Rattle.std.specs.Prelude.{◌≡◌, ℕ, ℤ, Bool, List, ◌∷◌, ◌++�
 use Rattle.std.specs.Option.{ok_or}
 use Rattle.tb_geom.specs.declared.refusal.Refusal.{Refusal}
 use Rattle.tb_geom.specs.declared.refusal.Refusal.TheVariants.{NoSuchName}
-use Rattle.line_words.specs.Forms.{follows, IsNumber, IsFlag, IsName, IsPlainText, IsHex}
-use Rattle.line_words.specs.Shapes.{Shape, ends, never, number, flag, name, text, hex}
+use Rattle.line_words.specs.Forms.{follows, IsNumber, IsFlag, IsName, IsPlainText, IsHex, IsBytes}
+use Rattle.line_words.specs.Shapes.{Shape, ends, never, number, flag, name, text, hex, bytes}
 
 -- What is left of a line has this shape, and says this.
 abbrev pub IsSpelled : {A : Type 0} → Shape A → Option (List ℕ) → Result A Refusal → Type 0
@@ -14,4 +14,5 @@ IsSpelled (number next) rest r = (word : List ℕ) × (more : Option (List ℕ))
 IsSpelled (flag next) rest r = (word : List ℕ) × (more : Option (List ℕ)) × (b : Bool) × (rest ≡ Some (word ++ follows more)) × IsFlag word b × IsSpelled (next b) more r
 IsSpelled (name next) rest r = (word : List ℕ) × (more : Option (List ℕ)) × (rest ≡ Some (word ++ follows more)) × IsName word × IsSpelled (next word) more r
 IsSpelled (text next) rest r = (t : List ℕ) × (more : Option (List ℕ)) × (rest ≡ Some (34 ∷ (t ++ 34 ∷ follows more))) × IsPlainText t × IsSpelled (next t) more r
-IsSpelled (hex next) rest r = (word : List ℕ) × (more : Option (List ℕ)) × (bytes : List ℕ) × (rest ≡ Some (word ++ follows more)) × IsHex word bytes × IsSpelled (next bytes) more r
+IsSpelled (hex next) rest r = (word : List ℕ) × (more : Option (List ℕ)) × (said : List ℕ) × (rest ≡ Some (word ++ follows more)) × IsHex word said × IsSpelled (next said) more r
+IsSpelled (bytes next) rest r = (word : List ℕ) × (more : Option (List ℕ)) × (said : List ℕ) × (rest ≡ Some (word ++ follows more)) × IsBytes word said × IsSpelled (next said) more r

@@ -134,6 +134,16 @@ text_at None = Err BadSyntax
 text_at (Some []) = Err BadSyntax
 text_at (Some (b ∷ xs)) = if b == 34 then quoted_at xs else Err BadSyntax
 
+-- a quote comes next
+abbrev pub begins_text : Option (List ℕ) → Bool
+begins_text None = false
+begins_text (Some []) = false
+begins_text (Some (b ∷ xs)) = b == 34
+
+-- a word of bytes: a text between two quotes, or hex digits
+unfoldable pub bytes_at : Option (List ℕ) → Field (List ℕ)
+bytes_at rest = if begins_text rest then text_at rest else hex_at rest
+
 -- the end of a line
 abbrev pub end_at : Option (List ℕ) → Result (Unit {0}) Refusal
 end_at None = Ok tt

@@ -10,6 +10,7 @@ ghost use Rattle.std.specs.List.{list_all};
 ghost use Rattle.line_words.specs.Words.{word_at, number_at, number_said, serial_at, point_at};
 ghost use Rattle.line_words.specs.Words.{rect_at, last, flag_at, name_at, is_name, hex_at};
 ghost use Rattle.line_words.specs.Words.{text_at, quoted_at, after_quote, is_plain, digits_of, end_at};
+ghost use Rattle.line_words.specs.Words.{begins_text, bytes_at};
 
 use crate::hex::hex_bytes;
 use crate::piece::Piece;
@@ -161,6 +162,28 @@ impl<'a> Words<'a> {
         }
     }
 
+    /// Bytes: a text between two quotes, or hex digits.
+    #[tactic(auto, unfolding(crate::specs::Words::bytes_at))]
+    pub fn bytes(self) -> Result<(BytesRef<'a>, Words<'a>), Refusal>
+        ensures { result ≡ bytes_at self.entry }
+    {
+        if self.begins_text() {
+            self.text()
+        } else {
+            self.hex()
+        }
+    }
+
+    /// Whether a quote comes next.
+    fn begins_text(&self) -> bool
+        ensures { result ≡ begins_text self.now }
+    {
+        match &self.rest {
+            None => false,
+            Some(text) => matches!(text.as_slice(), [b'"', ..]),
+        }
+    }
+
     /// A number, and nothing after it.
     pub fn last_number(self) -> Result<i32, Refusal>
         ensures { result ≡ last (number_at self.entry) }
@@ -204,6 +227,15 @@ impl<'a> Words<'a> {
         let (flag, rest) = self.flag()?;
         rest.end()?;
         Ok(flag)
+    }
+
+    /// Bytes, and nothing after them.
+    pub fn last_bytes(self) -> Result<BytesRef<'a>, Refusal>
+        ensures { result ≡ last (bytes_at self.entry) }
+    {
+        let (bytes, rest) = self.bytes()?;
+        rest.end()?;
+        Ok(bytes)
     }
 
     /// A text, and nothing after it.

@@ -25,6 +25,7 @@ use Rattle.control_mgr.specs.ControlDesks.{controls_show}
 use Rattle.control_mgr.specs.WholeControls as controls
 use Rattle.list_mgr.specs.ListDesks.{lists_show}
 use Rattle.list_mgr.specs.WholeLists as lists
+use Rattle.text_mgr.specs.TextDesks.{texts_show}
 use Rattle.menu_mgr.specs.declared.menus.Menus.{Menus}
 use Rattle.menu_mgr.specs.MenuDesks.{MenuRecord}
 use Rattle.menu_mgr.specs.WholeMenus.{menus_of}
@@ -75,11 +76,11 @@ over_base s base new painted shown = record {
 pub screen_painted : {V : Type 0} {H : V → Type 0} (loan : TakenBox V H → WindowLoan) {W : Type 0} {K : W → Type 0} (menu_loan : TakenBox W K → MenuLoan) {U : Type 0} {J : U → Type 0} (control_loan : TakenBox U J → ControlLoan) {X : Type 0} {L : X → Type 0} (list_loan : TakenBox X L → ListLoan)
     (t : Toolbox V U W X H J K L) (windows : WindowManager V H) (menus : Menus W K) (activity : Activity) (font : List ℕ) (bar : ℤ) (base new : Bits)
     → windows ≡ t.windows → menus ≡ t.menus → activity ≡ t.activity → font ≡ windows.font → bar ≡ windows.bar.rows
-    → IsPaintedDesk (desk_showing (controls_show (lists_show (λ font. all_white) (lists.records_of list_loan t.lists)) (controls.records_of control_loan t.controls)) (desk_of loan windows [])) base
+    → IsPaintedDesk (desk_showing (controls_show (lists_show (texts_show (λ font. all_white) t.texts.list.items.items) (lists.records_of list_loan t.lists)) (controls.records_of control_loan t.controls)) (desk_of loan windows [])) base
     → IsFrontPainted font bar activity (menus_of menu_loan menus.list.menus.items) base new
     → IsPaintedScreen (toolbox_state loan menu_loan control_loan list_loan t no_slots) new
 screen_painted loan menu_loan control_loan list_loan t windows menus activity font bar base new same_windows same_menus same_activity letters rows painted shown =
     over_base (toolbox_state loan menu_loan control_loan list_loan t no_slots) base new
-    (subst (λ w. IsPaintedDesk (desk_showing (controls_show (lists_show (λ font. all_white) (lists.records_of list_loan t.lists)) (controls.records_of control_loan t.controls)) (desk_of loan w [])) base) same_windows painted)
+    (subst (λ w. IsPaintedDesk (desk_showing (controls_show (lists_show (texts_show (λ font. all_white) t.texts.list.items.items) (lists.records_of list_loan t.lists)) (controls.records_of control_loan t.controls)) (desk_of loan w [])) base) same_windows painted)
     (subst (λ (x : List ℕ × ℤ × Activity × List MenuRecord). IsFrontPainted x.0 x.1 x.2 x.3 base new)
     (λ i. ((letters ∙ ap (λ w. w.font) same_windows) i, (rows ∙ ap (λ w. w.bar.rows) same_windows) i, same_activity i, menus_of menu_loan (same_menus i).list.menus.items)) shown)

@@ -12,11 +12,11 @@ use Rattle.window_list.specs.declared.layer.Layer.{Layer}
 use Rattle.vis_update.specs.Records.{WindowRecord, Look, content_layer, layered_window}
 use Rattle.window_mgr.specs.FullDesk.{FullDesk, layered_desk}
 
--- how a desk looks in this font, where controls and lists show this
+-- how a desk looks in this font, where controls, lists and text records show this
 abbrev pub look_in : (List ℕ → Part → PixelSet) → List ℕ → Look
 look_in shows font = record { font = font; shows = shows font }
 
--- what painting these controls and lists of a window makes of the value of a pixel, the rearmost first
+-- what painting these layers of a window makes of the value of a pixel, the rearmost first
 abbrev pub layers_value : Look → WindowRecord → List Layer → Point → Bool → Bool
 layers_value look w ls p value =
     fold (painted p) value (content_layers (layered_window look w) (map (content_layer look (w.definition.content w.size)) ls))

@@ -28,8 +28,8 @@ use window_mgr::{DeskView, DeskWindows, WindowManager};
 use window_paint::Showing;
 
 /// A new map, of the size of the screen, with the whole desk painted from nothing, back to front: what the windows, the menu
-/// bar and the desktop show, controls and lists among that, and over it the menu that is pulled down, or the outline of a window
-/// that is dragged or grown. It reads neither the screen's pixels nor any region that the Toolbox keeps.
+/// bar and the desktop show, controls, lists and text records among that, and over it the menu that is pulled down, or the
+/// outline of a window that is dragged or grown. It reads neither the screen's pixels nor any region that the Toolbox keeps.
 pub fn paint(alloc: Global, toolbox: &Toolbox) -> Result<BitMap, AllocError>
     requires { ⟦<Toolbox as Desk>⟧.IsDrawable toolbox.now }
     ensures { IfOk result (IsPaintedScreen (⟦<Toolbox as Desk>⟧.state_over toolbox.now no_slots)) }
@@ -64,7 +64,7 @@ fn paint_front(map: &mut BitMap, font: &Font, bar: i32, menus: &Menus, activity:
     }
 }
 
-/// The same without what lies in front: the base image, where controls and lists show what `layers` says.
+/// The same without what lies in front: the base image, where controls, lists and text records show what `layers` says.
 fn paint_base<S: Showing>(
     alloc: Global,
     windows: &WindowManager,

@@ -103,8 +103,8 @@ fn paint_picture<'a>(
     canvas.paint_picture(&window.picture);
 }
 
-/// Paints the controls and lists of a visible window on the gray region, the rearmost first, each on what it takes of the
-/// content, whatever is to cover it. The content is in the window's own coordinates.
+/// Paints the controls, lists and text records of a visible window on the gray region, the rearmost first, each on what it takes
+/// of the content, whatever is to cover it. The content is in the window's own coordinates.
 fn paint_layers<S: Showing>(
     alloc: Global,
     image: &mut BitMap,
@@ -151,7 +151,8 @@ fn layer_region(
     Ok(region)
 }
 
-/// Paints what a control or list of a window at this place shows on what of a region of the screen lies in the gray one.
+/// Paints what a control, list or text record of a window at this place shows on what of a region of the screen lies in the gray
+/// one.
 fn paint_layer<'a, S: Showing>(
     image: &mut BitMap,
     gray: &'a Region,

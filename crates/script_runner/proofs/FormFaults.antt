@@ -35,6 +35,7 @@ over stocks = record {
   };
   controls = record { controls = []; next = None; stock = stocks.controls };
   lists = record { lists = []; next = None; stock = stocks.lists };
+  texts = record { texts = []; next = None; scrap = [] };
   menus = record { menus = []; highlighted = None; stock = stocks.menus };
   events = first_events;
 }
@@ -70,6 +71,7 @@ known_so (Control (controls.New n)) stocks form is = by_kind (has_kind n.kind st
 known_so (Control _) stocks form is = by_bytes false false form (sym is)
 known_so (asks.List (lists.New n)) stocks form is = by_lack (lacks_kind n stocks.lists stocks.controls) form (sym is)
 known_so (asks.List _) stocks form is = by_bytes false false form (sym is)
+known_so (asks.Text _) stocks form is = by_bytes false false form (sym is)
 known_so (Menu (menus.New n)) stocks form is = by_kind (has_kind menu_kind stocks.menus) form (sym is)
 known_so (Menu _) stocks form is = by_bytes false false form (sym is)
 known_so (Frame _) stocks form is = by_bytes false false form (sym is)

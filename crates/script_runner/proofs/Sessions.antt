@@ -14,6 +14,7 @@ use Rattle.def_iface.specs.MenuMeaning.{MenuLoan}
 use Rattle.def_iface.specs.Stocks.{AllSlots}
 use Rattle.control_mgr.specs.ControlDesks.{controls_show}
 use Rattle.list_mgr.specs.ListDesks.{lists_show}
+use Rattle.text_mgr.specs.TextDesks.{texts_show}
 use Rattle.desk_toolbox.specs.declared.toolbox.Toolbox.{Toolbox}
 use Rattle.window_mgr.specs.Begin.{IsEmptyDesk}
 use Rattle.window_mgr.specs.Records.{desk_of}
@@ -28,8 +29,8 @@ use Rattle.script_runner.specs.Endings.{IsFirstAnswered, CommandEnds}
 use Rattle.script_text.specs.Replies.{refused_text}
 use Rattle.watched_io.specs.Writes.{Output, Sends}
 
--- no controls and no lists show nothing
-none_show : (font : List ℕ) (part : Part) (p : Point) → controls_show (lists_show (λ f q p. false) []) [] font part p ≡ false
+-- no controls, no lists and no text records show nothing
+none_show : (font : List ℕ) (part : Part) (p : Point) → controls_show (lists_show (texts_show (λ f q p. false) []) []) [] font part p ≡ false
 none_show font parts.Picture p = refl
 none_show font (parts.Control n) p = refl
 none_show font (parts.List n) p = refl
@@ -41,7 +42,7 @@ pub new_desk : {V : Type 0} {H : V → Type 0} (loan : TakenBox V H → WindowLo
 new_desk loan menu_loan control_loan list_loan t font stocks size wanted same empty begun =
     subst (λ s. IsNewDesk s font stocks (toolbox_state loan menu_loan control_loan list_loan t stocks)) same (record {
       desk =
-          (λ i. record (desk_of loan t.windows stocks.windows) { shows = controls_show (lists_show (λ f q p. false) (begun.lists i)) (begun.controls i) t.windows.font })
+          (λ i. record (desk_of loan t.windows stocks.windows) { shows = controls_show (lists_show (texts_show (λ f q p. false) (begun.texts i)) (begun.lists i)) (begun.controls i) t.windows.font })
           ∙ (λ i. record (desk_of loan t.windows stocks.windows) { shows = λ part p. none_show t.windows.font part p i })
           ∙ empty.desk;
       idle = begun.idle;
@@ -51,6 +52,7 @@ new_desk loan menu_loan control_loan list_loan t font stocks size wanted same em
       menus = λ i. record { menus = begun.menus i; highlighted = begun.highlighted i; stock = stocks.menus };
       controls = λ i. record { controls = begun.controls i; next = begun.next_control i; stock = stocks.controls };
       lists = λ i. record { lists = begun.lists i; next = begun.next_list i; stock = stocks.lists };
+      texts = λ i. record { texts = begun.texts i; next = begun.next_text i; scrap = begun.scrap i };
       events = begun.events;
     })
 

@@ -51,6 +51,7 @@ pub record IsNewDesk (size : DeskSize) (font : List ℕ) (stocks : AllSlots) (s 
   pub menus : s.menus ≡ record { menus = []; highlighted = None; stock = stocks.menus }
   pub controls : s.controls ≡ record { controls = []; next = Some 1; stock = stocks.controls }
   pub lists : s.lists ≡ record { lists = []; next = Some 1; stock = stocks.lists }
+  pub texts : s.texts ≡ record { texts = []; next = Some 1; scrap = [] }
   pub events : s.events ≡ first_events
 
 -- the desk that the first command makes: of the size that it asks for, and else of 512 by 342 with a menu bar of 20 rows

@@ -2,6 +2,7 @@
 use Rattle.std.proofs.Common.{◌≡◌, ℕ, ℤ, pos, Bool, true, false, if◌then◌else◌, List, [], ◌∷◌, ◌++◌, length, Option, Some, None, Result, Ok, Err, bytes_eq, refl, sym, ap, ◌∙◌}
 use Rattle.std.specs.Prelude.{int_le, nat_lt, codes}
 use Rattle.std.specs.List.{list_all}
+use Rattle.std.proofs.lemmas.Bool.{and_parts}
 use Rattle.tb_geom.specs.declared.refusal.Refusal.{Refusal}
 use Rattle.tb_geom.specs.declared.refusal.Refusal.TheVariants.{BadSyntax, TooLong}
 use Rattle.desk_call.specs.declared.call.Call.{Call as Asked}
@@ -13,13 +14,37 @@ use Rattle.line_words.proofs.Mapped.{reading_mapped}
 use Rattle.command_words.specs.declared.verb.Verb.{Verb}
 use Rattle.command_words.specs.declared.verb.Verb.TheVariants as words
 use Rattle.command_words.specs.declared.windows.WindowVerb.TheVariants as windows
-use Rattle.command_words.specs.Verbs.{verbs, later_verbs, verbs_of}
+use Rattle.command_words.specs.ControlWords.{control_shape}
+use Rattle.command_words.specs.EventWords.{event_shape}
+use Rattle.command_words.specs.FrameWords.{frame_shape}
+use Rattle.command_words.specs.ListWords.{list_shape}
+use Rattle.command_words.specs.MenuWords.{menu_shape}
+use Rattle.command_words.specs.OutlineWords.{outline_shape}
+use Rattle.command_words.specs.UpdateWords.{update_shape}
+use Rattle.command_words.specs.Verbs.{verbs, verbs_of_3, later_verbs, verbs_of}
+use Rattle.text_words.specs.TextVerbs.{text_verbs}
+use Rattle.text_words.specs.TextWords.{text_shape}
 use Rattle.command_words.specs.WindowWords.{window_shape}
 use Rattle.command_words.proofs.NamedLemmas.{first_found, named-append}
 use Rattle.script_text.specs.declared.command.Command.{Command}
 use Rattle.script_text.specs.declared.command.Command.TheVariants.{Call}
 use Rattle.script_text.specs.Commands.{shape_of, read_with, command_of}
 use Rattle.script_text.specs.Lines.{is_skipped, said}
+
+-- the verb says a call: it is about neither the whole desk nor the whole script
+abbrev says_call : Verb → Bool
+says_call words.Desk = false
+says_call words.Image = false
+says_call words.Version = false
+says_call _ = true
+
+-- each word that only a later version has does
+say_calls : (second third : Bool) → list_all (λ entry. says_call entry.1) ((if second then (codes "float", words.Window windows.Float) ∷ [] else []) ++ (if third then verbs_of_3 else [])) ≡ true
+unfolding text_verbs
+say_calls true true = refl
+say_calls true false = refl
+say_calls false true = refl
+say_calls false false = refl
 
 -- `f` makes the same of every call and of every refusal
 module _ {B : Type 0} (f : Option (Result Command Refusal) → B) (other : B) (of_call : (call : Asked) → f (Some (Ok (Call call))) ≡ other) (of_refusal : (e : Refusal) → f (Some (Err e)) ≡ other) where
@@ -30,26 +55,39 @@ module _ {B : Type 0} (f : Option (Result Command Refusal) → B) (other : B) (o
   call_said : {X : Type 0} (call : X → Asked) (s : Shape X) (rest : Option (List ℕ)) → f (Some (reading (mapped (λ x. Call (call x)) s) rest)) ≡ other
   call_said call s rest = ap (λ r. f (Some r)) (reading_mapped (λ x. Call (call x)) s rest) ∙ call_read call (reading s rest)
 
+  -- so does each verb but those of the whole desk and the whole script
+  verb_said : (version : ℤ) (verb : Verb) (rest : Option (List ℕ)) → says_call verb ≡ true → f (Some (read_with version (Some verb) rest)) ≡ other
+  verb_said version words.Desk rest is = absurd (cc)
+  verb_said version words.Image rest is = absurd (cc)
+  verb_said version words.Version rest is = absurd (cc)
+  verb_said version (words.Window verb) rest is = call_said calls.Window (window_shape version verb) rest
+  verb_said version (words.Update verb) rest is = call_said calls.Update (update_shape verb) rest
+  verb_said version (words.Frame verb) rest is = call_said calls.Frame (frame_shape verb) rest
+  verb_said version (words.Outline verb) rest is = call_said calls.Outline (outline_shape verb) rest
+  verb_said version (words.Control verb) rest is = call_said calls.Control (control_shape verb) rest
+  verb_said version (words.List verb) rest is = call_said calls.List (list_shape verb) rest
+  verb_said version (words.Text verb) rest is = call_said calls.Text (text_shape verb) rest
+  verb_said version (words.Menu verb) rest is = call_said calls.Menu (menu_shape verb) rest
+  verb_said version (words.Event verb) rest is = call_said calls.Event (event_shape verb) rest
+
+  -- and each word of a table of such verbs
+  table_said : (version : ℤ) (word : List ℕ) (rest : Option (List ℕ)) (entries : List (List ℕ × Verb)) → list_all (λ entry. says_call entry.1) entries ≡ true
+      → f (Some (read_with version (named word entries) rest)) ≡ other
+  table_said version word rest [] all = of_refusal BadSyntax
+  table_said version word rest (entry ∷ entries) all =
+      let both = and_parts (says_call entry.1) (list_all (λ e. says_call e.1) entries) all in
+      by_test (bytes_eq entry.0 word) (verb_said version entry.1 rest both.0) (table_said version word rest entries both.1)
+    where
+      by_test : (b : Bool) → f (Some (read_with version (Some entry.1) rest)) ≡ other → f (Some (read_with version (named word entries) rest)) ≡ other
+          → f (Some (read_with version (if b then Some entry.1 else named word entries) rest)) ≡ other
+      by_test true here later = here
+      by_test false here later = later
+
   -- a word that only a later version has says a call
-  float_said : (version : ℤ) (rest : Option (List ℕ)) (floats : Bool) → f (Some (read_with version (if floats then Some (words.Window windows.Float) else None) rest)) ≡ other
-  float_said version rest true = call_said calls.Window (window_shape version windows.Float) rest
-  float_said version rest false = of_refusal BadSyntax
-
-  region_said : (version : ℤ) (rest : Option (List ℕ)) (asks : Bool) → f (Some (read_with version (if asks then Some (words.Window windows.Region) else None) rest)) ≡ other
-  region_said version rest true = call_said calls.Window (window_shape version windows.Region) rest
-  region_said version rest false = of_refusal BadSyntax
-
-  either_said : (version : ℤ) (rest : Option (List ℕ)) (floats asks : Bool)
-      → f (Some (read_with version (if floats then Some (words.Window windows.Float) else (if asks then Some (words.Window windows.Region) else None)) rest)) ≡ other
-  either_said version rest true asks = call_said calls.Window (window_shape version windows.Float) rest
-  either_said version rest false asks = region_said version rest asks
-
   later_said : (version : ℤ) (word : List ℕ) (rest : Option (List ℕ)) (second third : Bool)
-      → f (Some (read_with version (named word ((if second then (codes "float", words.Window windows.Float) ∷ [] else []) ++ (if third then (codes "region", words.Window windows.Region) ∷ [] else []))) rest)) ≡ other
-  later_said version word rest false false = of_refusal BadSyntax
-  later_said version word rest false true = region_said version rest (bytes_eq (codes "region") word)
-  later_said version word rest true false = float_said version rest (bytes_eq (codes "float") word)
-  later_said version word rest true true = either_said version rest (bytes_eq (codes "float") word) (bytes_eq (codes "region") word)
+      → f (Some (read_with version (named word ((if second then (codes "float", words.Window windows.Float) ∷ [] else []) ++ (if third then verbs_of_3 else []))) rest)) ≡ other
+  later_said version word rest second third =
+      table_said version word rest ((if second then (codes "float", words.Window windows.Float) ∷ [] else []) ++ (if third then verbs_of_3 else [])) (say_calls second third)
 
   module _ (one another : ℤ) where
     verb_alike : (verb : Verb) (rest : Option (List ℕ)) → f (Some (reading (shape_of one verb) rest)) ≡ f (Some (reading (shape_of another verb) rest))
@@ -62,6 +100,7 @@ module _ {B : Type 0} (f : Option (Result Command Refusal) → B) (other : B) (o
     verb_alike (words.Outline verb) rest = refl
     verb_alike (words.Control verb) rest = refl
     verb_alike (words.List verb) rest = refl
+    verb_alike (words.Text verb) rest = refl
     verb_alike (words.Menu verb) rest = refl
     verb_alike (words.Event verb) rest = refl
 

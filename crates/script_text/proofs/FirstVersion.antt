@@ -8,7 +8,7 @@ use Rattle.desk_call.specs.declared.call.Call.TheVariants.{Window}
 use Rattle.desk_call.specs.declared.window.NewWindow.{NewWindow}
 use Rattle.desk_call.specs.declared.window.WindowCall.TheVariants.{NewFloating}
 use Rattle.line_words.specs.Words.{◌>>=◌, Field, word_at, is_plain}
-use Rattle.line_words.specs.Shapes.{Shape, ends, never, number, flag, name, text, hex, mapped, reading}
+use Rattle.line_words.specs.Shapes.{Shape, ends, never, number, flag, name, text, hex, bytes, mapped, reading}
 use Rattle.line_words.specs.Spelling.{IsSpelled}
 use Rattle.line_words.specs.Tables.{named}
 use Rattle.line_words.proofs.Mapped.{mapped_ok, mapped_err}
@@ -34,7 +34,8 @@ AreKnown (number next) = (n : ℤ) → AreKnown (next n)
 AreKnown (flag next) = (b : Bool) → AreKnown (next b)
 AreKnown (name next) = (word : List ℕ) → AreKnown (next word)
 AreKnown (text next) = (t : List ℕ) → AreKnown (next t)
-AreKnown (hex next) = (bytes : List ℕ) → AreKnown (next bytes)
+AreKnown (hex next) = (said : List ℕ) → AreKnown (next said)
+AreKnown (bytes next) = (said : List ℕ) → AreKnown (next said)
 
 -- so a line of the shape says something
 known-spelled : {A : Type 0} (s : Shape A) → AreKnown s → (rest : Option (List ℕ)) (r : Result A Refusal) → IsSpelled s rest r → (x : A) × (Ok x ≡ r)
@@ -45,7 +46,8 @@ known-spelled (number next) known rest r (word, more, z, e, n, h) = known-spelle
 known-spelled (flag next) known rest r (word, more, b, e, n, h) = known-spelled (next b) (known b) more r h
 known-spelled (name next) known rest r (word, more, e, n, h) = known-spelled (next word) (known word) more r h
 known-spelled (text next) known rest r (t, more, e, n, h) = known-spelled (next t) (known t) more r h
-known-spelled (hex next) known rest r (word, more, bytes, e, n, h) = known-spelled (next bytes) (known bytes) more r h
+known-spelled (hex next) known rest r (word, more, said, e, n, h) = known-spelled (next said) (known said) more r h
+known-spelled (bytes next) known rest r (word, more, said, e, n, h) = known-spelled (next said) (known said) more r h
 
 -- the words of a new window are a window, or bad syntax
 new_read : (rest : Option (List ℕ)) → ((w : NewWindow) × (reading new_shape rest ≡ Ok w)) ⊎ (reading new_shape rest ≡ Err BadSyntax)

@@ -16,7 +16,7 @@ use Rattle.command_words.specs.declared.verb.Verb.{Verb}
 use Rattle.command_words.specs.declared.verb.Verb.TheVariants as words
 use Rattle.command_words.specs.declared.windows.WindowVerb.TheVariants as windows
 use Rattle.command_words.specs.Drawings.{operations, form_operations, frame_operations, later_operations, operations_of, operation_shape, clipped_shape, clip_shape, drawing_shape}
-use Rattle.command_words.specs.Verbs.{verbs, later_verbs, verbs_of}
+use Rattle.command_words.specs.Verbs.{verbs, verbs_of_3, later_verbs, verbs_of}
 use Rattle.command_words.specs.WindowWords.{window_shape}
 use Rattle.command_words.proofs.NamedLemmas.{first_found, named-append}
 use Rattle.script_text.specs.declared.command.Command.{Command}
@@ -67,10 +67,10 @@ module _ (word : List ℕ) where
 
   abbrev later_where : Bool → Bool → Option Verb
   later_where second third = named word ((if second then (codes "float", words.Window windows.Float) ∷ [] else [])
-      ++ (if third then (codes "region", words.Window windows.Region) ∷ [] else []))
+      ++ (if third then verbs_of_3 else []))
 
   float_or_none : (floats : Bool) → OrNone {A = Verb} (if floats then Some (words.Window windows.Float) else None)
-      (if floats then Some (words.Window windows.Float) else (if bytes_eq (codes "region") word then Some (words.Window windows.Region) else None))
+      (if floats then Some (words.Window windows.Float) else named word verbs_of_3)
   float_or_none true = inl refl
   float_or_none false = inr refl
 

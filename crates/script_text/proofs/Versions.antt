@@ -16,6 +16,8 @@ use Rattle.command_words.specs.declared.forms.FormWord.{FormWord}
 use Rattle.command_words.specs.declared.forms.FormWord.TheVariants as forms
 use Rattle.command_words.specs.declared.operation.Operation.{Operation}
 use Rattle.command_words.specs.declared.operation.Operation.TheVariants as operation_words
+use Rattle.command_words.specs.declared.updates.UpdateVerb.{UpdateVerb}
+use Rattle.command_words.specs.declared.updates.UpdateVerb.TheVariants as updates
 use Rattle.command_words.specs.declared.verb.Verb.{Verb}
 use Rattle.command_words.specs.declared.verb.Verb.TheVariants as words
 use Rattle.command_words.specs.declared.windows.WindowVerb.{WindowVerb}
@@ -29,8 +31,10 @@ use Rattle.command_words.specs.FrameWords.{frame_shape}
 use Rattle.command_words.specs.ListWords.{list_shape}
 use Rattle.command_words.specs.MenuWords.{menu_shape}
 use Rattle.command_words.specs.OutlineWords.{outline_shape}
-use Rattle.command_words.specs.UpdateWords.{update_shape}
-use Rattle.command_words.specs.Verbs.{verbs, verbs_of}
+use Rattle.command_words.specs.UpdateWords.{rect_area_shape, region_area_shape, update_shape}
+use Rattle.command_words.specs.Verbs.{verbs, verbs_of, verbs_of_3}
+use Rattle.text_words.specs.TextVerbs.{text_verbs}
+use Rattle.text_words.specs.TextWords.{text_shape}
 use Rattle.command_words.specs.WindowWords.{window_shape}
 use Rattle.script_text.specs.declared.command.Command.{Command}
 use Rattle.script_text.specs.declared.command.Command.TheVariants.{Call}
@@ -65,11 +69,13 @@ words_had false = refl
 abbrev has_verb : Bool → Bool → Verb → Bool
 has_verb second third (words.Window windows.Float) = second
 has_verb second third (words.Window windows.Region) = third
+has_verb second third (words.Update updates.DrawTexts) = third
+has_verb second third (words.Text verb) = third
 has_verb second third _ = true
 
 verbs_had : (second third : Bool) → list_all (λ entry. has_verb second third entry.1) (verbs ++ ((if second then (codes "float", words.Window windows.Float) ∷ [] else [])
-    ++ (if third then (codes "region", words.Window windows.Region) ∷ [] else []))) ≡ true
-unfolding verbs
+    ++ (if third then verbs_of_3 else []))) ≡ true
+unfolding verbs text_verbs
 verbs_had true true = refl
 verbs_had true false = refl
 verbs_had false true = refl
@@ -155,16 +161,32 @@ module _ (version : ℤ) where
   window_says windows.VisibleRegion had = λ window. refl
   window_says windows.Region had = all_said-mapped _ _ asked_shape (all_said-any _ (λ form. had) asked_shape)
 
+  update_says : (verb : UpdateVerb) → has_verb (int_le (pos 2) version) (int_le (pos 3) version) (words.Update verb) ≡ true
+      → AllSaid (λ call. has_command version (Call (calls.Update call)) ≡ true) (update_shape verb)
+  unfolding update_shape
+  update_says updates.InvalidateRect had = all_said-mapped _ _ rect_area_shape (all_said-any _ (λ area. refl) rect_area_shape)
+  update_says updates.InvalidateRegion had = all_said-mapped _ _ region_area_shape (all_said-any _ (λ area. refl) region_area_shape)
+  update_says updates.ValidateRect had = all_said-mapped _ _ rect_area_shape (all_said-any _ (λ area. refl) rect_area_shape)
+  update_says updates.ValidateRegion had = all_said-mapped _ _ region_area_shape (all_said-any _ (λ area. refl) region_area_shape)
+  update_says updates.Begin had = λ window. refl
+  update_says updates.DrawPicture had = λ window. refl
+  update_says updates.DrawTexts had = λ window. had
+  update_says updates.DrawLists had = λ window. refl
+  update_says updates.DrawControls had = λ window. refl
+  update_says updates.End had = λ window. refl
+  update_says updates.Serve had = λ window. refl
+
   verb_says : (verb : Verb) → has_verb (int_le (pos 2) version) (int_le (pos 3) version) verb ≡ true → AllSaid IsHad (shape_of version verb)
   verb_says words.Desk had = λ width height bar. refl
   verb_says words.Image had = refl
   verb_says words.Version had = λ number. refl
   verb_says (words.Window verb) had = all_said-mapped _ _ (window_shape version verb) (window_says verb had)
-  verb_says (words.Update verb) had = all_said-mapped _ _ (update_shape verb) (all_said-any _ (λ call. refl) (update_shape verb))
+  verb_says (words.Update verb) had = all_said-mapped _ _ (update_shape verb) (update_says verb had)
   verb_says (words.Frame verb) had = all_said-mapped _ _ (frame_shape verb) (all_said-any _ (λ call. refl) (frame_shape verb))
   verb_says (words.Outline verb) had = all_said-mapped _ _ (outline_shape verb) (all_said-any _ (λ call. refl) (outline_shape verb))
   verb_says (words.Control verb) had = all_said-mapped _ _ (control_shape verb) (all_said-any _ (λ call. refl) (control_shape verb))
   verb_says (words.List verb) had = all_said-mapped _ _ (list_shape verb) (all_said-any _ (λ call. refl) (list_shape verb))
+  verb_says (words.Text verb) had = all_said-mapped _ _ (text_shape verb) (all_said-any _ (λ call. had) (text_shape verb))
   verb_says (words.Menu verb) had = all_said-mapped _ _ (menu_shape verb) (all_said-any _ (λ call. refl) (menu_shape verb))
   verb_says (words.Event verb) had = all_said-mapped _ _ (event_shape verb) (all_said-any _ (λ call. refl) (event_shape verb))
 

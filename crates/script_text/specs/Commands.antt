@@ -13,6 +13,7 @@ use Rattle.command_words.specs.FrameWords.{frame_shape}
 use Rattle.command_words.specs.OutlineWords.{outline_shape}
 use Rattle.command_words.specs.ControlWords.{control_shape}
 use Rattle.command_words.specs.ListWords.{list_shape}
+use Rattle.text_words.specs.TextWords.{text_shape}
 use Rattle.command_words.specs.MenuWords.{menu_shape}
 use Rattle.command_words.specs.EventWords.{event_shape}
 use Rattle.script_text.specs.declared.command.Command.{Command}
@@ -39,6 +40,7 @@ shape_of version (words.Frame verb) = mapped (λ call. Call (calls.Frame call)) 
 shape_of version (words.Outline verb) = mapped (λ call. Call (calls.Outline call)) (outline_shape verb)
 shape_of version (words.Control verb) = mapped (λ call. Call (calls.Control call)) (control_shape verb)
 shape_of version (words.List verb) = mapped (λ call. Call (calls.List call)) (list_shape verb)
+shape_of version (words.Text verb) = mapped (λ call. Call (calls.Text call)) (text_shape verb)
 shape_of version (words.Menu verb) = mapped (λ call. Call (calls.Menu call)) (menu_shape verb)
 shape_of version (words.Event verb) = mapped (λ call. Call (calls.Event call)) (event_shape verb)
 

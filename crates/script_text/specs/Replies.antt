@@ -7,6 +7,7 @@ use Rattle.desk_call.specs.declared.call.Reply.TheVariants as replies
 use Rattle.reply_lines.specs.WindowLines.{window_reply_text, frame_reply_text, outline_reply_text}
 use Rattle.reply_lines.specs.ControlLines.{control_reply_text}
 use Rattle.reply_lines.specs.ListLines.{list_reply_text}
+use Rattle.reply_lines.specs.TextLines.{text_reply_text}
 use Rattle.reply_lines.specs.MenuLines.{menu_reply_text}
 use Rattle.reply_lines.specs.EventLines.{event_reply_text}
 
@@ -21,6 +22,7 @@ reply_text (Ok (replies.Frame reply)) = frame_reply_text reply
 reply_text (Ok (replies.Outline reply)) = outline_reply_text reply
 reply_text (Ok (replies.Control reply)) = control_reply_text reply
 reply_text (Ok (replies.List reply)) = list_reply_text reply
+reply_text (Ok (replies.Text reply)) = text_reply_text reply
 reply_text (Ok (replies.Menu reply)) = menu_reply_text reply
 reply_text (Ok (replies.Event reply)) = event_reply_text reply
 reply_text (Err e) = refused_text e

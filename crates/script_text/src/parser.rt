@@ -22,6 +22,7 @@ use command_words::{
 use desk_call::Call;
 use line_words::Words;
 use tb_geom::Refusal;
+use text_words::TextVerb;
 
 /// The words after `desk`: the screen's width and height, and the rows of its menu bar.
 fn desk<'a>(words: Words<'a>) -> Result<Command<'a>, Refusal>
@@ -102,6 +103,15 @@ fn list<'a>(verb: ListVerb, words: Words<'a>) -> Result<Command<'a>, Refusal>
     Ok(Command::Call(Call::List(call)))
 }
 
+/// The words after a verb for text records.
+#[tactic(auto, using(line_words::proofs::Mapped::reading_mapped))]
+fn text<'a>(verb: TextVerb, words: Words<'a>) -> Result<Command<'a>, Refusal>
+    ensures { (version : ℤ) → result ≡ reading (shape_of version (verbs.Text verb)) words.entry }
+{
+    let call = verb.call(words)?;
+    Ok(Command::Call(Call::Text(call)))
+}
+
 /// The words after a verb for menus.
 #[tactic(auto, using(line_words::proofs::Mapped::reading_mapped))]
 fn menu<'a>(verb: MenuVerb, words: Words<'a>) -> Result<Command<'a>, Refusal>
@@ -134,6 +144,7 @@ fn command<'a>(version: i32, verb: Verb, words: Words<'a>) -> Result<Command<'a>
         Verb::Outline(verb) => outline(verb, words),
         Verb::Control(verb) => control(verb, words),
         Verb::List(verb) => list(verb, words),
+        Verb::Text(verb) => text(verb, words),
         Verb::Menu(verb) => menu(verb, words),
         Verb::Event(verb) => event(verb, words),
     }

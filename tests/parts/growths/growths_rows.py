@@ -32,12 +32,14 @@ WITHOUT_MEMORY = set(
     b"image find frontwin info drawp drawl drawc end post next avail flush setmask"
     b" menu mitem minsert mdelete mdispose menable mdisable mcheck mdown mmove mup mkey mhilite"
     b" cvalue cmin cmax chilite ctitle cget findc ctest ctrack ctstep ctend"
-    b" lgetsel lnext lsearch ldraw drag dragstep grow growstep growend".split()
+    b" lgetsel lnext lsearch ldraw drag dragstep grow growstep growend"
+    b" drawt tdelete tselect tactive tidle tjust tscroll tview tclick tstep tend"
+    b" tinfo tline tpoint toffset textwidth fontinfo".split()
 )
 # Those that may be so only while the drawing of their list is off.
 WITH_MEMORY_UNDRAWN = set(b"ldelrow ldelcol lclear lsetsel lclick lscroll".split())
 # Those that may want memory and change nothing.
-ASKING = set(b"visrgn updatergn region lget".split())
+ASKING = set(b"visrgn updatergn region lget tget scrap".split())
 # The commands that name a cell of a list, each with the places of its column and its row among its words.
 CELLS = {
     **dict.fromkeys((b"lset", b"ladd", b"lclear", b"lget", b"lsearch"), (3, 4)),
@@ -67,9 +69,11 @@ class Row:
         # What asks for the desk's state. One window more than there are shows whether a refused one is there after all.
         windows = sum(self.is_done(at) and self.words(at)[0] in WINDOWS for at in range(len(commands)))
         asking = [b"%s %d" % (verb, it) for it in range(1, windows + 2) for verb in (b"info", b"visrgn", b"updatergn")]
-        # And what asks for the controls and lists, each in the window in which it is made at some time.
+        # And what asks for the controls, lists and text records, each in the window in which it is made at some time.
         asking += [b"cget %s %d" % (window, number) for number, window in enumerate(self.windows_of_controls(), 1)]
         asking += [line for window, number in self.lists() for line in self.asking_of_list(window, number)]
+        asking += [b"%s %d %d" % (verb, *text) for text in self.texts() for verb in (b"tinfo", b"tget")]
+        asking += [b"scrap"] * any(self.done(b"text", b"setscrap"))
         self.probes = [b"image", b"frontwin", *EVENTS, *asking]
         # What asks for the menus' items. A key that chooses one highlights its title, so these come after all else.
         self.keys = [b'mkey "%s"' % key for key in sorted({key for it in commands for key in keys_in(it)})]
@@ -117,6 +121,10 @@ class Row:
     def lists(self):
         """The window and the number of each list."""
         return [(int(words[1]), int(self.answers[at].split()[1])) for at, words in self.done(b"list")]
+
+    def texts(self):
+        """The window and the number of each text record."""
+        return [(int(words[1]), int(self.answers[at].split()[1])) for at, words in self.done(b"text")]
 
     def of_list(self, window, number, *verbs):
         """The words of the commands that are done, begin so and name this list."""

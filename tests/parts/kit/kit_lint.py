@@ -209,10 +209,14 @@ def every_line_that_rows_have_answered_has_its_form(_):
     """Those of tests/rows, which were written by hand. A line that is not BadSyntax or TooLong has its form by the manual."""
     its, seen = forms(), set()
     counts = len(its.commands), {command: len(forms) for command, forms in its.inner.items()}
-    same("how many commands and inner forms there are", counts, (98, {"draw": 20, "region": 19}))
+    same("how many commands and inner forms there are", counts, (129, {"draw": 20, "region": 19}))
     drawn = ("round", "oval", "frect", "fround", "foval", "arc", "farc", "line", "poly", "fpoly", "frgn")
     kinds = ("window round", "float round", "control rbutton")
-    later = {"float": 2, "region": 3, **dict.fromkeys([*(f"draw {it}" for it in drawn), *kinds], 3)}
+    texts = (
+        "drawt text tplace tdispose tshow thide tset tinsert tdelete tkey tcut tcopy tpaste tselect tactive tidle tjust tscroll"
+        " tview tclick tstep tend tget tinfo tline tpoint toffset scrap setscrap textwidth fontinfo"
+    ).split()
+    later = {"float": 2, "region": 3, **dict.fromkeys([*texts, *(f"draw {it}" for it in drawn), *kinds], 3)}
     same("those of later versions", its.versions, later)
     for folder in folders_in(os.path.join(TOP, "tests", "rows")):
         for row in rows_of(folder):

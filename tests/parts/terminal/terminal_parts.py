@@ -139,7 +139,7 @@ def the_manual_has_every_command_of_the_rows(_):
             with open(os.path.join(at, name), "rb") as file:
                 used.update(re.findall(rb"(?m)^([a-z]+)(?= |\r?$)", file.read()))
     forms = manual().forms
-    same("the commands", len(forms), 98)
+    same("the commands", len(forms), 129)
     same("those that no row has", [it for it in forms if it.encode() not in used], [])
     same("those of the prompt alone", [it for it in OWN if it in forms], [])
     kinds = {

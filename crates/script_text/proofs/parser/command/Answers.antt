@@ -18,6 +18,9 @@ returns-in-Control c = c.control.ensures c.args.version ∙ ap (λ verb. reading
 pub returns-in-List : goal.returns-in-List
 returns-in-List c = c.list.ensures c.args.version ∙ ap (λ verb. reading (shape_of c.args.version verb) c.args.words) (sym c.in-List.is)
 
+pub returns-in-Text : goal.returns-in-Text
+returns-in-Text c = c.text.ensures c.args.version ∙ ap (λ verb. reading (shape_of c.args.version verb) c.args.words) (sym c.in-Text.is)
+
 pub returns-in-Menu : goal.returns-in-Menu
 returns-in-Menu c = c.menu.ensures c.args.version ∙ ap (λ verb. reading (shape_of c.args.version verb) c.args.words) (sym c.in-Menu.is)
 

@@ -10,6 +10,7 @@ use Rattle.window_paint.specs.White.{all_white}
 use Rattle.control_mgr.specs.ControlDesks.{controls_show}
 use Rattle.control_mgr.specs.WholeControls.{records_of}
 use Rattle.list_mgr.specs.ListDesks.{lists_show}
+use Rattle.text_mgr.specs.TextDesks.{texts_show}
 use Rattle.list_mgr.specs.WholeLists as lists
 use Rattle.desk_toolbox.proofs.WaitingShown.{first_showing}
 use Rattle.desk_toolbox.proofs.toolbox.Toolbox.answer_event.Goals as goal
@@ -23,17 +24,20 @@ returns-clause-whole g c stocks whole = record {
   menus = whole.managers.menus;
   front = whole.managers.front;
   lists = whole.managers.lists;
+  texts = whole.managers.texts;
+  selectable = whole.managers.selectable;
   known = whole.managers.known;
 }
 
 pub returns-clause-step : goal.returns-clause-step
 returns-clause-step g c stocks =
     let self = c.args.self.now in
-    let shows = controls_show (lists_show (λ font. all_white) (lists.records_of (taken_list.loan-value g.dyn-4).it self.lists)) (records_of (taken_control.loan-value g.dyn-2).it self.controls) in
+    let shows = controls_show (lists_show (texts_show (λ font. all_white) self.texts.list.items.items) (lists.records_of (taken_list.loan-value g.dyn-4).it self.lists)) (records_of (taken_control.loan-value g.dyn-2).it self.controls) in
     record {
       desk = record { windows = record { desk = refl; stale = λ p on. refl; image = λ p on. refl }; activity = refl; begun = refl };
       controls = refl;
       lists = refl;
+      texts = refl;
       menus = refl;
       update = c.first_to_update-update.result;
       first = first_showing shows (desk_state (taken.loan-value g.dyn-1).it self.windows (opened self.activity self.updates) stocks.windows) c.first_to_update-update.result (c.first_to_update-update.ensures (λ p. holds self.updates.begun p) stocks.windows);

@@ -2,7 +2,7 @@ use Rattle.std.proofs.Common.{ap}
 use Rattle.def_iface.specs.contracts.taken_window.TakenWindowDefined.TheImpl as taken
 use Rattle.def_iface.specs.contracts.taken_menu.TakenMenuDefined.TheImpl as taken_menu
 use Rattle.menu_mgr.specs.MenuDesks.{MenusState}
-use Rattle.desk_toolbox.proofs.OutlineStands.{drags_now, outlining_tracks_none}
+use Rattle.desk_toolbox.proofs.OutlineStands.{drags_now, outlining_selects_none, outlining_tracks_none}
 use Rattle.desk_toolbox.proofs.OutlinesMade.{dropped_menus, outlined_updates, unshown}
 use Rattle.desk_toolbox.proofs.toolbox.Toolbox.drop_window.Goals as goal
 
@@ -26,5 +26,7 @@ returns-clause-whole g c =
       menus = beside.menus;
       front = beside.front;
       lists = whole.lists;
+      texts = whole.texts;
+      selectable = outlining_selects_none old.activity _ is;
       known = whole.known;
     }

@@ -21,7 +21,7 @@ returns-in-Ok-clause-just_begun g c =
     let fits_b : SFits w32 c.args.bar = search rules in
     let begun = simp to_z-of_z at c.with_parts.ensures.begun in
     begins _ (taken_menu.loan-value g.dyn-3).it (taken_control.loan-value g.dyn-2).it (taken_list.loan-value g.dyn-4).it c.args.width c.args.height c.args.bar _ _ _ c.with_parts.result begun c.with_parts.ensures.idle c.with_parts.ensures.events c.with_parts.ensures.menus
-    c.with_parts.ensures.controls c.with_parts.ensures.lists c.in-Ok.ensures.events c.in-Ok.ensures.menus
+    c.with_parts.ensures.controls c.with_parts.ensures.lists c.with_parts.ensures.texts c.in-Ok.ensures.events c.in-Ok.ensures.menus
 
 pub returns-in-Ok-clause-in_range : goal.returns-in-Ok-clause-in_range
 returns-in-Ok-clause-in_range g c =

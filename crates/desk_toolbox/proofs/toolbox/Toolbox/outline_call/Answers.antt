@@ -8,6 +8,7 @@ use Rattle.window_paint.specs.White.{all_white}
 use Rattle.control_mgr.specs.ControlDesks.{controls_show}
 use Rattle.control_mgr.specs.WholeControls.{records_of}
 use Rattle.list_mgr.specs.ListDesks.{lists_show}
+use Rattle.text_mgr.specs.TextDesks.{texts_show}
 use Rattle.list_mgr.specs.WholeLists as lists
 use Rattle.window_outline.proofs.OutlinesShowing.{let_go_showing}
 use Rattle.desk_toolbox.specs.Economy.{IsDropEconomical}
@@ -19,7 +20,7 @@ returns-in-None-clause-whole g c = c.outline.ensures.whole _ c.requires.whole
 pub returns-in-None-clause-step : goal.returns-in-None-clause-step
 returns-in-None-clause-step g c =
     let old = c.args.self.now in
-    let shows = controls_show (lists_show (λ font. all_white) (lists.records_of (taken_list.loan-value g.dyn-4).it old.lists)) (records_of (taken_control.loan-value g.dyn-2).it old.controls) in
+    let shows = controls_show (lists_show (texts_show (λ font. all_white) old.texts.list.items.items) (lists.records_of (taken_list.loan-value g.dyn-4).it old.lists)) (records_of (taken_control.loan-value g.dyn-2).it old.controls) in
     let windows = desk_of (taken.loan-value g.dyn-1).it old.windows [] in
     let none = let_go_showing shows ((stock.all_slots-value g.dyn-1 g.dyn-2 g.dyn-4 g.dyn-3).it c.args.stock.now).windows windows c.args.call.now old.activity ∙ sym c.in-None.ensures in
     rw none (c.outline.ensures.step _ c.requires.whole)

@@ -12,10 +12,12 @@ use Rattle.control_mgr.specs.ControlDesks.{controls_show}
 use Rattle.control_mgr.specs.WholeControls.{records_of}
 use Rattle.list_mgr.specs.ListDesks.{lists_show}
 use Rattle.list_mgr.specs.WholeLists as lists
+use Rattle.text_mgr.specs.TextDesks.{texts_show}
 use Rattle.menu_mgr.proofs.MenusShowing.{menu_step_showing}
-use Rattle.desk_toolbox.proofs.ContentsBeside.{frames_leave, frames_leave_lists, frames_leave_known, menus_leave, menus_leave_lists, menus_leave_known}
-use Rattle.desk_toolbox.proofs.MenuStands.{menu_outlines_none, menu_trackable}
+use Rattle.desk_toolbox.proofs.ContentsBeside.{frames_leave, frames_leave_lists, frames_leave_texts, frames_leave_known, menus_leave, menus_leave_lists, menus_leave_texts, menus_leave_known}
+use Rattle.desk_toolbox.proofs.MenuStands.{menu_outlines_none, menu_selectable, menu_trackable}
 use Rattle.desk_toolbox.proofs.TrackedControls.{frame_trackable}
+use Rattle.desk_toolbox.proofs.SelectedTexts.{frame_selectable}
 use Rattle.desk_toolbox.proofs.MenusBeside.{frame_whole}
 use Rattle.desk_toolbox.proofs.Quiet.{quiet_named}
 use Rattle.desk_toolbox.proofs.UpdatesBeside.{updates_after_frame, updates_after_menu}
@@ -41,6 +43,8 @@ returns-in-Frame-clause-whole g c =
       updates = updates_after_frame _ c.args.self.now.windows c.perform.new.windows c.args.self.now.updates _ _ before after c.in-Frame.call c.perform.result may done.1 c.requires.whole.managers.updates;
       controls = frames_leave c.in-Frame.call c.perform.result _ _ _ done.1 c.requires.whole.managers.controls;
       lists = frames_leave_lists c.in-Frame.call c.perform.result _ _ _ done.1 c.requires.whole.managers.lists;
+      texts = frames_leave_texts c.in-Frame.call c.perform.result _ _ _ done.1 c.requires.whole.managers.texts;
+      selectable = frame_selectable _ _ _ c.requires.whole.managers.selectable c.in-Frame.call c.perform.result done.1;
       known = frames_leave_known c.in-Frame.call c.perform.result _ _ done.1 c.requires.whole.managers.known;
       trackable = frame_trackable _ _ _ c.requires.whole.managers.trackable c.in-Frame.call c.perform.result done.1;
       menus = menus.menus;
@@ -57,9 +61,9 @@ returns-in-Frame-clause-step g c =
       c.perform.result,
       search rules,
       (
-        frame_step_showing (controls_show (lists_show (λ font. all_white) (lists.records_of (taken_list.loan-value g.dyn-4).it c.args.self.now.lists)) (records_of (taken_control.loan-value g.dyn-2).it c.args.self.now.controls)) c.in-Frame.call c.perform.result (desk_with before (state_of (taken.loan-value g.dyn-1).it c.args.self.now.windows _)) (desk_with after (state_of (taken.loan-value g.dyn-1).it c.perform.new.windows _))
+        frame_step_showing (controls_show (lists_show (texts_show (λ font. all_white) c.args.self.now.texts.list.items.items) (lists.records_of (taken_list.loan-value g.dyn-4).it c.args.self.now.lists)) (records_of (taken_control.loan-value g.dyn-2).it c.args.self.now.controls)) c.in-Frame.call c.perform.result (desk_with before (state_of (taken.loan-value g.dyn-1).it c.args.self.now.windows _)) (desk_with after (state_of (taken.loan-value g.dyn-1).it c.perform.new.windows _))
             c.requires.whole.managers.windows.sound.distinct done.1,
-        record { events = refl; controls = refl; lists = refl; menus = refl },
+        record { events = refl; controls = refl; lists = refl; texts = refl; menus = refl },
       ),
     )
 
@@ -75,6 +79,8 @@ returns-in-Menu-clause-whole g c =
       updates = updates_after_menu _ c.args.self.now.windows c.perform-in-Menu.new.windows c.args.self.now.updates _ _ before after _ _ c.in-Menu.call c.perform-in-Menu.result may done.2 c.requires.whole.managers.updates;
       controls = menus_leave c.in-Menu.call c.perform-in-Menu.result _ _ _ done.2 c.requires.whole.managers.controls;
       lists = menus_leave_lists c.in-Menu.call c.perform-in-Menu.result _ _ _ done.2 c.requires.whole.managers.lists;
+      texts = menus_leave_texts c.in-Menu.call c.perform-in-Menu.result _ _ _ done.2 c.requires.whole.managers.texts;
+      selectable = menu_selectable c.in-Menu.call c.perform-in-Menu.result _ _ _ may done.2;
       known = menus_leave_known c.in-Menu.call c.perform-in-Menu.result _ _ done.2 c.requires.whole.managers.known;
       trackable = menu_trackable c.in-Menu.call c.perform-in-Menu.result _ _ _ may done.2;
       menus = done.1;
@@ -88,10 +94,11 @@ returns-in-Menu-clause-step g c =
       c.perform-in-Menu.result,
       search rules,
       record {
-        step = menu_step_showing (controls_show (lists_show (λ font. all_white) (lists.records_of (taken_list.loan-value g.dyn-4).it c.args.self.now.lists)) (records_of (taken_control.loan-value g.dyn-2).it c.args.self.now.controls)) _ _ c.requires.whole.managers.windows.sound.distinct c.in-Menu.call c.perform-in-Menu.result done.2;
+        step = menu_step_showing (controls_show (lists_show (texts_show (λ font. all_white) c.args.self.now.texts.list.items.items) (lists.records_of (taken_list.loan-value g.dyn-4).it c.args.self.now.lists)) (records_of (taken_control.loan-value g.dyn-2).it c.args.self.now.controls)) _ _ c.requires.whole.managers.windows.sound.distinct c.in-Menu.call c.perform-in-Menu.result done.2;
         events = refl;
         controls = refl;
         lists = refl;
+        texts = refl;
       },
     )
 
@@ -112,6 +119,12 @@ returns-in-List-clause-whole g c = c.list_call.ensures.whole
 
 pub returns-in-List-clause-step : goal.returns-in-List-clause-step
 returns-in-List-clause-step g c = rw c.in-List.is (c.list_call.result, search rules, c.list_call.ensures.step)
+
+pub returns-in-Text-clause-whole : goal.returns-in-Text-clause-whole
+returns-in-Text-clause-whole g c = c.text_call.ensures.whole
+
+pub returns-in-Text-clause-step : goal.returns-in-Text-clause-step
+returns-in-Text-clause-step g c = rw c.in-Text.is (c.text_call.result, search rules, c.text_call.ensures.step)
 
 pub returns-in-Window-clause-step : goal.returns-in-Window-clause-step
 returns-in-Window-clause-step g c = rw c.in-Window.is (c.window_call.result, search rules, c.window_call.ensures.step)

@@ -10,6 +10,8 @@ returns-clause-whole g c stocks whole = record {
     menus = whole.managers.menus;
     front = whole.managers.front;
     lists = whole.managers.lists;
+    texts = whole.managers.texts;
+    selectable = whole.managers.selectable;
     known = whole.managers.known;
   };
   right = whole.right;

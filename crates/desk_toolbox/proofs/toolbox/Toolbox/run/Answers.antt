@@ -15,7 +15,7 @@ loop-call-preserved g c = record {
 }
 
 pub returns-clause-right : goal.returns-clause-right
-returns-clause-right g c right = run_is_right _ _ _ _ right (record { controls = c.requires.managers.controls; lists = c.requires.managers.lists; known = c.requires.managers.known; shown = refl }) c.loop-call.invariant.run
+returns-clause-right g c right = run_is_right _ _ _ _ right (record { controls = c.requires.managers.controls; lists = c.requires.managers.lists; texts = c.requires.managers.texts; known = c.requires.managers.known; shown = refl }) c.loop-call.invariant.run
 
 pub returns-clause-run : goal.returns-clause-run
 returns-clause-run g c = run_of_all IsStep _ _ c.args.calls.now c.loop-call.answers.items c.loop-call.call-index (search rules) c.loop-call.invariant.run

@@ -26,6 +26,8 @@ use Rattle.control_mgr.specs.WholeControls.{AreWholeControls, controls_state, re
 use Rattle.list_mgr.specs.ListDesks.{KeptList, lists_show}
 use Rattle.list_mgr.specs.WholeLists.{AreWholeLists, IsSettledList, lists_state}
 use Rattle.list_mgr.specs.WholeLists as lists
+use Rattle.text_mgr.specs.TextDesks.{texts_show}
+use Rattle.text_mgr.specs.WholeTexts.{AreWholeTexts, texts_state}
 use Rattle.desk_toolbox.specs.Run.{IsWindowDone, IsWindowTold}
 use Rattle.desk_toolbox.specs.ToolboxStates.{ToolboxState}
 use Rattle.desk_toolbox.specs.WholeToolbox.{toolbox_state}
@@ -38,6 +40,7 @@ use Rattle.desk_toolbox.proofs.Natures.{caught_up_so, covered_so, ends_its, narr
 use Rattle.desk_toolbox.proofs.Stands.{left_trackable}
 use Rattle.desk_toolbox.proofs.UpdatesBeside.{updates_after_following, updates_after_window}
 use Rattle.desk_toolbox.specs.KnownLayers.{AreLayersKnown}
+use Rattle.desk_toolbox.proofs.SelectedTexts.{left_selectable}
 use Rattle.desk_toolbox.proofs.toolbox.Toolbox.window_call.Goals as goal
 
 -- ---- the menus tell
@@ -86,7 +89,7 @@ pub returns-in-Ok-clause-step : goal.returns-in-Ok-clause-step
 returns-in-Ok-clause-step g c =
     let old = c.args.self.now in
     let loan = (taken.loan-value g.dyn-1).it in
-    let shows = controls_show (lists_show (λ font. all_white) (lists.records_of (taken_list.loan-value g.dyn-4).it old.lists)) (records_of (taken_control.loan-value g.dyn-2).it old.controls) in
+    let shows = controls_show (lists_show (texts_show (λ font. all_white) old.texts.list.items.items) (lists.records_of (taken_list.loan-value g.dyn-4).it old.lists)) (records_of (taken_control.loan-value g.dyn-2).it old.controls) in
     let done = c.in-Ok.ensures in
     let caught = (caught_up_so c.args.call.now c.args.nature c.requires.nature _ c.perform.new.self c.follow.new.windows c.follow.ensures.told _ done.whole).1 in
     window_is_told _ c.args.call.now (Ok c.in-Ok.reply) _ _ (covered_so c.args.call.now c.args.nature c.requires.nature _ _ _ (c.is_behind_menu.ensures _) c.if-is_behind_menu.false)
@@ -102,6 +105,7 @@ returns-in-Ok-clause-step g c =
       shown = refl;
       controls = c.forget.ensures.controls c.args.call.now (ends_its c.args.call.now c.args.nature c.requires.nature);
       lists = c.forget.ensures.lists c.args.call.now (ends_its c.args.call.now c.args.nature c.requires.nature);
+      texts = c.forget.ensures.texts c.args.call.now (ends_its c.args.call.now c.args.nature c.requires.nature);
       events = c.forget.ensures.events c.args.call.now (ends_its c.args.call.now c.args.nature c.requires.nature);
       menus = refl;
     })
@@ -125,21 +129,24 @@ returns-in-Ok-clause-whole g c =
     (window_whole _ _ old.windows mid _ _ _ _ _ old.activity c.args.call.now (Ok c.in-Ok.reply) c.requires.admitted done.step (record { menus = c.requires.whole.managers.menus; front = c.requires.whole.managers.front })) in
     let before : ToolboxState = toolbox_state loan menu_loan control_loan list_loan old ((stock.all_slots-value g.dyn-1 g.dyn-2 g.dyn-4 g.dyn-3).it c.args.stock.now) in
     let after : ToolboxState = record {
-      desk = desk_with (opened old.activity old.updates) (state_showing (controls_show (lists_show (λ font. all_white) (lists.records_of list_loan c.forget.new.lists)) (records_of control_loan c.forget.new.controls)) (state_of loan c.follow.new.windows (window_slots c.perform.new.stock)));
+      desk = desk_with (opened old.activity old.updates) (state_showing (controls_show (lists_show (texts_show (λ font. all_white) c.forget.new.texts.list.items.items) (lists.records_of list_loan c.forget.new.lists)) (records_of control_loan c.forget.new.controls)) (state_of loan c.follow.new.windows (window_slots c.perform.new.stock)));
       controls = controls_state control_loan c.forget.new.controls (slots c.forget.new.control_stock);
       lists = lists_state list_loan c.forget.new.lists (list_slots c.forget.new.list_stock);
+      texts = texts_state c.forget.new.texts;
       menus = before.menus;
       events = c.forget.new.events;
     } in
     let step : IsWindowDone c.args.call.now c.in-Ok.reply before after =
     subst (λ b. IsWindowTold b c.args.call.now (Ok c.in-Ok.reply) before after) (covered_so c.args.call.now c.args.nature c.requires.nature _ _ _ (c.is_behind_menu.ensures _) c.if-is_behind_menu.false) (returns-in-Ok-clause-step g c) in
-    let right = made_keeps_contents c.args.call.now c.in-Ok.reply before step.middle step.told after (record { controls = c.requires.whole.managers.controls; lists = c.requires.whole.managers.lists; known = c.requires.whole.managers.known; shown = refl })
-    (record { look = look_on old.windows; distinct = c.requires.whole.managers.windows.sound.distinct; serials = c.requires.whole.managers.windows.sound.serials }) step.answered step.caught_up step.shown step.controls step.lists in
+    let right = made_keeps_contents c.args.call.now c.in-Ok.reply before step.middle step.told after (record { controls = c.requires.whole.managers.controls; lists = c.requires.whole.managers.lists; texts = c.requires.whole.managers.texts; known = c.requires.whole.managers.known; shown = refl })
+    (record { look = look_on old.windows; distinct = c.requires.whole.managers.windows.sound.distinct; serials = c.requires.whole.managers.windows.sound.serials }) step.answered step.caught_up step.shown step.controls step.lists step.texts in
     record {
       windows = told.0;
       updates = updates_after_following loan mid c.follow.new.windows old.updates _ _ old.activity c.args.call.now c.requires.admitted told.1 updates;
       controls = right.controls;
       lists = right.lists;
+      texts = right.texts;
+      selectable = left_selectable c.args.call.now before after c.requires.admitted refl step.texts c.requires.whole.managers.selectable;
       known = right.known;
       trackable = left_trackable c.args.call.now before after c.requires.admitted refl step.controls c.requires.whole.managers.trackable;
       menus = menus.menus;
@@ -157,13 +164,13 @@ returns-in-Ok-clause-economy g c informed =
 pub returns-in-Err-clause-step : goal.returns-in-Err-clause-step
 returns-in-Err-clause-step g c =
     let old = c.args.self.now in
-    let shows = controls_show (lists_show (λ font. all_white) (lists.records_of (taken_list.loan-value g.dyn-4).it old.lists)) (records_of (taken_control.loan-value g.dyn-2).it old.controls) in
+    let shows = controls_show (lists_show (texts_show (λ font. all_white) old.texts.list.items.items) (lists.records_of (taken_list.loan-value g.dyn-4).it old.lists)) (records_of (taken_control.loan-value g.dyn-2).it old.controls) in
     window_is_told _ c.args.call.now (Err c.in-Err.refusal) _ _ (covered_so c.args.call.now c.args.nature c.requires.nature _ _ _ (c.is_behind_menu.ensures _) c.if-is_behind_menu.false) (
       rw (narrowed_so c.args.call.now c.args.nature c.requires.nature c.args.self.now.activity (opened c.args.self.now.activity c.args.self.now.updates).begun None c.in_default.ensures) (
         record { activity = refl; begun = refl },
         step_showing shows c.args.call.now (Err c.in-Err.refusal) (state_of (taken.loan-value g.dyn-1).it old.windows _) (state_of (taken.loan-value g.dyn-1).it c.perform.new.self _) c.in-Err.ensures.whole.sound.distinct c.in-Err.ensures.step,
       ),
-      record { events = refl; controls = refl; lists = refl; menus = refl },
+      record { events = refl; controls = refl; lists = refl; texts = refl; menus = refl },
     )
 
 pub returns-in-Err-clause-whole : goal.returns-in-Err-clause-whole
@@ -187,6 +194,8 @@ returns-in-Err-clause-whole g c =
       menus = menus.menus;
       front = menus.front;
       lists = subst (λ ws. AreWholeLists ws (lists_state list_loan old.lists ((list_stock.slots-value g.dyn-4).it c.args.stock.now.lists))) (sym windows) c.requires.whole.managers.lists;
+      texts = subst (λ ws. AreWholeTexts ws (texts_state old.texts)) (sym windows) c.requires.whole.managers.texts;
+      selectable = c.requires.whole.managers.selectable;
       known = subst AreLayersKnown (sym windows) c.requires.whole.managers.known;
     }
 

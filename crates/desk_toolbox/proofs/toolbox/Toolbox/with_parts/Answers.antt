@@ -8,13 +8,14 @@ use Rattle.control_mgr.specs.ControlDesks.{controls_show}
 use Rattle.control_mgr.specs.WholeControls.{records_of}
 use Rattle.list_mgr.specs.ListDesks.{lists_show}
 use Rattle.list_mgr.specs.WholeLists as whole_lists
+use Rattle.text_mgr.specs.TextDesks.{texts_show}
 use Rattle.menu_mgr.proofs.Stocks.{stocked_by_full}
 use Rattle.desk_toolbox.proofs.Begun.{right_bare}
 use Rattle.desk_toolbox.proofs.MenusBeside.{menus_begin}
 use Rattle.desk_toolbox.proofs.UpdatesBeside.{updates_begin}
 use Rattle.window_mgr.specs.FullDesk.{FullDesk}
 use Rattle.list_mgr.specs.Seen as lists
-use Rattle.desk_toolbox.proofs.ListStands.{no_lists_whole, none_known}
+use Rattle.desk_toolbox.proofs.ListStands.{no_lists_whole, no_texts_whole, none_known}
 use Rattle.desk_toolbox.proofs.TrackedControls.{none_whole}
 use Rattle.desk_toolbox.proofs.toolbox.Toolbox.with_parts.Goals as goal
 
@@ -34,7 +35,7 @@ returns-in-Ok-clause-whole g c stocks full =
     let begun = simp to_z-of_z at c.in-Ok.ensures.begun in
     let empty = begun stocks.windows full.windows in
     let menus = menus_begin _ _ c.args.width c.args.height c.args.bar _ _ _ _ stocks.windows stocks.menus c.requires.menus c.requires.front empty (stocked_by_full stocks.menus full.menus) in
-    let shows = controls_show (lists_show (λ font. all_white) (whole_lists.records_of (taken_list.loan-value g.dyn-4).it c.new-in-Ok-2.result)) (records_of (taken_control.loan-value g.dyn-3).it c.new-in-Ok.result) in
+    let shows = controls_show (lists_show (texts_show (λ font. all_white) c.new-in-Ok-3.result.list.items.items) (whole_lists.records_of (taken_list.loan-value g.dyn-4).it c.new-in-Ok-2.result)) (records_of (taken_control.loan-value g.dyn-3).it c.new-in-Ok.result) in
     record {
       managers = record {
         windows = empty.whole;
@@ -42,6 +43,8 @@ returns-in-Ok-clause-whole g c stocks full =
         controls = none_whole _ _ (ap (λ (d : FullDesk). d.windows) empty.desk) (ap (all_seen _) c.new-in-Ok.ensures.controls) c.new-in-Ok.ensures.next full.controls;
         trackable = tt;
         lists = no_lists_whole _ _ (ap (λ (d : FullDesk). d.windows) empty.desk) (ap (lists.all_seen _) c.new-in-Ok-2.ensures.lists) c.new-in-Ok-2.ensures.next full.lists;
+        texts = no_texts_whole _ _ (ap (λ (d : FullDesk). d.windows) empty.desk) c.new-in-Ok-3.ensures.texts c.new-in-Ok-3.ensures.next;
+        selectable = tt;
         known = none_known _ (ap (λ (d : FullDesk). d.windows) empty.desk);
         menus = menus.menus;
         front = menus.front;

@@ -1,0 +1,2 @@
+pub mod TextVerbs
+pub mod TextWords
