@@ -1,0 +1,2 @@
+-- Lemmas on the desk of these tests.
+pub mod FirstWindow
