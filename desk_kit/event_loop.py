@@ -135,6 +135,10 @@ class EventLoop(ShownDesk):
         elif not self.tracked and not self.known.open:
             self.guarded(self.texts.blink)
 
+    def blinks(self):
+        """Where a text record is active its caret may blink."""
+        return bool(self.texts.active())
+
     def happened(self, kind, message, h, v, modifiers):
         """Posts an event, and serves what there is to be served."""
         self.point = clamped(h), clamped(v)
