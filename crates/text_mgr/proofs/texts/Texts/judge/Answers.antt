@@ -1,4 +1,4 @@
-use Rattle.std.proofs.Common.{rules, ◌≡◌, ◌<◌, ◌≤◌, true, false, get_or, Some, None, sym, ap, ◌∙◌, subst, SFits, w32}
+use Rattle.std.proofs.Common.{rules, ◌<◌, ◌≤◌, false, get_or, Some, sym, ap, ◌∙◌, subst, SFits, w32}
 use Rattle.std.proofs.lemmas.Int.{to_z-of_z}
 use Rattle.control_mgr.proofs.Lays.{one_item}
 use Rattle.text_mgr.specs.TextPlaces.{justification_of, may_stand_at, placing_of}
