@@ -12,8 +12,8 @@ use Rattle.lent_ops.specs.Points.{are_points}
 use Rattle.line_words.specs.Words.{◌>>=◌, Field, word_at, is_plain, serial_of}
 use Rattle.line_words.specs.Shapes.{Shape, mapped, never}
 use Rattle.line_words.specs.Tables.{named}
-use Rattle.command_words.specs.declared.forms.FormWord.{FormWord}
-use Rattle.command_words.specs.declared.forms.FormWord.TheVariants as forms
+use Rattle.form_words.specs.declared.forms.FormWord.{FormWord}
+use Rattle.form_words.specs.declared.forms.FormWord.TheVariants as forms
 use Rattle.command_words.specs.declared.operation.Operation.{Operation}
 use Rattle.command_words.specs.declared.operation.Operation.TheVariants as operation_words
 use Rattle.command_words.specs.declared.updates.UpdateVerb.{UpdateVerb}
@@ -26,12 +26,12 @@ use Rattle.command_words.specs.ControlWords.{control_shape}
 use Rattle.command_words.specs.Drawings.{form_operations, frame_operations, shade_shape, shaded_rect_shape, line_shape, run_shape, bits_shape, region_shape, operations, operations_of, operation_shape, clipped_shape, clip_shape, drawing_shape}
 use Rattle.command_words.specs.EventWords.{event_shape}
 use Rattle.command_words.specs.Asked.{asked_shape}
-use Rattle.command_words.specs.Forms.{form_shape, pen}
+use Rattle.form_words.specs.Forms.{form_shape, pen}
 use Rattle.command_words.specs.FrameWords.{frame_shape}
 use Rattle.command_words.specs.ListWords.{list_shape}
 use Rattle.command_words.specs.MenuWords.{menu_shape}
 use Rattle.command_words.specs.OutlineWords.{outline_shape}
-use Rattle.command_words.specs.UpdateWords.{rect_area_shape, region_area_shape, update_shape}
+use Rattle.command_words.specs.UpdateWords.{update_shape}
 use Rattle.command_words.specs.Verbs.{verbs, verbs_of, verbs_of_3}
 use Rattle.text_words.specs.TextVerbs.{text_verbs}
 use Rattle.text_words.specs.TextWords.{text_shape}
@@ -164,10 +164,10 @@ module _ (version : ℤ) where
   update_says : (verb : UpdateVerb) → has_verb (int_le (pos 2) version) (int_le (pos 3) version) (words.Update verb) ≡ true
       → AllSaid (λ call. has_command version (Call (calls.Update call)) ≡ true) (update_shape verb)
   unfolding update_shape
-  update_says updates.InvalidateRect had = all_said-mapped _ _ rect_area_shape (all_said-any _ (λ area. refl) rect_area_shape)
-  update_says updates.InvalidateRegion had = all_said-mapped _ _ region_area_shape (all_said-any _ (λ area. refl) region_area_shape)
-  update_says updates.ValidateRect had = all_said-mapped _ _ rect_area_shape (all_said-any _ (λ area. refl) rect_area_shape)
-  update_says updates.ValidateRegion had = all_said-mapped _ _ region_area_shape (all_said-any _ (λ area. refl) region_area_shape)
+  update_says updates.InvalidateRect had = λ window left top right bottom. refl
+  update_says updates.InvalidateRegion had = λ window bytes. refl
+  update_says updates.ValidateRect had = λ window left top right bottom. refl
+  update_says updates.ValidateRegion had = λ window bytes. refl
   update_says updates.Begin had = λ window. refl
   update_says updates.DrawPicture had = λ window. refl
   update_says updates.DrawTexts had = λ window. had
