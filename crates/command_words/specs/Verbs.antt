@@ -1,5 +1,6 @@
 -- The first words of commands.
 use Rattle.std.specs.Prelude.{ℕ, ℤ, pos, int_le, List, [], ◌∷◌, ◌++◌, map, codes, if◌then◌else◌}
+use Rattle.dialog_words.specs.DialogVerbs.{dialog_verbs}
 use Rattle.text_words.specs.TextVerbs.{text_verbs}
 use Rattle.command_words.specs.declared.controls.ControlVerb.TheVariants as controls
 use Rattle.command_words.specs.declared.events.EventVerb.TheVariants as events
@@ -125,9 +126,13 @@ own_verbs_of_3 = (codes "region", words.Window windows.Region) ∷ (codes "drawt
 abbrev pub verbs_for_texts : List (List ℕ × Verb)
 verbs_for_texts = map (λ v. (v.0, words.Text v.1)) text_verbs
 
+-- the ones for the items of dialogs
+abbrev pub verbs_for_dialogs : List (List ℕ × Verb)
+verbs_for_dialogs = map (λ v. (v.0, words.Dialog v.1)) dialog_verbs
+
 -- and all of these
 abbrev pub verbs_of_3 : List (List ℕ × Verb)
-verbs_of_3 = own_verbs_of_3 ++ verbs_for_texts
+verbs_of_3 = own_verbs_of_3 ++ (verbs_for_texts ++ verbs_for_dialogs)
 
 -- which this version has, if it is version 3 or a later one
 abbrev pub verbs_since_3 : ℤ → List (List ℕ × Verb)

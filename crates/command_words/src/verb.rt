@@ -1,7 +1,7 @@
 //! The first words of commands.
-ghost use Rattle.std.specs.Prelude.{◌≡◌};
+ghost use Rattle.std.specs.Prelude.{◌≡◌, ◌++◌};
 ghost use Rattle.line_words.specs.Tables.{named};
-ghost use Rattle.command_words.specs.Verbs.{verbs, verbs_since_2, verbs_since_3, verbs_of_3, verbs_for_texts, own_verbs_of_3, later_verbs, verbs_of};
+ghost use Rattle.command_words.specs.Verbs.{verbs, verbs_since_2, verbs_since_3, verbs_of_3, verbs_for_dialogs, verbs_for_texts, own_verbs_of_3, later_verbs, verbs_of};
 
 use crate::controls::ControlVerb;
 use crate::events::EventVerb;
@@ -12,6 +12,7 @@ use crate::outlines::OutlineVerb;
 use crate::updates::UpdateVerb;
 use crate::windows::WindowVerb;
 use line_words::named;
+use dialog_words::{DialogVerb, dialog_verb_of};
 use text_words::{TextVerb, text_verb_of};
 
 /// The first word of a command, by what it is about. It says which words follow.
@@ -27,6 +28,7 @@ pub enum Verb {
     Control(ControlVerb),
     List(ListVerb),
     Text(TextVerb),
+    Dialog(DialogVerb),
     Menu(MenuVerb),
     Event(EventVerb),
 }
@@ -190,7 +192,7 @@ fn verb_of_3(word: &[u8]) -> Option<Verb>
 {
     match own_verb_of_3(word) {
         Some(verb) => Some(verb),
-        None => text_word_of(word),
+        None => text_or_dialog_word_of(word),
     }
 }
 
@@ -199,6 +201,24 @@ fn own_verb_of_3(word: &[u8]) -> Option<Verb>
     ensures { result ≡ named word.now own_verbs_of_3 }
 {
     named(&VERBS_OF_3, word)
+}
+
+/// The same of the verbs for text records and for dialogs.
+fn text_or_dialog_word_of(word: &[u8]) -> Option<Verb>
+    ensures { result ≡ named word.now (verbs_for_texts ++ verbs_for_dialogs) }
+{
+    match text_word_of(word) {
+        Some(verb) => Some(verb),
+        None => dialog_word_of(word),
+    }
+}
+
+/// The same of the verbs for dialogs.
+fn dialog_word_of(word: &[u8]) -> Option<Verb>
+    ensures { result ≡ named word.now verbs_for_dialogs }
+{
+    let verb = dialog_verb_of(word)?;
+    Some(Verb::Dialog(verb))
 }
 
 /// The same of the verbs for text records.

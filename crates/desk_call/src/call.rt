@@ -1,9 +1,9 @@
 //! What a Toolbox can be asked, and what it answers.
 
 use crate::{
-    ControlCall, ControlReply, EventCall, EventReply, FrameCall, FrameReply, ListCall, ListReply,
-    MenuCall, MenuReply, OutlineCall, OutlineReply, TextCall, TextReply, UpdateCall, WindowCall,
-    WindowReply,
+    ControlCall, ControlReply, DialogCall, DialogReply, EventCall, EventReply, FrameCall,
+    FrameReply, ListCall, ListReply, MenuCall, MenuReply, OutlineCall, OutlineReply, TextCall,
+    TextReply, UpdateCall, WindowCall, WindowReply,
 };
 
 /// A call of the Toolbox, by what it is about. Titles, and the bytes of operations and regions, are borrowed, so that
@@ -22,6 +22,8 @@ pub enum Call<'a> {
     List(ListCall<'a>),
     /// About text records and the scrap.
     Text(TextCall<'a>),
+    /// About the items of dialogs.
+    Dialog(DialogCall<'a>),
     /// About menus.
     Menu(MenuCall<'a>),
     /// About the outline of a window that is dragged or grown.
@@ -43,6 +45,8 @@ pub enum Reply {
     List(ListReply),
     /// To a `Call::Text`.
     Text(TextReply),
+    /// To a `Call::Dialog`.
+    Dialog(DialogReply),
     /// To a `Call::Menu`.
     Menu(MenuReply),
     /// To a `Call::Outline`.

@@ -1,11 +1,12 @@
 //! What kind of call it is.
 ghost use Rattle.std.specs.Prelude.{◌≡◌};
-ghost use Rattle.desk_call.specs.Gates.{update_standing, frame_standing, menu_standing, list_standing, outline_standing, text_standing};
+ghost use Rattle.desk_call.specs.Gates.{update_standing, frame_standing, menu_standing, list_standing, outline_standing};
+ghost use Rattle.desk_call.specs.Gates.{dialog_standing, text_standing};
 ghost use Rattle.desk_call.specs.Natures.{nature_of, window_nature, control_nature, plain};
 
 use crate::{
-    Call, ControlCall, FrameCall, ListCall, MenuCall, OutlineCall, PointInWindow, Standing,
-    TextCall, UpdateCall, WindowCall,
+    Call, ControlCall, DialogCall, FrameCall, ListCall, MenuCall, OutlineCall, PointInWindow,
+    Standing, TextCall, UpdateCall, WindowCall,
 };
 use tb_geom::Point;
 
@@ -70,6 +71,7 @@ impl Call<'_> {
             Call::Control(call) => call.nature(),
             Call::List(call) => call.nature(),
             Call::Text(call) => call.nature(),
+            Call::Dialog(call) => call.nature(),
             Call::Menu(call) => call.nature(),
             Call::Outline(call) => call.nature(),
             Call::Event(_) => Nature::plain(Standing::Asks),
@@ -187,6 +189,18 @@ impl OutlineCall {
         Nature::plain(match self {
             OutlineCall::StepDrag(_) | OutlineCall::EndDrag(_) => Standing::Drags,
             OutlineCall::StepGrow(_) | OutlineCall::EndGrow(_) => Standing::Grows,
+            _ => Standing::Changes,
+        })
+    }
+}
+
+impl DialogCall<'_> {
+    /// What kind of call it is.
+    pub fn nature(&self) -> Nature
+        ensures { result ≡ plain (dialog_standing self.now) }
+    {
+        Nature::plain(match self {
+            DialogCall::Get(_) | DialogCall::Info(_) | DialogCall::Find(_) => Standing::Asks,
             _ => Standing::Changes,
         })
     }

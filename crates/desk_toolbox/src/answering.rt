@@ -20,13 +20,15 @@ ghost use Rattle.desk_toolbox.specs.ToolboxStates.{ToolboxState};
 
 use crate::events::Events;
 use crate::{
-    Call, Contents, ControlCall, ControlReply, Desk, EventCall, EventReply, Found, ListCall,
+    Call, Contents, ControlCall, ControlReply, Desk, DialogCall, DialogReply, EventCall, EventReply, Found, ListCall,
     ListReply, PointInWindow, Reply, TextCall, TextReply, Toolbox, UpdateCall, WindowCall,
     WindowPart, WindowReply,
 };
 use control_mgr::{Controls, ControlsOnStock};
 use def_iface::{ControlStock, ListStock, Stock, Stocked, StockedAll, TakenControl, TakenList};
 use desk_call::{Asked, Nature};
+use dialog_items::LayerSort;
+use dialog_mgr::Dialogs;
 use list_mgr::{Lists, ListsOnStock};
 use tb_geom::Refusal;
 use text_mgr::Texts;
@@ -65,6 +67,7 @@ impl Toolbox {
                 .map(Reply::Control),
             Call::List(call) => self.list_call(call, stock).map(Reply::List),
             Call::Text(call) => self.text_call(call).map(Reply::Text),
+            Call::Dialog(call) => self.dialog_call(call, stock).map(Reply::Dialog),
             Call::Menu(call) => self
                 .menus
                 .perform(
@@ -121,6 +124,7 @@ impl Toolbox {
                     &mut self.controls,
                     &mut self.lists,
                     &mut self.texts,
+                    &mut self.dialogs,
                     &mut stock.controls,
                     &mut stock.lists,
                 );
@@ -183,12 +187,17 @@ impl Toolbox {
         if self.is_behind_menu(asks) {
             return Ok(ControlReply::Found(None));
         }
-        self.controls.perform(
+        let reply = self.controls.perform(
             &mut self.windows,
             &mut self.activity,
             call,
             &mut stock.controls,
-        )
+        )?;
+        if let ControlCall::Dispose(gone) = call {
+            self.dialogs
+                .layer_gone(gone.window, LayerSort::Control, gone.control);
+        }
+        Ok(reply)
     }
 
     /// Whether a point of a window lies where the menu does that is pulled down.
@@ -240,8 +249,37 @@ impl Toolbox {
             (⟦<Self as Desk>⟧.state_over self.old stocks)
             (⟦<Self as Desk>⟧.state_over self.new stocks) }
     {
-        self.texts
-            .perform(&mut self.windows, &mut self.activity, call)
+        let reply = self
+            .texts
+            .perform(&mut self.windows, &mut self.activity, call)?;
+        if let TextCall::Dispose(gone) = call {
+            self.dialogs
+                .layer_gone(gone.window, LayerSort::Text, gone.text);
+        }
+        Ok(reply)
+    }
+
+    /// Answers a call about the items of dialogs.
+    fn dialog_call(
+        &mut self,
+        call: &DialogCall<'_>,
+        stock: &mut Stock,
+    ) -> Result<DialogReply, Refusal>
+        requires whole { ⟦<Self as Desk>⟧.IsWhole self.old stock.old }
+        requires admitted { gate self.old.activity (dialog_standing call.now) ≡ None }
+        ensures whole { ⟦<Self as Desk>⟧.HasWholeManagers self.new stock.new }
+        ensures step { IsDialogAnswer call.now result
+            (⟦<Self as Desk>⟧.state self.old stock.old)
+            (⟦<Self as Desk>⟧.state self.new stock.new) }
+    {
+        self.dialogs.perform(
+            &mut self.windows,
+            &mut self.activity,
+            &mut self.controls,
+            &mut self.texts,
+            call,
+            &mut stock.controls,
+        )
     }
 
     /// Answers a call about events.
@@ -268,6 +306,7 @@ fn forget(
     controls: &mut Controls<TakenControl>,
     lists: &mut Lists<TakenList>,
     texts: &mut Texts,
+    dialogs: &mut Dialogs,
     control_stock: &mut ControlStock,
     list_stock: &mut ListStock,
 )
@@ -294,6 +333,7 @@ fn forget(
         controls.end_of(window, control_stock);
         lists.end_of(window, list_stock);
         texts.end_of(window);
+        dialogs.end_of(window);
     }
 }
 
@@ -309,6 +349,7 @@ pub fn form_refusal_of(call: &Call<'_>, stock: &Stock) -> Option<Refusal>
         Call::Update(call) => update_form_refusal(call),
         Call::Control(call) => control_mgr::form_refusal(call, &stock.controls),
         Call::List(call) => list_mgr::form_refusal(call, &stock.lists, &stock.controls),
+        Call::Dialog(call) => dialog_mgr::form_refusal(call, &stock.controls),
         Call::Menu(call) => menu_mgr::form_refusal(call, &stock.menus),
         Call::Frame(_) | Call::Text(_) | Call::Outline(_) | Call::Event(_) => None,
     }

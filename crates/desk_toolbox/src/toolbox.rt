@@ -30,6 +30,7 @@ use bit_map::BitMap;
 use control_mgr::Controls;
 use def_iface::{Stock, StockedAll, TakenControl, TakenList};
 use desk_ground::is_screen;
+use dialog_mgr::Dialogs;
 use list_mgr::Lists;
 use menu_list::MenuList;
 use menu_mgr::Menus;
@@ -58,6 +59,8 @@ pub struct Toolbox {
     pub(crate) lists: Lists<TakenList>,
     /// The text records of its windows, and the scrap.
     pub(crate) texts: Texts,
+    /// The items of its windows.
+    pub(crate) dialogs: Dialogs,
     /// What is open between its begin and its end.
     pub(crate) activity: Activity,
     pub(crate) updates: Updates,
@@ -176,6 +179,7 @@ impl Toolbox {
                 front,
                 lists: Lists::new(alloc),
                 texts: Texts::new(alloc),
+                dialogs: Dialogs::new(alloc),
                 activity: Activity::Idle,
                 updates,
                 events,

@@ -4,3 +4,4 @@ pub mod ListLines
 pub mod MenuLines
 pub mod TextLines
 pub mod WindowLines
+pub mod DialogLines

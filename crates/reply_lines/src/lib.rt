@@ -1,5 +1,5 @@
 //! The lines of replies: what was answered about windows, their frames and outlines, controls, lists, text records,
-//! menus and events.
+//! dialogs, menus and events.
 //!
 //! `write_window_reply` and its likes write one line each: `ok`, and the values of the answer, parted by blanks. Which line
 //! that is, `specs/WindowLines.antt` states and its likes. A cell is told by its column and then its row, and what is not
@@ -7,6 +7,7 @@
 #![tactic(auto)]
 
 mod controls;
+mod dialogs;
 mod events;
 mod lists;
 mod menus;
@@ -14,6 +15,7 @@ mod texts;
 mod windows;
 
 pub use controls::write_control_reply;
+pub use dialogs::write_dialog_reply;
 pub use events::write_event_reply;
 pub use lists::write_list_reply;
 pub use menus::write_menu_reply;

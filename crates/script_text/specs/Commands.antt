@@ -14,6 +14,7 @@ use Rattle.command_words.specs.OutlineWords.{outline_shape}
 use Rattle.command_words.specs.ControlWords.{control_shape}
 use Rattle.command_words.specs.ListWords.{list_shape}
 use Rattle.text_words.specs.TextWords.{text_shape}
+use Rattle.dialog_words.specs.DialogWords.{dialog_shape}
 use Rattle.command_words.specs.MenuWords.{menu_shape}
 use Rattle.command_words.specs.EventWords.{event_shape}
 use Rattle.script_text.specs.declared.command.Command.{Command}
@@ -41,6 +42,7 @@ shape_of version (words.Outline verb) = mapped (λ call. Call (calls.Outline cal
 shape_of version (words.Control verb) = mapped (λ call. Call (calls.Control call)) (control_shape verb)
 shape_of version (words.List verb) = mapped (λ call. Call (calls.List call)) (list_shape verb)
 shape_of version (words.Text verb) = mapped (λ call. Call (calls.Text call)) (text_shape verb)
+shape_of version (words.Dialog verb) = mapped (λ call. Call (calls.Dialog call)) (dialog_shape verb)
 shape_of version (words.Menu verb) = mapped (λ call. Call (calls.Menu call)) (menu_shape verb)
 shape_of version (words.Event verb) = mapped (λ call. Call (calls.Event call)) (event_shape verb)
 

@@ -8,6 +8,7 @@ use Rattle.reply_lines.specs.WindowLines.{window_reply_text, frame_reply_text, o
 use Rattle.reply_lines.specs.ControlLines.{control_reply_text}
 use Rattle.reply_lines.specs.ListLines.{list_reply_text}
 use Rattle.reply_lines.specs.TextLines.{text_reply_text}
+use Rattle.reply_lines.specs.DialogLines.{dialog_reply_text}
 use Rattle.reply_lines.specs.MenuLines.{menu_reply_text}
 use Rattle.reply_lines.specs.EventLines.{event_reply_text}
 
@@ -23,6 +24,7 @@ reply_text (Ok (replies.Outline reply)) = outline_reply_text reply
 reply_text (Ok (replies.Control reply)) = control_reply_text reply
 reply_text (Ok (replies.List reply)) = list_reply_text reply
 reply_text (Ok (replies.Text reply)) = text_reply_text reply
+reply_text (Ok (replies.Dialog reply)) = dialog_reply_text reply
 reply_text (Ok (replies.Menu reply)) = menu_reply_text reply
 reply_text (Ok (replies.Event reply)) = event_reply_text reply
 reply_text (Err e) = refused_text e

@@ -2,7 +2,7 @@
 use Rattle.std.specs.Prelude.{ℤ, pos, int_le, Bool, true}
 use Rattle.lent_ops.specs.declared.op_ref.ShapeRef.{ShapeRef}
 use Rattle.lent_ops.specs.declared.op_ref.ShapeRef.TheVariants.{Form, FrameRgn}
-use Rattle.desk_call.specs.declared.call.Call.TheVariants.{Window, Update, Text}
+use Rattle.desk_call.specs.declared.call.Call.TheVariants.{Window, Update, Text, Dialog}
 use Rattle.desk_call.specs.declared.update.LayerKind.{LayerKind}
 use Rattle.desk_call.specs.declared.update.LayerKind.TheVariants.{Texts}
 use Rattle.desk_call.specs.declared.update.UpdateCall.TheVariants.{Draw as DrawLayers}
@@ -28,4 +28,5 @@ has_command version (Call (Window (Draw drawing))) = has_operation version drawi
 has_command version (Call (Window (Region form))) = int_le (pos 3) version
 has_command version (Call (Update (DrawLayers drawing))) = has_layers version drawing.layers
 has_command version (Call (Text call)) = int_le (pos 3) version
+has_command version (Call (Dialog call)) = int_le (pos 3) version
 has_command version _ = true

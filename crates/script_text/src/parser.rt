@@ -20,6 +20,7 @@ use command_words::{
     WindowVerb, verb_of,
 };
 use desk_call::Call;
+use dialog_words::DialogVerb;
 use line_words::Words;
 use tb_geom::Refusal;
 use text_words::TextVerb;
@@ -112,6 +113,15 @@ fn text<'a>(verb: TextVerb, words: Words<'a>) -> Result<Command<'a>, Refusal>
     Ok(Command::Call(Call::Text(call)))
 }
 
+/// The words after a verb for dialogs.
+#[tactic(auto, using(line_words::proofs::Mapped::reading_mapped))]
+fn dialog<'a>(verb: DialogVerb, words: Words<'a>) -> Result<Command<'a>, Refusal>
+    ensures { (version : ℤ) → result ≡ reading (shape_of version (verbs.Dialog verb)) words.entry }
+{
+    let call = verb.call(words)?;
+    Ok(Command::Call(Call::Dialog(call)))
+}
+
 /// The words after a verb for menus.
 #[tactic(auto, using(line_words::proofs::Mapped::reading_mapped))]
 fn menu<'a>(verb: MenuVerb, words: Words<'a>) -> Result<Command<'a>, Refusal>
@@ -145,6 +155,7 @@ fn command<'a>(version: i32, verb: Verb, words: Words<'a>) -> Result<Command<'a>
         Verb::Control(verb) => control(verb, words),
         Verb::List(verb) => list(verb, words),
         Verb::Text(verb) => text(verb, words),
+        Verb::Dialog(verb) => dialog(verb, words),
         Verb::Menu(verb) => menu(verb, words),
         Verb::Event(verb) => event(verb, words),
     }

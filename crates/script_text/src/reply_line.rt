@@ -6,8 +6,8 @@ ghost use Rattle.script_text.specs.Replies.{refused_text, reply_text};
 use desk_call::Reply;
 use itoa::Buffer;
 use reply_lines::{
-    write_control_reply, write_event_reply, write_frame_reply, write_list_reply, write_menu_reply,
-    write_outline_reply, write_text_reply, write_window_reply,
+    write_control_reply, write_dialog_reply, write_event_reply, write_frame_reply,
+    write_list_reply, write_menu_reply, write_outline_reply, write_text_reply, write_window_reply,
 };
 use tb_geom::Refusal;
 use watched_io::{Sink, send_all};
@@ -25,6 +25,7 @@ pub fn write_reply<S: Sink>(sink: &mut S, reply: &Result<Reply, Refusal>) -> Res
         Ok(Reply::Control(reply)) => write_control_reply(sink, reply),
         Ok(Reply::List(reply)) => write_list_reply(sink, reply),
         Ok(Reply::Text(reply)) => write_text_reply(sink, reply),
+        Ok(Reply::Dialog(reply)) => write_dialog_reply(sink, reply),
         Ok(Reply::Menu(reply)) => write_menu_reply(sink, *reply),
         Ok(Reply::Event(reply)) => write_event_reply(sink, reply),
         Err(refusal) => write_refusal(sink, *refusal),

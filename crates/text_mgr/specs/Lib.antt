@@ -16,3 +16,4 @@ pub mod Editing
 pub mod Laying
 pub mod Making
 pub mod TextClosing
+pub mod ItemTexts

@@ -48,12 +48,17 @@ is_line n r = int_le (pos 0) n && nat_lt (nat_abs n) (length (lines_of r.text))
 abbrev pub is_full : ℕ → Option ℕ → Bool
 is_full count next = nat_le most_texts count || is_none next
 
-abbrev pub new_refusals : NewText → FullDesk → TextsState → List (Bool × Refusal)
-new_refusals n desk s =
+-- framed or not
+abbrev pub standing_refusals : NewText → Bool → FullDesk → TextsState → List (Bool × Refusal)
+standing_refusals n framed desk s =
     (is_missing n.window desk.windows, NoSuchWindow)
-    ∷ (not (may_stand_in false n.place (record_with n.window desk.windows)), OutOfRange)
+    ∷ (not (may_stand_in framed n.place (record_with n.window desk.windows)), OutOfRange)
     ∷ (is_none (justification_of n.justification), OutOfRange)
     ∷ (is_full (count_of n.window s.texts) s.next, TooMany) ∷ []
+
+-- of a call, which makes no frame
+abbrev pub new_refusals : NewText → FullDesk → TextsState → List (Bool × Refusal)
+new_refusals n desk s = standing_refusals n false desk s
 
 -- ---- calls
 

@@ -106,9 +106,9 @@ TellsBytes bytes answer before after = IsBytes bytes answer × IsTextDeskUnchang
 
 -- ---- text records that are made and ended
 
--- a text record of this serial was made, without text, with what it keeps of the font; its layer lies behind all others of its
+-- a text record of this serial was made, framed or not, with what it keeps of the font, and changed so; its layer lies behind all others of its
 -- window, and all that it owns was drawn
-pub record IsTextMade (n : NewText) (serial : ℕ) (before after : TextDesk) : Type 0 where
+pub record IsTextMadeAs (n : NewText) (framed : Bool) (f : Record → Record) (serial : ℕ) (before after : TextDesk) : Type 0 where
   pub widths : List ℕ
   pub metrics : Metrics
   pub justification : Justification
@@ -119,13 +119,17 @@ pub record IsTextMade (n : NewText) (serial : ℕ) (before after : TextDesk) : T
   pub made : text ≡ record {
     serial = serial;
     window = n.window;
-    kept = new_record widths metrics (placing_of n.place) justification n.wraps false;
+    kept = f (new_record widths metrics (placing_of n.place) justification n.wraps framed);
   }
   pub texts : after.texts ≡ record before.texts { texts = before.texts.texts ++ text ∷ []; next = serial_after serial }
   pub layer : Layer
   pub is : IsLayerOf text layer
   pub laid : AreTextsLaid n.window (with_last layer) (Some (part.Text serial)) before after
   pub activity : SameActivity before.desk after.desk
+
+-- by a call it has no text, and no frame
+abbrev pub IsTextMade : NewText → ℕ → TextDesk → TextDesk → Type 0
+IsTextMade n = IsTextMadeAs n false (λ r. r)
 
 -- the text record is there no more, and what it owned belongs to what lies under it
 pub record IsTextDisposed (t : TextOf) (before after : TextDesk) : Type 0 where

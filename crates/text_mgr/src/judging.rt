@@ -112,7 +112,7 @@ pub(crate) fn box_of(framed: bool, placing: Placing) -> Rect
 }
 
 /// Destination and view of a record, framed or not, by the numbers of a call, where it may stand so in a window that lies here.
-pub(crate) fn placing_at(framed: bool, place: TextPlace, window: Point) -> Option<Placing>
+pub fn placing_at(framed: bool, place: TextPlace, window: Point) -> Option<Placing>
     ensures { result ≡ (if may_stand_at framed place window then Some (placing_of place) else None) }
 {
     let placing = placing_of(framed, place)?;

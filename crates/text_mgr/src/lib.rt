@@ -25,6 +25,7 @@ mod drawing;
 mod editing;
 mod ending;
 mod fonts;
+mod items;
 mod judging;
 mod laying;
 mod making;
@@ -36,6 +37,7 @@ mod telling;
 mod texts;
 
 pub use desk_texts::DeskTexts;
-pub use judging::{click_mode, justification_of};
+pub use items::TextStart;
+pub use judging::{click_mode, justification_of, placing_at};
 pub use making::MOST_TEXTS;
 pub use texts::Texts;

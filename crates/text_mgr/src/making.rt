@@ -1,12 +1,13 @@
 //! Text records that are made: judged, planned with all growth, and added, which takes no memory.
-ghost use Rattle.std.specs.Prelude.{◌≡◌, ◌<◌, [], length, vec_capacity, None, Some, MatchResult, OnOk, IfOk, IfErr};
+ghost use Rattle.std.specs.Prelude.{◌≡◌, ◌<◌, Bool, [], length, vec_capacity, None, Some, MatchResult, OnOk, IfOk, IfErr};
 ghost use Rattle.desk_call.specs.declared.text.TextCall.TheVariants as asks;
 ghost use Rattle.window_mgr.specs.DeskStates.{Opened};
-ghost use Rattle.text_mgr.specs.Making.{IsAddition, IsNotAdded, IsRoomier, IsTicket, judged_by};
-ghost use Rattle.text_mgr.specs.TextSteps.{IsTextMade, IsTextStep};
+ghost use Rattle.text_record.specs.Texts.{Record};
+ghost use Rattle.text_mgr.specs.Making.{IsAddition, IsNotAdded, IsRoomier, IsSomeAddition, IsTicket, judged_by};
+ghost use Rattle.text_mgr.specs.TextSteps.{IsTextMadeAs, IsTextStep};
 
 use crate::fonts::{metrics_of, widths_of};
-use crate::judging::{justification_of, placing_at};
+use crate::judging::{box_of, justification_of, placing_at};
 use crate::laying::shape_of;
 use crate::{DeskTexts, Texts};
 use def_iface::{Defined, TakenWindow};
@@ -48,18 +49,18 @@ pub(crate) struct Addition {
 
 impl Texts {
     /// What a new text record is given, where nothing but memory can refuse it.
-    fn judge(&self, windows: &WindowManager, new: NewText) -> Result<Ticket, Refusal>
+    fn judge(&self, windows: &WindowManager, new: NewText, framed: bool) -> Result<Ticket, Refusal>
         requires { ⟦<WindowManager as DeskWindows>⟧.IsKept windows.now }
         ensures { MatchResult result
-            (λ ticket. (judged_by ⟦<TakenWindow as Defined>⟧.loan new windows.now self.now ≡ None)
-            × IsTicket new windows.now self.now ticket)
-            (λ e. judged_by ⟦<TakenWindow as Defined>⟧.loan new windows.now self.now ≡ Some e) }
+            (λ ticket. (judged_by ⟦<TakenWindow as Defined>⟧.loan new framed windows.now self.now ≡ None)
+            × IsTicket new framed windows.now self.now ticket)
+            (λ e. judged_by ⟦<TakenWindow as Defined>⟧.loan new framed windows.now self.now ≡ Some e) }
     {
         let Some(window) = windows.find(new.window) else {
             return Err(Refusal::NoSuchWindow);
         };
         let there = windows.list().at(window).place;
-        let Some(placing) = placing_at(false, new.place, there) else {
+        let Some(placing) = placing_at(framed, new.place, there) else {
             return Err(Refusal::OutOfRange);
         };
         let Some(justification) = justification_of(new.justification) else {
@@ -81,12 +82,13 @@ impl Texts {
         &self,
         windows: &WindowManager,
         new: NewText,
+        framed: bool,
         ticket: Ticket,
     ) -> Result<Addition, Refusal>
         requires kept { ⟦<WindowManager as DeskWindows>⟧.IsKept windows.now }
         requires beside { ⟦<Self as DeskTexts>⟧.AreBeside windows.now self.now }
-        requires ticket { IsTicket new windows.now self.now ticket }
-        ensures ok { IfOk result (IsAddition ⟦<TakenWindow as Defined>⟧.loan new windows.now self.now) }
+        requires ticket { IsTicket new framed windows.now self.now ticket }
+        ensures ok { IfOk result (IsAddition ⟦<TakenWindow as Defined>⟧.loan new framed (λ r. r) windows.now self.now) }
         ensures err { IfErr result (λ e. e ≡ Refusal.NoMemory) }
     {
         let font = windows.parts().font;
@@ -97,9 +99,9 @@ impl Texts {
             ticket.placing,
             ticket.justification,
             new.wraps,
-            false,
+            framed,
         )?;
-        let shape = shape_of(self.alloc, ticket.placing.view, true)?;
+        let shape = shape_of(self.alloc, box_of(framed, ticket.placing), true)?;
         let own = Layer {
             part: Part::Text(ticket.serial),
             shown: shape.shown,
@@ -125,29 +127,37 @@ impl Texts {
     }
 
     /// All that can be refused of a text record, and all growth.
-    fn plan(&mut self, windows: &WindowManager, new: NewText) -> Result<Addition, Refusal>
+    pub(crate) fn plan(
+        &mut self,
+        windows: &WindowManager,
+        new: NewText,
+        framed: bool,
+    ) -> Result<Addition, Refusal>
         requires kept { ⟦<WindowManager as DeskWindows>⟧.IsKept windows.now }
         requires beside { ⟦<Self as DeskTexts>⟧.AreBeside windows.now self.old }
         ensures same { IsRoomier self.old self.new }
-        ensures judged { IfOk result (λ _. judged_by ⟦<TakenWindow as Defined>⟧.loan new windows.now self.old ≡ None) }
-        ensures ok { IfOk result (IsAddition ⟦<TakenWindow as Defined>⟧.loan new windows.now self.new) }
+        ensures judged { IfOk result (λ _. judged_by ⟦<TakenWindow as Defined>⟧.loan new framed windows.now self.old
+            ≡ None) }
+        ensures ok { IfOk result (IsAddition ⟦<TakenWindow as Defined>⟧.loan new framed (λ r. r) windows.now self.new) }
         ensures room { OnOk result (length self.new.list.items.items < vec_capacity self.new.list.items) }
-        ensures err { IfErr result (IsNotAdded ⟦<TakenWindow as Defined>⟧.loan new windows.now self.old) }
+        ensures err { IfErr result (IsNotAdded ⟦<TakenWindow as Defined>⟧.loan new framed windows.now self.old) }
     {
-        let ticket = self.judge(windows, new)?;
-        let addition = self.grow(windows, new, ticket)?;
+        let ticket = self.judge(windows, new, framed)?;
+        let addition = self.grow(windows, new, framed, ticket)?;
         self.list.reserve(1)?;
         Ok(addition)
     }
 
     /// Puts a text record behind the others, and draws all that it owns, as planned. Takes no memory.
-    fn add(&mut self, windows: &mut WindowManager, new: NewText, addition: Addition)
+    pub(crate) fn add(&mut self, windows: &mut WindowManager, new: NewText, addition: Addition)
         requires kept { ⟦<WindowManager as DeskWindows>⟧.IsKept windows.old }
         requires beside { ⟦<Self as DeskTexts>⟧.AreBeside windows.old self.old }
-        requires addition { IsAddition ⟦<TakenWindow as Defined>⟧.loan new windows.old self.old addition }
+        requires addition { IsSomeAddition ⟦<TakenWindow as Defined>⟧.loan new windows.old self.old addition }
         requires room { length self.old.list.items.items < vec_capacity self.old.list.items }
-        ensures { (o : Opened) → ⟦<Self as DeskTexts>⟧.Leaves
-            (IsTextMade new addition.item.serial) windows.old o self.old windows.new o self.new }
+        ensures { (framed : Bool) (f : Record → Record)
+            → IsAddition ⟦<TakenWindow as Defined>⟧.loan new framed f windows.old self.old addition
+            → (o : Opened) → ⟦<Self as DeskTexts>⟧.Leaves
+            (IsTextMadeAs new framed f addition.item.serial) windows.old o self.old windows.new o self.new }
     {
         let Addition {
             window,
@@ -171,7 +181,7 @@ impl Texts {
         ensures { (o : Opened) → ⟦<Self as DeskTexts>⟧.Leaves
             (IsTextStep (asks.New new) result) windows.old o self.old windows.new o self.new }
     {
-        let addition = self.plan(windows, new)?;
+        let addition = self.plan(windows, new, false)?;
         let serial = addition.item.serial;
         self.add(windows, new, addition);
         Ok(TextReply::Text(serial))

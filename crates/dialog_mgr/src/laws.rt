@@ -1,0 +1,20 @@
+//! What the definitions of a step imply.
+ghost use Rattle.std.specs.Prelude.{◌≡◌, ℕ, true, Result};
+ghost use Rattle.tb_geom.specs.declared.refusal.Refusal.{Refusal as Refused};
+ghost use Rattle.desk_call.specs.declared.dialog.DialogCall.{DialogCall as Asked};
+ghost use Rattle.desk_call.specs.declared.dialog.DialogReply.{DialogReply as Told};
+ghost use Rattle.dialog_mgr.specs.DialogDesks.{DialogDesk};
+ghost use Rattle.dialog_mgr.specs.DialogSteps.{IsDialogStep};
+ghost use Rattle.dialog_mgr.specs.WholeDialogs.{HasWholeDialogs, IsEditedThere, is_edited_shown};
+
+/// The edited item of each window is none, or an edit item whose text record is there.
+pub fn the_edited_item_has_its_text_record()
+    ensures { (d : DialogDesk) → HasWholeDialogs d → (window : ℕ) → IsEditedThere window d }
+{}
+
+/// A call about dialogs leaves the edited item of each window shown: only a call about text records hides it and leaves it edited.
+pub fn the_edited_item_is_shown_until_its_text_record_is_hidden()
+    ensures { (call : Asked) (result : Result Told Refused) (before after : DialogDesk) → HasWholeDialogs before
+        → IsDialogStep call result before after
+        → (window : ℕ) → is_edited_shown window before ≡ true → is_edited_shown window after ≡ true }
+{}

@@ -1,0 +1,168 @@
+//! Clicks of the mouse.
+ghost use Rattle.std.specs.Prelude.{◌≡◌, Some, true, false, is_none};
+ghost use Rattle.tb_geom.specs.Points.{PixelSet};
+ghost use Rattle.tb_geom.specs.Rects.{in_plane};
+ghost use Rattle.desk_call.specs.declared.activity.Activity.TheVariants.{Idle};
+ghost use Rattle.desk_call.specs.declared.dialog.DialogCall.TheVariants as asks;
+ghost use Rattle.control_mgr.specs.Spots.{opened};
+ghost use Rattle.control_mgr.specs.WholeControls.{IsTrackable};
+ghost use Rattle.text_mgr.specs.WholeTexts.{IsSelectable};
+ghost use Rattle.control_mgr.specs.ControlDesks.{index_of};
+ghost use Rattle.control_mgr.specs.Damages as damages;
+ghost use Rattle.dialog_mgr.specs.Choosing.{IsEditItem, IsPressed};
+ghost use Rattle.dialog_mgr.specs.DialogSteps.{IsDialogStep, IsEditClicked, IsWhereRight, clicked, if_enabled};
+
+use crate::asking::window_there;
+use crate::item_layers::{control_in, text_in};
+use crate::{DeskDialogs, Dialogs};
+use control_mgr::{Controls, ControlsOnStock, DeskControls};
+use def_iface::{ControlStock, TakenControl};
+use desk_call::{
+    Activity, ClickDialog, ControlCall, ControlOf, ControlReply, DialogClick, DialogReply, ItemOf,
+    PointAtControl, SelectedText, TextOf,
+};
+use dialog_items::{Item, ItemKind, item_at};
+use tb_geom::{Point, Refusal};
+use text_edits::ClickMode;
+use text_mgr::{DeskTexts, Texts, click_mode};
+use window_mgr::{DeskWindows, WindowManager};
+
+/// What a click answers.
+fn clicked(item: usize, begun: bool) -> DialogReply
+    ensures { result ≡ clicked item begun }
+{
+    DialogReply::Clicked(DialogClick { item, begun })
+}
+
+/// The number of an item where it is enabled, and else 0.
+pub(crate) fn if_enabled(item: &Item, number: usize) -> usize
+    ensures { result ≡ if_enabled item.now number }
+{
+    if item.enabled { number } else { 0 }
+}
+
+impl Dialogs {
+    /// The mouse was pressed at a point of a window.
+    pub(crate) fn click(
+        &mut self,
+        windows: &mut WindowManager,
+        activity: &mut Activity,
+        controls: &mut Controls<TakenControl>,
+        texts: &mut Texts,
+        pressed: ClickDialog,
+        stock: &mut ControlStock,
+    ) -> Result<DialogReply, Refusal>
+        requires kept { ⟦<WindowManager as DeskWindows>⟧.IsKept windows.old }
+        requires controls { ⟦<Controls<TakenControl> as DeskControls>⟧.IsWhole windows.old controls.old stock.old }
+        requires texts { ⟦<Texts as DeskTexts>⟧.AreBeside windows.old texts.old }
+        requires dialogs { ⟦<Self as DeskDialogs>⟧.AreBeside windows.old controls.old texts.old self.old }
+        requires idle { activity.old ≡ Idle }
+        ensures step { (begun : PixelSet) → ⟦<Self as DeskDialogs>⟧.LeavesStock stock.old stock.new
+            (IsWhereRight (IsDialogStep (asks.Click pressed) result))
+            windows.old (opened activity.old begun) controls.old texts.old self.old
+            windows.new (opened activity.new begun) controls.new texts.new self.new }
+        ensures trackable { IsTrackable activity.new
+            (⟦<Controls<TakenControl> as ControlsOnStock>⟧.records controls.new) }
+        ensures selectable { IsSelectable activity.new texts.new.list.items.items }
+    {
+        let window = pressed.window;
+        window_there(windows, window)?;
+        if !pressed.point.is_in_range() {
+            return Err(Refusal::OutOfRange);
+        }
+        let Some(mode) = click_mode(pressed.mode) else {
+            return Err(Refusal::OutOfRange);
+        };
+        let looks = self.looks(controls, texts, window);
+        let number = item_at(looks.as_slice(), pressed.point);
+        let Some(item) = self.item(window, number) else {
+            return Ok(clicked(0, false));
+        };
+        match item.kind {
+            ItemKind::Static | ItemKind::Icon | ItemKind::User => {
+                Ok(clicked(if_enabled(&item, number), false))
+            }
+            ItemKind::Edit => {
+                if let Some(text) = text_in(window, &item) {
+                    let of = ItemOf {
+                        window,
+                        item: number,
+                    };
+                    self.open(
+                        windows,
+                        activity,
+                        controls,
+                        texts,
+                        of,
+                        text,
+                        pressed.point,
+                        mode,
+                    );
+                }
+                Ok(clicked(if_enabled(&item, number), true))
+            }
+            _ => match control_in(window, &item) {
+                Some(control) if item.enabled => {
+                    let begun = track(windows, activity, controls, control, pressed.point, stock);
+                    Ok(clicked(if begun { number } else { 0 }, begun))
+                }
+                _ => Ok(clicked(0, false)),
+            },
+        }
+    }
+
+    /// Edits an item at a point of its text record, in which a selection opens.
+    fn open(
+        &mut self,
+        windows: &mut WindowManager,
+        activity: &mut Activity,
+        controls: &Controls<TakenControl>,
+        texts: &mut Texts,
+        of: ItemOf,
+        text: TextOf,
+        point: Point,
+        mode: ClickMode,
+    )
+        requires kept { ⟦<WindowManager as DeskWindows>⟧.IsKept windows.old }
+        requires controls { ⟦<Controls<TakenControl> as DeskControls>⟧.AreBeside windows.old controls.now }
+        requires texts { ⟦<Texts as DeskTexts>⟧.AreBeside windows.old texts.old }
+        requires dialogs { ⟦<Self as DeskDialogs>⟧.AreBeside windows.old controls.now texts.old self.old }
+        requires item { IsEditItem of text self.old texts.old }
+        ensures step { (begun : PixelSet) → ⟦<Self as DeskDialogs>⟧.Leaves
+            (IsWhereRight (IsEditClicked (Some text) of mode point))
+            windows.old (opened activity.old begun) controls.now texts.old self.old
+            windows.new (opened activity.new begun) controls.now texts.new self.new }
+        ensures selectable { IsSelectable activity.new texts.new.list.items.items }
+    {
+        let anchor = texts.click_next(windows, self.left_text(of), text, point, mode);
+        self.edit_next(of.window, of.item);
+        *activity = Activity::Selecting(SelectedText { text, mode, anchor });
+    }
+}
+
+/// Begins the tracking of a control at a point of its window, where a part of it has the point.
+fn track(
+    windows: &mut WindowManager,
+    activity: &mut Activity,
+    controls: &mut Controls<TakenControl>,
+    control: ControlOf,
+    point: Point,
+    stock: &mut ControlStock,
+) -> bool
+    requires kept { ⟦<WindowManager as DeskWindows>⟧.IsKept windows.old }
+    requires controls { ⟦<Controls<TakenControl> as DeskControls>⟧.IsWhole windows.old controls.old stock.old }
+    requires idle { activity.old ≡ Idle }
+    requires there { is_none (index_of control (⟦<Controls<TakenControl> as ControlsOnStock>⟧.records controls.old))
+        ≡ false }
+    requires point { in_plane point ≡ true }
+    ensures step { (begun : PixelSet) → ⟦<Controls<TakenControl> as DeskControls>⟧.LeavesStock stock.old stock.new
+        (damages.IsWhereRight (IsPressed control point result))
+        windows.old (opened activity.old begun) controls.old windows.new (opened activity.new begun) controls.new }
+    ensures trackable { IsTrackable activity.new (⟦<Controls<TakenControl> as ControlsOnStock>⟧.records controls.new) }
+{
+    let call = ControlCall::Track(PointAtControl { control, point });
+    match controls.perform(windows, activity, &call, stock) {
+        Ok(ControlReply::Part(part)) => part.is_some(),
+        _ => unreachable!(),
+    }
+}
