@@ -11,8 +11,8 @@ use crate::menus::MenuVerb;
 use crate::outlines::OutlineVerb;
 use crate::updates::UpdateVerb;
 use crate::windows::WindowVerb;
-use line_words::named;
 use dialog_words::{DialogVerb, dialog_verb_of};
+use line_words::named;
 use text_words::{TextVerb, text_verb_of};
 
 /// The first word of a command, by what it is about. It says which words follow.

@@ -10,8 +10,8 @@ use Rattle.desk_call.specs.declared.call.Call.{Call}
 use Rattle.desk_call.specs.declared.call.Call.TheVariants.{Window, Update, Frame, Control, List, Text, Dialog, Menu, Outline, Event}
 use Rattle.desk_call.specs.declared.control.ControlCall.{ControlCall}
 use Rattle.desk_call.specs.declared.control.ControlCall.TheVariants as controls
-use Rattle.desk_call.specs.declared.dialog.DialogCall.{DialogCall}
-use Rattle.desk_call.specs.declared.dialog.DialogCall.TheVariants as dialogs
+use Rattle.dialog_call.specs.declared.calls.DialogCall.{DialogCall}
+use Rattle.dialog_call.specs.Asking.{asks}
 use Rattle.desk_call.specs.declared.frame.FrameCall.{FrameCall}
 use Rattle.desk_call.specs.declared.frame.FrameCall.TheVariants.{StepGoAway, EndGoAway}
 use Rattle.desk_call.specs.declared.list.ListCall.{ListCall}
@@ -98,10 +98,7 @@ text_standing _ = Changes
 -- the calls on the items of dialogs that ask may come at any time; what a click opens goes on by the calls on controls and on text
 -- records
 abbrev pub dialog_standing : DialogCall → Standing
-dialog_standing (dialogs.Get i) = Asks
-dialog_standing (dialogs.Info s) = Asks
-dialog_standing (dialogs.Find p) = Asks
-dialog_standing _ = Changes
+dialog_standing c = if asks c then Asks else Changes
 
 -- when a call may come; one about events may at any time
 abbrev pub standing_of : Call → Standing

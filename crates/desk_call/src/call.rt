@@ -1,10 +1,11 @@
 //! What a Toolbox can be asked, and what it answers.
 
 use crate::{
-    ControlCall, ControlReply, DialogCall, DialogReply, EventCall, EventReply, FrameCall,
-    FrameReply, ListCall, ListReply, MenuCall, MenuReply, OutlineCall, OutlineReply, TextCall,
-    TextReply, UpdateCall, WindowCall, WindowReply,
+    ControlCall, ControlReply, EventCall, EventReply, FrameCall, FrameReply, ListCall, ListReply,
+    MenuCall, MenuReply, OutlineCall, OutlineReply, TextCall, TextReply, UpdateCall, WindowCall,
+    WindowReply,
 };
+use dialog_call::{DialogCall, DialogReply};
 
 /// A call of the Toolbox, by what it is about. Titles, and the bytes of operations and regions, are borrowed, so that
 /// the value of a call owns no memory; performing the call may take some.

@@ -3,13 +3,12 @@
 //! A `Call` says what it is about, and a `Reply` of which kind the answer is. What a call does, the crate says that performs
 //! it: `window_mgr` for windows, `window_update` for updates, `window_frame` for frames, `control_mgr` for controls, `list_mgr`
 //! for lists, `text_mgr` for text records, `dialog_mgr` for dialogs, `menu_mgr` for menus, `window_outline` for outlines,
-//! `desk_toolbox` for events. A program that only reads or writes calls needs no more than this.
+//! `desk_toolbox` for events. Calls about dialogs stand in `dialog_call`. A program that only reads or writes calls needs no more than this.
 #![tactic(auto)]
 
 mod activity;
 mod call;
 mod control;
-mod dialog;
 mod event;
 mod frame;
 mod list;
@@ -27,10 +26,6 @@ pub use call::{Call, Reply};
 pub use control::{
     ControlCall, ControlInfo, ControlNumber, ControlOf, ControlReply, ControlTitle, FoundControl,
     MoveControl, NewControl, PointAtControl, PointInWindow, SizeControl,
-};
-pub use dialog::{
-    ClickDialog, DialogCall, DialogClick, DialogFlag, DialogInfo, DialogKey, DialogReply,
-    ItemBytes, ItemFlag, ItemInfo, ItemOf, NewItem, ParamBytes, SelectItem,
 };
 pub use event::{EventCall, EventReply, FlushEvents, PostEvent};
 pub use frame::{FrameCall, FrameReply, GoAwayPoint, HiliteWindow, NewTitle};

@@ -5,9 +5,10 @@ ghost use Rattle.desk_call.specs.Gates.{dialog_standing, text_standing};
 ghost use Rattle.desk_call.specs.Natures.{nature_of, window_nature, control_nature, plain};
 
 use crate::{
-    Call, ControlCall, DialogCall, FrameCall, ListCall, MenuCall, OutlineCall, PointInWindow,
-    Standing, TextCall, UpdateCall, WindowCall,
+    Call, ControlCall, FrameCall, ListCall, MenuCall, OutlineCall, PointInWindow, Standing,
+    TextCall, UpdateCall, WindowCall,
 };
+use dialog_call::DialogCall;
 use tb_geom::Point;
 
 /// What kind of call it is, as far as the desk asks before or after a manager performs it.
@@ -71,7 +72,7 @@ impl Call<'_> {
             Call::Control(call) => call.nature(),
             Call::List(call) => call.nature(),
             Call::Text(call) => call.nature(),
-            Call::Dialog(call) => call.nature(),
+            Call::Dialog(call) => dialog_nature(call),
             Call::Menu(call) => call.nature(),
             Call::Outline(call) => call.nature(),
             Call::Event(_) => Nature::plain(Standing::Asks),
@@ -194,14 +195,13 @@ impl OutlineCall {
     }
 }
 
-impl DialogCall<'_> {
-    /// What kind of call it is.
-    pub fn nature(&self) -> Nature
-        ensures { result ≡ plain (dialog_standing self.now) }
-    {
-        Nature::plain(match self {
-            DialogCall::Get(_) | DialogCall::Info(_) | DialogCall::Find(_) => Standing::Asks,
-            _ => Standing::Changes,
-        })
-    }
+/// What kind of call it is, of one about the items of dialogs.
+fn dialog_nature(call: &DialogCall<'_>) -> Nature
+    ensures { result ≡ plain (dialog_standing call.now) }
+{
+    Nature::plain(if call.asks() {
+        Standing::Asks
+    } else {
+        Standing::Changes
+    })
 }

@@ -20,13 +20,14 @@ ghost use Rattle.desk_toolbox.specs.ToolboxStates.{ToolboxState};
 
 use crate::events::Events;
 use crate::{
-    Call, Contents, ControlCall, ControlReply, Desk, DialogCall, DialogReply, EventCall, EventReply, Found, ListCall,
+    Call, Contents, ControlCall, ControlReply, Desk, EventCall, EventReply, Found, ListCall,
     ListReply, PointInWindow, Reply, TextCall, TextReply, Toolbox, UpdateCall, WindowCall,
     WindowPart, WindowReply,
 };
 use control_mgr::{Controls, ControlsOnStock};
 use def_iface::{ControlStock, ListStock, Stock, Stocked, StockedAll, TakenControl, TakenList};
 use desk_call::{Asked, Nature};
+use dialog_call::{DialogCall, DialogReply};
 use dialog_items::LayerSort;
 use dialog_mgr::Dialogs;
 use list_mgr::{Lists, ListsOnStock};

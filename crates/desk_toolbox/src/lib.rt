@@ -28,7 +28,7 @@ pub use contents::Contents;
 pub use desk::Desk;
 pub use desk_call::{
     Activity, AppendItems, AreaRef, Call, CheckItem, Choice, ClickText, ControlCall, ControlInfo,
-    ControlNumber, ControlOf, ControlReply, ControlTitle, DialogCall, DialogReply, DragWindow, DraggedWindow, Drawing,
+    ControlNumber, ControlOf, ControlReply, ControlTitle, DragWindow, DraggedWindow, Drawing,
     EventCall, EventReply, FlushEvents, Found, FoundControl, FrameCall, FrameReply, GoAwayPoint,
     GrowWindow, GrownWindow, HiliteWindow, InsertMenu, ItemOfMenu, ItemText, LayerDraw, LayerKind,
     ListCall, ListReply, MenuCall, MenuReply, MoveControl, MoveWindow, NewControl, NewMenu,

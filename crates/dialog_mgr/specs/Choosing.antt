@@ -5,7 +5,7 @@ use Rattle.control_values.specs.declared.part.ControlPart.{ControlPart}
 use Rattle.desk_call.specs.declared.control.ControlCall.TheVariants.{Track}
 use Rattle.desk_call.specs.declared.control.ControlOf.{ControlOf}
 use Rattle.desk_call.specs.declared.control.ControlReply.TheVariants as control_reply
-use Rattle.desk_call.specs.declared.dialog.ItemOf.{ItemOf}
+use Rattle.dialog_call.specs.declared.calls.ItemOf.{ItemOf}
 use Rattle.desk_call.specs.declared.text.TextOf.{TextOf}
 use Rattle.dialog_items.specs.declared.item.Item.{Item}
 use Rattle.dialog_items.specs.Items.{is_edit}

@@ -5,7 +5,7 @@ use Rattle.desk_layers.specs.declared.part.Part.{Part}
 use Rattle.dialog_items.specs.declared.item.Item.{Item}
 use Rattle.dialog_items.specs.Filling.{Params}
 use Rattle.dialog_items.specs.Items.{ItemList, item_of}
-use Rattle.desk_call.specs.declared.dialog.ItemOf.{ItemOf}
+use Rattle.dialog_call.specs.declared.calls.ItemOf.{ItemOf}
 use Rattle.window_mgr.specs.DeskStates.{DeskState, IsDeskUnchanged}
 use Rattle.control_mgr.specs.ControlDesks.{ControlDesk, ControlsState, controls_show}
 use Rattle.text_mgr.specs.TextDesks.{TextDesk, TextsState, texts_show}

@@ -16,14 +16,14 @@ use Rattle.dialog_items.specs.Finding.{is_shown_edit}
 use Rattle.dialog_items.specs.Kinds.{has_sort, is_edit_kind, sort_of}
 use Rattle.vis_update.specs.Records.{WindowRecord}
 use Rattle.window_items.specs.Items.{count_of}
-use Rattle.desk_call.specs.ItemForms.{has_form}
-use Rattle.desk_call.specs.declared.dialog.ClickDialog.{ClickDialog}
-use Rattle.desk_call.specs.declared.dialog.DialogCall.{DialogCall}
-use Rattle.desk_call.specs.declared.dialog.DialogCall.TheVariants as call
-use Rattle.desk_call.specs.declared.dialog.DialogKey.{DialogKey}
-use Rattle.desk_call.specs.declared.dialog.ItemOf.{ItemOf}
-use Rattle.desk_call.specs.declared.dialog.NewItem.{NewItem}
-use Rattle.desk_call.specs.declared.dialog.ParamBytes.{ParamBytes}
+use Rattle.dialog_call.specs.ItemForms.{has_form}
+use Rattle.dialog_call.specs.declared.calls.ClickDialog.{ClickDialog}
+use Rattle.dialog_call.specs.declared.calls.DialogCall.{DialogCall}
+use Rattle.dialog_call.specs.declared.calls.DialogCall.TheVariants as call
+use Rattle.dialog_call.specs.declared.calls.DialogKey.{DialogKey}
+use Rattle.dialog_call.specs.declared.calls.ItemOf.{ItemOf}
+use Rattle.dialog_call.specs.declared.calls.NewItem.{NewItem}
+use Rattle.dialog_call.specs.declared.calls.ParamBytes.{ParamBytes}
 use Rattle.desk_call.specs.declared.text.TextCall.TheVariants as texts
 use Rattle.desk_call.specs.declared.text.TextOf.{TextOf}
 use Rattle.text_edits.specs.Edits.{is_selection}

@@ -19,15 +19,15 @@ use Rattle.desk_call.specs.declared.control.ControlCall.{ControlCall}
 use Rattle.desk_call.specs.declared.control.ControlCall.TheVariants as controls
 use Rattle.desk_call.specs.declared.control.ControlOf.{ControlOf}
 use Rattle.desk_call.specs.declared.control.ControlReply.TheVariants as control_reply
-use Rattle.desk_call.specs.declared.dialog.ClickDialog.{ClickDialog}
-use Rattle.desk_call.specs.declared.dialog.DialogCall.{DialogCall}
-use Rattle.desk_call.specs.declared.dialog.DialogCall.TheVariants as call
-use Rattle.desk_call.specs.declared.dialog.DialogKey.{DialogKey}
-use Rattle.desk_call.specs.declared.dialog.DialogReply.{DialogReply}
-use Rattle.desk_call.specs.declared.dialog.DialogReply.TheVariants as reply
-use Rattle.desk_call.specs.declared.dialog.ItemOf.{ItemOf}
-use Rattle.desk_call.specs.declared.dialog.NewItem.{NewItem}
-use Rattle.desk_call.specs.declared.dialog.ParamBytes.{ParamBytes}
+use Rattle.dialog_call.specs.declared.calls.ClickDialog.{ClickDialog}
+use Rattle.dialog_call.specs.declared.calls.DialogCall.{DialogCall}
+use Rattle.dialog_call.specs.declared.calls.DialogCall.TheVariants as call
+use Rattle.dialog_call.specs.declared.calls.DialogKey.{DialogKey}
+use Rattle.dialog_call.specs.declared.calls.DialogReply.{DialogReply}
+use Rattle.dialog_call.specs.declared.calls.DialogReply.TheVariants as reply
+use Rattle.dialog_call.specs.declared.calls.ItemOf.{ItemOf}
+use Rattle.dialog_call.specs.declared.calls.NewItem.{NewItem}
+use Rattle.dialog_call.specs.declared.calls.ParamBytes.{ParamBytes}
 use Rattle.desk_call.specs.declared.text.TextCall.{TextCall}
 use Rattle.desk_call.specs.declared.text.TextCall.TheVariants as texts
 use Rattle.desk_call.specs.declared.text.TextOf.{TextOf}

@@ -16,7 +16,7 @@ use Rattle.dialog_items.specs.Items.{edited_with, is_edit, item_of}
 use Rattle.dialog_items.specs.Kinds.{is_edit_kind}
 use Rattle.desk_call.specs.declared.control.ControlOf.{ControlOf}
 use Rattle.desk_call.specs.declared.control.NewControl.{NewControl}
-use Rattle.desk_call.specs.declared.dialog.NewItem.{NewItem}
+use Rattle.dialog_call.specs.declared.calls.NewItem.{NewItem}
 use Rattle.desk_call.specs.declared.text.NewText.{NewText}
 use Rattle.desk_call.specs.declared.text.TextOf.{TextOf}
 use Rattle.desk_call.specs.declared.text.TextPlace.{TextPlace}

@@ -3,8 +3,8 @@ use Rattle.std.specs.Prelude.{◌≡◌, Bool, true, ℕ, Result}
 use Rattle.tb_geom.specs.declared.refusal.Refusal.{Refusal}
 use Rattle.tb_geom.specs.Refusals.{first_refusal}
 use Rattle.dialog_items.specs.Finding.{tab_item}
-use Rattle.desk_call.specs.declared.dialog.DialogKey.{DialogKey}
-use Rattle.desk_call.specs.declared.dialog.DialogReply.{DialogReply}
+use Rattle.dialog_call.specs.declared.calls.DialogKey.{DialogKey}
+use Rattle.dialog_call.specs.declared.calls.DialogReply.{DialogReply}
 use Rattle.desk_call.specs.Steps.{IsStepOf}
 use Rattle.dialog_mgr.specs.DialogDesks.{DialogDesk, IsDialogDeskUnchanged, dialog_of}
 use Rattle.dialog_mgr.specs.DialogRefusals.{typed_refusals}

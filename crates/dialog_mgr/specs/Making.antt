@@ -2,8 +2,8 @@
 use Rattle.std.specs.Prelude.{◌≡◌, ℕ, true, Result}
 use Rattle.tb_geom.specs.declared.refusal.Refusal.{Refusal}
 use Rattle.tb_geom.specs.Refusals.{first_refusal}
-use Rattle.desk_call.specs.declared.dialog.DialogCall.TheVariants.{New}
-use Rattle.desk_call.specs.declared.dialog.NewItem.{NewItem}
+use Rattle.dialog_call.specs.declared.calls.DialogCall.TheVariants.{New}
+use Rattle.dialog_call.specs.declared.calls.NewItem.{NewItem}
 use Rattle.desk_call.specs.Steps.{IsStepOf}
 use Rattle.dialog_mgr.specs.DialogDesks.{DialogDesk, IsDialogDeskUnchanged}
 use Rattle.dialog_mgr.specs.DialogRefusals.{dialog_refusals}

@@ -1,7 +1,7 @@
 //! What is asked about items.
 ghost use Rattle.std.specs.Prelude.{◌≡◌, [], None, Some, MatchResult};
 ghost use Rattle.tb_geom.specs.Refusals.{first_refusal};
-ghost use Rattle.desk_call.specs.declared.dialog.DialogCall.TheVariants as asks;
+ghost use Rattle.dialog_call.specs.declared.calls.DialogCall.TheVariants as asks;
 ghost use Rattle.window_mgr.specs.DeskStates.{Opened};
 ghost use Rattle.dialog_mgr.specs.DialogDesks.{named_item};
 ghost use Rattle.dialog_mgr.specs.DialogRefusals.{missing_refusals, window_refusals};
@@ -12,7 +12,7 @@ use crate::looks::look_in;
 use crate::{DeskDialogs, Dialogs};
 use control_mgr::{Controls, DeskControls};
 use def_iface::TakenControl;
-use desk_call::{DialogInfo, DialogReply, ItemInfo, ItemOf, PointInWindow};
+use dialog_call::{DialogInfo, DialogReply, FindItem, ItemInfo, ItemOf};
 use dialog_items::{Item, item_at};
 use tb_geom::Refusal;
 use text_mgr::{DeskTexts, Texts};
@@ -89,7 +89,7 @@ impl Dialogs {
         windows: &WindowManager,
         controls: &Controls<TakenControl>,
         texts: &Texts,
-        asked: PointInWindow,
+        asked: FindItem,
     ) -> Result<DialogReply, Refusal>
         requires kept { ⟦<WindowManager as DeskWindows>⟧.IsKept windows.now }
         requires controls { ⟦<Controls<TakenControl> as DeskControls>⟧.AreBeside windows.now controls.now }

@@ -2,7 +2,7 @@
 ghost use Rattle.std.specs.Prelude.{◌≡◌, ◌≤◌};
 ghost use Rattle.tb_geom.specs.Points.{PixelSet};
 ghost use Rattle.desk_call.specs.declared.activity.Activity.TheVariants.{Idle};
-ghost use Rattle.desk_call.specs.declared.dialog.DialogCall.TheVariants as asks;
+ghost use Rattle.dialog_call.specs.declared.calls.DialogCall.TheVariants as asks;
 ghost use Rattle.text_edits.specs.Edits.{is_selection};
 ghost use Rattle.window_mgr.specs.DeskStates.{Opened};
 ghost use Rattle.control_mgr.specs.Spots.{opened};
@@ -18,9 +18,8 @@ use crate::looks::look_in;
 use crate::{DeskDialogs, Dialogs};
 use control_mgr::{Controls, DeskControls};
 use def_iface::TakenControl;
-use desk_call::{
-    Activity, DialogFlag, DialogReply, ItemOf, SelectItem, TextCall, TextFlag, TextOf,
-};
+use desk_call::{Activity, TextCall, TextFlag, TextOf};
+use dialog_call::{DialogFlag, DialogReply, ItemOf, SelectItem};
 use tb_geom::Refusal;
 use text_mgr::{DeskTexts, Texts};
 use window_mgr::{DeskWindows, WindowManager};

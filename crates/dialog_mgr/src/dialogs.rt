@@ -11,7 +11,7 @@ ghost use Rattle.dialog_mgr.specs.WholeDialogs.{dialogs_state, params_seen, seen
 
 use crate::item_layers::is_edit;
 use crate::params::ParamTable;
-use desk_call::NewItem;
+use dialog_call::NewItem;
 use dialog_items::{DialogItems, Item};
 use std::alloc::Global;
 use tb_geom::Refusal;

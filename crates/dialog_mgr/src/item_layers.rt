@@ -5,7 +5,8 @@ ghost use Rattle.dialog_mgr.specs.ItemLayers.{control_for, control_in, control_n
 ghost use Rattle.dialog_mgr.specs.ItemLayers.{text_place, text_record_for};
 
 use def_iface::Size;
-use desk_call::{ControlOf, NewControl, NewItem, NewText, TextOf, TextPlace};
+use desk_call::{ControlOf, NewControl, NewText, TextOf, TextPlace};
+use dialog_call::NewItem;
 use dialog_items::{Item, ItemKind};
 use tb_geom::{BytesRef, Point, Rect};
 

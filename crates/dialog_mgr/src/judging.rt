@@ -21,7 +21,8 @@ use crate::item_layers::{
 use crate::looks::MOST_ITEMS;
 use control_mgr::{Controls, ControlsOnStock, MOST_CONTROLS, may_be_placed};
 use def_iface::{ControlStock, Stocked, TakenControl};
-use desk_call::{DialogCall, NewControl, NewItem};
+use desk_call::NewControl;
+use dialog_call::{DialogCall, NewItem};
 use dialog_items::{ItemKind, LayerSort};
 use tb_geom::{Point, Rect, Refusal};
 use text_mgr::{MOST_TEXTS, Texts, placing_at};

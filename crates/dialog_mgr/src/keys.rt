@@ -2,7 +2,7 @@
 ghost use Rattle.std.specs.Prelude.{◌≡◌, ◌≤ℤ◌, pos, false, true};
 ghost use Rattle.tb_geom.specs.Points.{PixelSet};
 ghost use Rattle.desk_call.specs.declared.activity.Activity.TheVariants.{Idle};
-ghost use Rattle.desk_call.specs.declared.dialog.DialogCall.TheVariants as asks;
+ghost use Rattle.dialog_call.specs.declared.calls.DialogCall.TheVariants as asks;
 ghost use Rattle.control_mgr.specs.Spots.{opened};
 ghost use Rattle.text_mgr.specs.CallEdits.{is_outside};
 ghost use Rattle.window_mgr.specs.DeskStates.{Opened};
@@ -16,7 +16,8 @@ use crate::mouse::if_enabled;
 use crate::{DeskDialogs, Dialogs};
 use control_mgr::{Controls, DeskControls};
 use def_iface::TakenControl;
-use desk_call::{Activity, DialogKey, DialogReply, ItemOf, TextCall, TextNumber};
+use desk_call::{Activity, TextCall, TextNumber};
+use dialog_call::{DialogKey, DialogReply, ItemOf};
 use dialog_items::{return_item, tab_item};
 use tb_geom::Refusal;
 use text_mgr::{DeskTexts, Texts};

@@ -1,8 +1,8 @@
 //! What the definitions of a step imply.
 ghost use Rattle.std.specs.Prelude.{◌≡◌, ℕ, true, Result};
 ghost use Rattle.tb_geom.specs.declared.refusal.Refusal.{Refusal as Refused};
-ghost use Rattle.desk_call.specs.declared.dialog.DialogCall.{DialogCall as Asked};
-ghost use Rattle.desk_call.specs.declared.dialog.DialogReply.{DialogReply as Told};
+ghost use Rattle.dialog_call.specs.declared.calls.DialogCall.{DialogCall as Asked};
+ghost use Rattle.dialog_call.specs.declared.calls.DialogReply.{DialogReply as Told};
 ghost use Rattle.dialog_mgr.specs.DialogDesks.{DialogDesk};
 ghost use Rattle.dialog_mgr.specs.DialogSteps.{IsDialogStep};
 ghost use Rattle.dialog_mgr.specs.WholeDialogs.{HasWholeDialogs, IsEditedThere, is_edited_shown};

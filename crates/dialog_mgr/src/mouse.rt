@@ -3,7 +3,7 @@ ghost use Rattle.std.specs.Prelude.{◌≡◌, Some, true, false, is_none};
 ghost use Rattle.tb_geom.specs.Points.{PixelSet};
 ghost use Rattle.tb_geom.specs.Rects.{in_plane};
 ghost use Rattle.desk_call.specs.declared.activity.Activity.TheVariants.{Idle};
-ghost use Rattle.desk_call.specs.declared.dialog.DialogCall.TheVariants as asks;
+ghost use Rattle.dialog_call.specs.declared.calls.DialogCall.TheVariants as asks;
 ghost use Rattle.control_mgr.specs.Spots.{opened};
 ghost use Rattle.control_mgr.specs.WholeControls.{IsTrackable};
 ghost use Rattle.text_mgr.specs.WholeTexts.{IsSelectable};
@@ -18,9 +18,9 @@ use crate::{DeskDialogs, Dialogs};
 use control_mgr::{Controls, ControlsOnStock, DeskControls};
 use def_iface::{ControlStock, TakenControl};
 use desk_call::{
-    Activity, ClickDialog, ControlCall, ControlOf, ControlReply, DialogClick, DialogReply, ItemOf,
-    PointAtControl, SelectedText, TextOf,
+    Activity, ControlCall, ControlOf, ControlReply, PointAtControl, SelectedText, TextOf,
 };
+use dialog_call::{ClickDialog, DialogClick, DialogReply, ItemOf};
 use dialog_items::{Item, ItemKind, item_at};
 use tb_geom::{Point, Refusal};
 use text_edits::ClickMode;

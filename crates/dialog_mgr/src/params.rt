@@ -7,7 +7,7 @@ ghost use Rattle.dialog_mgr.specs.DialogSteps.{params_of};
 ghost use Rattle.dialog_mgr.specs.ItemLayers.{text_by};
 ghost use Rattle.dialog_mgr.specs.WholeDialogs.{params_seen};
 
-use desk_call::ParamBytes;
+use dialog_call::ParamBytes;
 use dialog_items::{ItemKind, ParamTexts, filled};
 use draw_port::ShortText;
 use std::alloc::Global;

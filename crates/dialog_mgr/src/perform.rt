@@ -1,7 +1,9 @@
 //! Calls, one by one.
-ghost use Rattle.std.specs.Prelude.{◌≡◌, None};
+ghost use Rattle.std.specs.Prelude.{◌≡◌, None, if◌then◌else◌};
 ghost use Rattle.tb_geom.specs.Points.{PixelSet};
-ghost use Rattle.desk_call.specs.Gates.{dialog_standing, gate};
+ghost use Rattle.dialog_call.specs.Asking.{asks};
+ghost use Rattle.desk_call.specs.Gates.{gate};
+ghost use Rattle.desk_call.specs.declared.activity.Standing.TheVariants.{Asks, Changes};
 ghost use Rattle.control_mgr.specs.Spots.{opened};
 ghost use Rattle.control_mgr.specs.WholeControls.{IsTrackable};
 ghost use Rattle.text_mgr.specs.WholeTexts.{IsSelectable};
@@ -10,7 +12,8 @@ ghost use Rattle.dialog_mgr.specs.DialogSteps.{IsDialogStep, IsWhereRight};
 use crate::{DeskDialogs, Dialogs};
 use control_mgr::{Controls, ControlsOnStock, DeskControls};
 use def_iface::{ControlStock, TakenControl};
-use desk_call::{Activity, DialogCall, DialogReply};
+use desk_call::Activity;
+use dialog_call::{DialogCall, DialogReply};
 use tb_geom::Refusal;
 use text_mgr::{DeskTexts, Texts};
 use window_mgr::{DeskWindows, WindowManager};
@@ -35,7 +38,7 @@ impl Dialogs {
         requires trackable { IsTrackable activity.old
             (⟦<Controls<TakenControl> as ControlsOnStock>⟧.records controls.old) }
         requires selectable { IsSelectable activity.old texts.old.list.items.items }
-        requires admitted { gate activity.old (dialog_standing call.now) ≡ None }
+        requires admitted { gate activity.old (if asks call.now then Asks else Changes) ≡ None }
         ensures step { (begun : PixelSet) → ⟦<Self as DeskDialogs>⟧.LeavesStock stock.old stock.new
             (IsWhereRight (IsDialogStep call.now result))
             windows.old (opened activity.old begun) controls.old texts.old self.old

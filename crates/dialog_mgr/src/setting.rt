@@ -1,6 +1,6 @@
 //! What changes of items but whether they are shown and which is edited: their texts, whether they are enabled, and the texts of
 //! ParamText.
-ghost use Rattle.desk_call.specs.declared.dialog.DialogCall.TheVariants as asks;
+ghost use Rattle.dialog_call.specs.declared.calls.DialogCall.TheVariants as asks;
 ghost use Rattle.window_mgr.specs.DeskStates.{Opened};
 ghost use Rattle.dialog_mgr.specs.DialogSteps.{IsDialogStep, IsWhereRight};
 
@@ -10,7 +10,7 @@ use crate::params::ParamTable;
 use crate::{DeskDialogs, Dialogs};
 use control_mgr::{Controls, DeskControls};
 use def_iface::TakenControl;
-use desk_call::{DialogReply, ItemBytes, ItemFlag, ParamBytes};
+use dialog_call::{DialogReply, ItemBytes, ItemFlag, ParamBytes};
 use dialog_items::LayerSort;
 use tb_geom::Refusal;
 use text_mgr::{DeskTexts, Texts};

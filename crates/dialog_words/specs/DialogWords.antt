@@ -3,11 +3,11 @@ use Rattle.std.specs.Prelude.{ℕ, List, [], ◌∷◌, map, Option, None, Some,
 use Rattle.dialog_items.specs.declared.kind.ItemKind.{ItemKind}
 use Rattle.dialog_items.specs.declared.kind.ItemKind.TheVariants as kinds
 use Rattle.dialog_items.specs.Kinds.{kind_name}
-use Rattle.desk_call.specs.declared.dialog.DialogCall.{DialogCall}
-use Rattle.desk_call.specs.declared.dialog.DialogCall.TheVariants as calls
-use Rattle.desk_call.specs.declared.dialog.ItemOf.{ItemOf}
-use Rattle.desk_call.specs.declared.dialog.NewItem.{NewItem}
-use Rattle.desk_call.specs.ItemForms.{has_form}
+use Rattle.dialog_call.specs.declared.calls.DialogCall.{DialogCall}
+use Rattle.dialog_call.specs.declared.calls.DialogCall.TheVariants as calls
+use Rattle.dialog_call.specs.declared.calls.ItemOf.{ItemOf}
+use Rattle.dialog_call.specs.declared.calls.NewItem.{NewItem}
+use Rattle.dialog_call.specs.ItemForms.{has_form}
 use Rattle.line_words.specs.Words.{◌>>=◌, Field, serial_at}
 use Rattle.line_words.specs.Shapes.{Shape, ends, says, never, number, flag, name, bytes, serial, point, mapped}
 use Rattle.line_words.specs.Tables.{named}

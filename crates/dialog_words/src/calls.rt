@@ -6,9 +6,9 @@ ghost use Rattle.dialog_words.specs.DialogWords.{item_at, key_shape, new_shape, 
 
 use crate::DialogVerb;
 use def_iface::Size;
-use desk_call::{
-    ClickDialog, DialogCall, DialogFlag, DialogKey, ItemBytes, ItemFlag, ItemOf, NewItem,
-    ParamBytes, PointInWindow, SelectItem,
+use dialog_call::{
+    ClickDialog, DialogCall, DialogFlag, DialogKey, FindItem, ItemBytes, ItemFlag, ItemOf, NewItem,
+    ParamBytes, SelectItem,
 };
 use dialog_items::ItemKind;
 use line_words::Words;
@@ -174,5 +174,5 @@ fn find<'a>(words: Words<'a>) -> Result<DialogCall<'a>, Refusal>
 {
     let (window, words) = words.serial()?;
     let point = words.last_point()?;
-    Ok(DialogCall::Find(PointInWindow { window, point }))
+    Ok(DialogCall::Find(FindItem { window, point }))
 }

@@ -1,11 +1,11 @@
 -- The line of what is answered about the items of dialogs.
 use Rattle.std.specs.Prelude.{ℕ, List, ◌++◌, codes, decimal}
 use Rattle.std.specs.Fmt.{signed_decimal}
-use Rattle.desk_call.specs.declared.dialog.DialogClick.{DialogClick}
-use Rattle.desk_call.specs.declared.dialog.DialogInfo.{DialogInfo}
-use Rattle.desk_call.specs.declared.dialog.DialogReply.{DialogReply}
-use Rattle.desk_call.specs.declared.dialog.DialogReply.TheVariants as replies
-use Rattle.desk_call.specs.declared.dialog.ItemInfo.{ItemInfo}
+use Rattle.dialog_call.specs.declared.calls.DialogClick.{DialogClick}
+use Rattle.dialog_call.specs.declared.calls.DialogInfo.{DialogInfo}
+use Rattle.dialog_call.specs.declared.calls.DialogReply.{DialogReply}
+use Rattle.dialog_call.specs.declared.calls.DialogReply.TheVariants as replies
+use Rattle.dialog_call.specs.declared.calls.ItemInfo.{ItemInfo}
 use Rattle.line_words.specs.Replies.{done_text, flag_text, number_text}
 
 -- the item that was hit, and whether something began

@@ -3,7 +3,7 @@ ghost use Rattle.std.specs.Prelude.{◌≡◌, false};
 ghost use Rattle.watched_io.specs.Writes.{Sends};
 ghost use Rattle.reply_lines.specs.DialogLines.{click_text, counts_text, dialog_reply_text, item_text};
 
-use desk_call::{DialogClick, DialogInfo, DialogReply, ItemInfo};
+use dialog_call::{DialogClick, DialogInfo, DialogReply, ItemInfo};
 use itoa::Buffer;
 use line_words::{flag_text, write_done, write_number};
 use tb_geom::Refusal;

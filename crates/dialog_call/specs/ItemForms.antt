@@ -1,7 +1,7 @@
 -- Which bytes a new item of a dialog may have, by its kind.
 use Rattle.std.specs.Prelude.{ℕ, ℤ, pos, negsuc, ◌+◌, ◌*◌, ◌/◌, ◌==◌, Bool, true, length}
 use Rattle.def_iface.specs.declared.size.Size.{Size}
-use Rattle.desk_call.specs.declared.dialog.NewItem.{NewItem}
+use Rattle.dialog_call.specs.declared.calls.NewItem.{NewItem}
 use Rattle.dialog_items.specs.declared.kind.ItemKind.{ItemKind}
 use Rattle.dialog_items.specs.declared.kind.ItemKind.TheVariants.{Icon, User}
 

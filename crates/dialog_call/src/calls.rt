@@ -1,8 +1,8 @@
 //! What a Toolbox can be asked about the items of dialogs, and what it answers.
 ghost use Rattle.std.specs.Prelude.{◌≡◌};
-ghost use Rattle.desk_call.specs.ItemForms.{has_form, icon_bytes};
+ghost use Rattle.dialog_call.specs.Asking.{asks};
+ghost use Rattle.dialog_call.specs.ItemForms.{has_form, icon_bytes};
 
-use crate::PointInWindow;
 use def_iface::Size;
 use dialog_items::ItemKind;
 use tb_geom::{BytesRef, Point, Rect};
@@ -54,7 +54,19 @@ pub enum DialogCall<'a> {
     /// How many items a window has, and which is edited.
     Info(u64),
     /// Which item lies at a point: the first, by numbers, that is shown and whose rectangle has it, enabled or not (FindDItem).
-    Find(PointInWindow),
+    Find(FindItem),
+}
+
+impl DialogCall<'_> {
+    /// Whether it asks, and leaves all as it is. Such a call may come at any time.
+    pub fn asks(&self) -> bool
+        ensures { result ≡ asks self.now }
+    {
+        match self {
+            DialogCall::Get(_) | DialogCall::Info(_) | DialogCall::Find(_) => true,
+            _ => false,
+        }
+    }
 }
 
 /// An item to be made (*Inside Macintosh* I, "The Dialog Manager": an item list).
@@ -147,6 +159,13 @@ pub struct ClickDialog {
     pub window: u64,
     pub point: Point,
     pub mode: i32,
+}
+
+/// A point of a window, at which an item is looked for.
+#[derive(Clone, Copy, Debug, PartialEq, Eq)]
+pub struct FindItem {
+    pub window: u64,
+    pub point: Point,
 }
 
 /// A key that is typed in a window with items.
