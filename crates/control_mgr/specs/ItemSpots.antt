@@ -1,6 +1,5 @@
 -- Where an item of a window, as a control or a list of it, stands.
-use Rattle.std.specs.Prelude.{◌≡◌, ◌<◌, ℕ, Bool, false, List, [], ◌∷◌, Option, Some, is_none, length, slice_get}
-use Rattle.std.specs.Option.{option_and_then}
+use Rattle.std.specs.Prelude.{◌≡◌, ◌<◌, ℕ, Bool, false, List, [], ◌∷◌, Some, is_none, length}
 use Rattle.tb_geom.specs.declared.refusal.Refusal.{Refusal}
 use Rattle.tb_geom.specs.declared.refusal.Refusal.TheVariants.{NoSuchWindow}
 use Rattle.window_items.specs.declared.item.Item.{Item}
@@ -13,10 +12,6 @@ use Rattle.window_mgr.specs.FullDesk.{FullDesk}
 use Rattle.window_mgr.specs.Records.{desk_of}
 use Rattle.window_mgr.specs.Refused.{is_missing}
 use Rattle.control_mgr.specs.declared.spots.ItemAt.{ItemAt}
-
--- the window's item of this serial, if it has it
-abbrev pub item_of : {T : Type 0} → ℕ → ℕ → List (Item T) → Option (Item T)
-item_of window serial items = option_and_then (slice_get items) (item_index window serial items)
 
 -- why there is no such item, where this is why its window has none
 abbrev pub item_refusals : {T : Type 0} → ℕ → ℕ → Refusal → FullDesk → List (Item T) → List (Bool × Refusal)

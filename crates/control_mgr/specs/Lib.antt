@@ -7,6 +7,7 @@ pub mod ControlDesks
 pub mod Judged
 pub mod ControlRefusals
 pub mod ControlSteps
+pub mod Standing
 pub mod Numbers
 pub mod Damages
 pub mod Settled

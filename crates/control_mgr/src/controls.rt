@@ -1,11 +1,8 @@
 //! What a Control Manager keeps, and how it begins.
 ghost use Rattle.std.specs.Prelude.{◌≡◌, ◌≤◌, ◌+◌, [], length, Some, OnOk, IsOk, vec_capacity};
-ghost use Rattle.std.specs.Option.{option_map};
-ghost use Rattle.control_mgr.specs.ItemSpots.{item_of};
 ghost use Rattle.control_mgr.specs.Making.{IsRoomier};
 
 use crate::Control;
-use desk_call::ControlOf;
 use std::alloc::{AllocError, Global};
 use window_items::Items;
 
@@ -33,17 +30,6 @@ impl<D> Controls<D> {
         ensures { result ≡ self.now.list.next }
     {
         self.list.next
-    }
-
-    /// A control, to be read, if it is there.
-    pub fn control(&self, control: ControlOf) -> Option<&Control<D>>
-        ensures { option_map (λ c. c.now) result
-            ≡ option_map (λ x. x.kept) (item_of control.window control.control self.now.list.items.items) }
-    {
-        match self.list.find(control.window, control.control) {
-            Some(at) => Some(&self.list.items[at].kept),
-            None => None,
-        }
     }
 
     /// Makes room for so many controls more, so that they can be added without memory. With room for them already it takes none.

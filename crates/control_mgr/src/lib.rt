@@ -33,6 +33,7 @@ mod making;
 mod perform;
 mod setting;
 mod spots;
+mod standing;
 mod telling;
 mod tracking;
 
@@ -44,3 +45,4 @@ pub use ending::{Ending, layers_left, update_left};
 pub use laying::may_be_placed;
 pub use making::{Addition, MOST_CONTROLS, Ticket, form_refusal};
 pub use spots::{ItemAt, spot_of};
+pub use standing::ControlStand;

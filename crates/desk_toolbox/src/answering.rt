@@ -28,7 +28,6 @@ use control_mgr::{Controls, ControlsOnStock};
 use def_iface::{ControlStock, ListStock, Stock, Stocked, StockedAll, TakenControl, TakenList};
 use desk_call::{Asked, Nature};
 use dialog_call::{DialogCall, DialogReply};
-use dialog_items::LayerSort;
 use dialog_mgr::Dialogs;
 use list_mgr::{Lists, ListsOnStock};
 use tb_geom::Refusal;
@@ -188,17 +187,12 @@ impl Toolbox {
         if self.is_behind_menu(asks) {
             return Ok(ControlReply::Found(None));
         }
-        let reply = self.controls.perform(
+        self.controls.perform(
             &mut self.windows,
             &mut self.activity,
             call,
             &mut stock.controls,
-        )?;
-        if let ControlCall::Dispose(gone) = call {
-            self.dialogs
-                .layer_gone(gone.window, LayerSort::Control, gone.control);
-        }
-        Ok(reply)
+        )
     }
 
     /// Whether a point of a window lies where the menu does that is pulled down.
@@ -254,8 +248,7 @@ impl Toolbox {
             .texts
             .perform(&mut self.windows, &mut self.activity, call)?;
         if let TextCall::Dispose(gone) = call {
-            self.dialogs
-                .layer_gone(gone.window, LayerSort::Text, gone.text);
+            self.dialogs.text_gone(*gone);
         }
         Ok(reply)
     }

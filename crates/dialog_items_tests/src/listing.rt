@@ -1,6 +1,6 @@
 //! The items of a window.
 
-use dialog_items::{DialogItems, Item, ItemKind, LayerSort};
+use dialog_items::{DialogItems, Item, ItemKind};
 use std::test::Fail;
 use tb_geom::{Rect, Refusal};
 
@@ -51,17 +51,11 @@ fn the_first_edit_item_is_edited(rt: HostRuntime) -> Result<(), Fail> {
 }
 
 #[test]
-fn an_item_without_its_layer_is_empty(rt: HostRuntime) -> Result<(), Fail> {
+fn items_have_numbers_from_1(rt: HostRuntime) -> Result<(), Fail> {
     let mut items = DialogItems::new(rt.alloc());
     add(&mut items, item(ItemKind::Button, Some(7)))?;
     add(&mut items, item(ItemKind::Edit, Some(7)))?;
-    assert_eq!(rt; items.with_layer(LayerSort::Control, 7), 1);
-    assert_eq!(rt; items.with_layer(LayerSort::Text, 8), 0);
-    items.dispose(LayerSort::Text, 7);
     assert!(rt; has_layer(&items, 1, Some(7)));
-    assert!(rt; has_layer(&items, 2, None));
-    assert_eq!(rt; items.edited(), 0);
-    assert_eq!(rt; items.items().len(), 2);
     assert!(rt; !items.is_number(0) && items.is_number(2) && !items.is_number(3));
     Ok(())
 }

@@ -13,16 +13,12 @@ use Rattle.control_mgr.specs.Boxed as controls
 use Rattle.text_mgr.specs.declared.texts.Texts.{Texts}
 use Rattle.dialog_mgr.specs.declared.dialogs.Dialogs.{Dialogs}
 use Rattle.dialog_mgr.specs.DialogDesks.{DialogDesk}
-use Rattle.dialog_mgr.specs.WholeDialogs as whole
 use Rattle.dialog_mgr.specs.WholeDialogs.{LeavesDialogs, LeavesOver}
 
 -- `window` says what a box of a window's definition means, and `control` what one of a control's
 module _ {V : Type 0} {H : V → Type 0} (window : (b : DynBox V Global H) → window_def.Ghosts (H b.vtable)) {W : Type 0} {K : W → Type 0} (control : (b : DynBox W Global K) → control_def.Ghosts (K b.vtable)) where
-  -- they are whole beside these windows, controls and text records
-  abbrev pub AreBeside : WindowManager V H → Controls (TakenBox W K) → Texts → Dialogs → Type 0
-  AreBeside t cs ts m = whole.AreBeside (window_loan_by window) (control_loan_by control) t cs ts m
-
-  -- all are whole afterwards, and together they are such a step of the desk, whatever other layers show: over a stock of controls
+  -- windows, controls and text records are whole afterwards, and with the dialogs they are such a step of the desk, whatever other
+  -- layers show: over a stock of controls
   -- before and after, and over any slots, which a call leaves alone
   abbrev pub LeavesStock : Slots (DynBox W Global K) → Slots (DynBox W Global K) → (DialogDesk → DialogDesk → Type 0)
       → WindowManager V H → Opened → Controls (TakenBox W K) → Texts → Dialogs

@@ -164,7 +164,7 @@ key_number_refusals k =
 abbrev pub key_refusals : DialogKey → FullDesk → TextsState → DialogsState → List (Bool × Refusal)
 key_refusals k desk ts s =
     window_refusals k.window desk ++ (key_number_refusals k
-    ++ (if is_typed k then typed_refusals k (edited_text (dialog_of k.window s.dialogs)) ts else []))
+    ++ (if is_typed k then typed_refusals k (edited_text k.window s ts.texts) ts else []))
 
 -- ---- the mouse
 

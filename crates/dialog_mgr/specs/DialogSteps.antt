@@ -1,5 +1,6 @@
 -- One step of a call about the items of dialogs: what it leaves, and what it answers.
 use Rattle.std.specs.Prelude.{◌≡◌, ◌==◌, ℕ, zero, suc, nat_abs, Bool, true, false, if◌then◌else◌, List, length, Option, None, Some, Result, is_some}
+use Rattle.std.specs.Option.{option_map_or}
 use Rattle.tb_geom.specs.declared.point.Point.{Point}
 use Rattle.tb_geom.specs.declared.refusal.Refusal.{Refusal}
 use Rattle.tb_geom.specs.Refusals.{first_refusal}
@@ -40,9 +41,10 @@ use Rattle.text_edits.specs.Edits.{selected}
 use Rattle.text_edits.specs.Selecting.{anchor_of, extended_to}
 use Rattle.window_mgr.specs.DeskStates.{SameActivity}
 use Rattle.window_mgr.specs.FullDesk.{IsRightState}
+use Rattle.control_mgr.specs.ControlDesks.{ControlRecord}
 use Rattle.control_mgr.specs.ControlSteps.{IsControlEffect, IsControlMade}
 use Rattle.text_mgr.specs.ItemTexts.{AreTextsHandedOver, IsTextBegun, IsTextPut, IsTextPutAway}
-use Rattle.text_mgr.specs.TextDesks.{TextDesk}
+use Rattle.text_mgr.specs.TextDesks.{KeptText, TextDesk}
 use Rattle.text_mgr.specs.TextPlaces.{click_mode}
 use Rattle.text_mgr.specs.TextSteps.{IsTextEffect, OfText, Opens}
 use Rattle.dialog_mgr.specs.DialogDesks.{AreDialogs, Dialog, DialogDesk, DialogsState, IsDialogDeskUnchanged, OfControls, OfTexts, dialog_of, named_item, with_dialog, with_dialog_there, with_texts}
@@ -67,10 +69,6 @@ edited_next window number s = changed_in window (λ d. record d { edited = numbe
 -- this item stands behind all others of its window
 abbrev pub item_added : ℕ → Item → DialogsState → DialogsState
 item_added window i s = record s { dialogs = with_dialog window (with_item i) s.dialogs }
-
--- such a step of the text records, and what is open stays so
-abbrev pub OfTextsAlone : (TextDesk → TextDesk → Type 0) → DialogDesk → DialogDesk → Type 0
-OfTextsAlone step before after = OfTexts step before after × SameActivity before.desk after.desk
 
 -- ---- a new item
 
@@ -118,32 +116,35 @@ abbrev pub shown_text : Bool → TextOf → TextCall
 shown_text true t = texts.Show t
 shown_text false t = texts.Hide t
 
--- an item with a layer of this sort and serial was shown or hidden
-abbrev pub IsLayerShown : Bool → LayerSort → ℕ → ℕ → DialogDesk → DialogDesk → Type 0
-IsLayerShown shown Control window serial before after =
-    OfControls (IsControlEffect (shown_control shown (record { window = window; control = serial })) control_reply.Done) before after
-IsLayerShown shown Text window serial before after =
-    OfTexts (IsTextEffect (shown_text shown (record { window = window; text = serial })) text_reply.Done) before after
+-- a control, if there is one, was shown or hidden, and so a text record
+abbrev pub IsControlShown : Bool → Option ControlOf → DialogDesk → DialogDesk → Type 0
+IsControlShown shown None before after = IsDialogDeskUnchanged before after
+IsControlShown shown (Some c) before after =
+    OfControls (IsControlEffect (shown_control shown c) control_reply.Done) before after × (after.dialogs ≡ before.dialogs)
+
+abbrev pub IsTextShown : Bool → Option TextOf → DialogDesk → DialogDesk → Type 0
+IsTextShown shown None before after = IsDialogDeskUnchanged before after
+IsTextShown shown (Some t) before after =
+    OfTexts (IsTextEffect (shown_text shown t) text_reply.Done) before after × (after.dialogs ≡ before.dialogs)
 
 -- an item was shown or hidden: its layer, and of an item without one what is said of a user item; an empty one stays as it is
+abbrev pub IsItemShownBy : Option LayerSort → Bool → ItemOf → Item → DialogDesk → DialogDesk → Type 0
+IsItemShownBy None shown i x before after = AreDialogs (changed_item i (with_shown shown) before.dialogs) before after
+IsItemShownBy (Some Control) shown i x before after = IsControlShown shown (control_in i.window before.controls.controls x) before after
+IsItemShownBy (Some Text) shown i x before after = IsTextShown shown (text_in i.window before.texts.texts x) before after
+
 abbrev pub IsItemShown : Bool → ItemOf → Item → DialogDesk → DialogDesk → Type 0
-IsItemShown shown i x before after = is_shown_by (sort_of x.kind) x.layer shown i before after
-  where
-    is_shown_by : Option LayerSort → Option ℕ → Bool → ItemOf → DialogDesk → DialogDesk → Type 0
-    is_shown_by None layer shown i before after = AreDialogs (changed_item i (with_shown shown) before.dialogs) before after
-    is_shown_by (Some sort) None shown i before after = IsDialogDeskUnchanged before after
-    is_shown_by (Some sort) (Some serial) shown i before after =
-        IsLayerShown shown sort i.window serial before after × (after.dialogs ≡ before.dialogs)
+IsItemShown shown i x before after = IsItemShownBy (sort_of x.kind) shown i x before after
 
 -- the edited item was hidden: its text record, if it has one, was made inactive and hidden, and none is edited
 abbrev pub IsEditedHidden : ItemOf → Option TextOf → DialogDesk → DialogDesk → Type 0
-IsEditedHidden i None before after = ⊥
+IsEditedHidden i None before after = AreDialogs (edited_next i.window 0 before.dialogs) before after
 IsEditedHidden i (Some t) before after =
-    OfTextsAlone (IsTextPutAway t) before after × (after.dialogs ≡ edited_next i.window 0 before.dialogs)
+    OfTexts (IsTextPutAway t) before after × (after.dialogs ≡ edited_next i.window 0 before.dialogs)
 
 -- an item was hidden: the edited one, or another
 abbrev pub IsItemHiddenAs : Bool → ItemOf → Item → DialogDesk → DialogDesk → Type 0
-IsItemHiddenAs true i x before after = IsEditedHidden i (text_in i.window x) before after
+IsItemHiddenAs true i x before after = IsEditedHidden i (text_in i.window before.texts.texts x) before after
 IsItemHiddenAs false i x before after = IsItemShown false i x before after
 
 abbrev pub IsItemHidden : ItemOf → Item → DialogDesk → DialogDesk → Type 0
@@ -151,21 +152,22 @@ IsItemHidden i x before after = IsItemHiddenAs ((dialog_of i.window before.dialo
 
 -- ---- the edited item
 
--- the text record of an item, if it has one, is edited: it is active now and changed so, and that of the item that was edited before,
--- if that is another, is not active. Both are shown anew in one
-abbrev pub IsTextEditedNext : Option TextOf → ℕ → ℕ → (Record → Record) → DialogDesk → DialogDesk → Type 0
-IsTextEditedNext None window number f before after = ⊥
-IsTextEditedNext (Some t) window number f before after =
-    OfTexts (AreTextsHandedOver (left_text (dialog_of window before.dialogs.dialogs) number) t f) before after
-    × (after.dialogs ≡ edited_next window number before.dialogs)
+-- an item is edited: its text record is active now and changed so, and that of the item that was edited before, if that is another, is
+-- not active. Both are shown anew in one
+abbrev pub IsTextEdited : TextOf → ItemOf → (Record → Record) → DialogDesk → DialogDesk → Type 0
+IsTextEdited t i f before after = OfTexts (AreTextsHandedOver (left_text t before.dialogs before.texts.texts) t f) before after
+    × (after.dialogs ≡ edited_next i.window i.item before.dialogs)
 
--- the item of this number is edited, and its text record is changed so
-abbrev pub IsItemEdited : ItemOf → (Record → Record) → DialogDesk → DialogDesk → Type 0
-IsItemEdited i f before after = OfItem i before (λ x. IsTextEditedNext (text_in i.window x) i.window i.item f before after)
+-- so, and this much of its text is selected; what is open stays so. Without a text record nothing happens
+abbrev pub IsTextSelected : Option TextOf → ItemOf → ℕ → ℕ → DialogDesk → DialogDesk → Type 0
+IsTextSelected None i start end before after = IsDialogDeskUnchanged before after
+IsTextSelected (Some t) i start end before after =
+    IsTextEdited t i (selected start end) before after × SameActivity before.desk after.desk
 
--- it is edited, and so much of its text is selected; what is open stays so
+-- so of an item that is there
 abbrev pub IsItemSelected : ItemOf → ℕ → ℕ → DialogDesk → DialogDesk → Type 0
-IsItemSelected i start end before after = IsItemEdited i (selected start end) before after × SameActivity before.desk after.desk
+IsItemSelected i start end before after =
+    OfItem i before (λ x. IsTextSelected (text_in i.window before.texts.texts x) i start end before after)
 
 -- the text record of the edited item, if one is edited, was made active or inactive
 abbrev pub IsEditedActivated : Option TextOf → Bool → DialogDesk → DialogDesk → Type 0
@@ -188,32 +190,36 @@ clicked number begun = reply.Clicked (record { item = number; begun = begun })
 abbrev pub IsHit : ℕ → DialogReply → DialogDesk → DialogDesk → Type 0
 IsHit number answer before after = (answer ≡ clicked number false) × IsDialogDeskUnchanged before after
 
--- an edit item was clicked: it is edited, and a selection opened in its text record
-abbrev pub IsEditClicked : Option TextOf → ItemOf → ClickMode → Point → DialogDesk → DialogDesk → Type 0
-IsEditClicked None i mode p before after = ⊥
-IsEditClicked (Some t) i mode p before after = OfText t (with_texts before) (λ r.
+-- an item is edited, and a selection opened in its text record
+abbrev pub IsTextOpened : TextOf → ItemOf → ClickMode → Point → DialogDesk → DialogDesk → Type 0
+IsTextOpened t i mode p before after = OfText t (with_texts before) (λ r.
     let anchor = anchor_of mode (offset_at r p) r in
-    IsItemEdited i (extended_to anchor mode p) before after
+    IsTextEdited t i (extended_to anchor mode p) before after
     × Opens (Selecting (record { text = t; mode = mode; anchor = anchor })) (with_texts before) (with_texts after))
+
+-- an edit item was clicked
+abbrev pub IsEditClicked : Option TextOf → Item → ItemOf → ClickMode → Point → DialogReply → DialogDesk → DialogDesk → Type 0
+IsEditClicked None x i mode p answer before after = IsHit 0 answer before after
+IsEditClicked (Some t) x i mode p answer before after =
+    (answer ≡ clicked (if_enabled x i.item) true) × IsTextOpened t i mode p before after
 
 -- a control was clicked: where its item is enabled, its tracking begins where the click lies in a part of it
 abbrev pub IsControlClicked : Bool → Option ControlOf → ItemOf → Point → DialogReply → DialogDesk → DialogDesk → Type 0
-IsControlClicked false c i p answer before after = IsHit 0 answer before after
-IsControlClicked true None i p answer before after = ⊥
 IsControlClicked true (Some c) i p answer before after = (part : Option ControlPart)
     × (answer ≡ clicked (if is_some part then i.item else 0) (is_some part))
     × OfControls (IsControlEffect (controls.Track (record { control = c; point = p })) (control_reply.Part part)) before after
     × (after.dialogs ≡ before.dialogs)
+IsControlClicked _ c i p answer before after = IsHit 0 answer before after
 
 -- an item of this kind was clicked
 abbrev pub IsItemClicked : ItemKind → Item → ItemOf → ClickMode → Point → DialogReply → DialogDesk → DialogDesk → Type 0
 IsItemClicked kinds.Edit x i mode p answer before after =
-    (answer ≡ clicked (if_enabled x i.item) true) × IsEditClicked (text_in i.window x) i mode p before after
+    IsEditClicked (text_in i.window before.texts.texts x) x i mode p answer before after
 IsItemClicked kinds.Static x i mode p answer before after = IsHit (if_enabled x i.item) answer before after
 IsItemClicked kinds.Icon x i mode p answer before after = IsHit (if_enabled x i.item) answer before after
 IsItemClicked kinds.User x i mode p answer before after = IsHit (if_enabled x i.item) answer before after
 IsItemClicked _ x i mode p answer before after =
-    IsControlClicked x.enabled (control_in i.window x) i p answer before after
+    IsControlClicked x.enabled (control_in i.window before.controls.controls x) i p answer before after
 
 -- the item found at the point, if one was, was clicked
 abbrev pub IsClickedAt : ℕ → ClickDialog → ClickMode → DialogReply → DialogDesk → DialogDesk → Type 0
@@ -266,7 +272,7 @@ IsKeyedAs Nothing k answer before after = (answer ≡ reply.Item 0) × IsDialogD
 IsKeyedAs Button k answer before after =
     (answer ≡ reply.Item (return_item (looks_of k.window before))) × IsDialogDeskUnchanged before after
 IsKeyedAs Goes k answer before after = (answer ≡ reply.Item 0) × IsTabbed k.window (tab_goal k before) before after
-IsKeyedAs Types k answer before after = IsTyped (edited_text (dialog_of k.window before.dialogs.dialogs)) k answer before after
+IsKeyedAs Types k answer before after = IsTyped (edited_text k.window before.dialogs before.texts.texts) k answer before after
 
 abbrev pub IsKeyed : DialogKey → DialogReply → DialogDesk → DialogDesk → Type 0
 IsKeyed k answer before after = IsKeyedAs (meaning_of k) k answer before after
@@ -277,14 +283,18 @@ IsKeyed k answer before after = IsKeyedAs (meaning_of k) k answer before after
 abbrev pub Tells : DialogReply → DialogReply → DialogDesk → DialogDesk → Type 0
 Tells told answer before after = (answer ≡ told) × IsDialogDeskUnchanged before after
 
--- the serial of a layer, and 0 of none
-abbrev pub serial_or_0 : Option ℕ → ℕ
-serial_or_0 None = 0
-serial_or_0 (Some serial) = serial
+-- the serial of the layer of an item of a window with these controls and text records, and 0 where it has none that is there
+abbrev pub layer_by : ℕ → List ControlRecord → List KeptText → Item → ℕ
+layer_by window cs ts x = told_by (sort_of x.kind) window cs ts x
+  where
+    told_by : Option LayerSort → ℕ → List ControlRecord → List KeptText → Item → ℕ
+    told_by None window cs ts x = 0
+    told_by (Some Control) window cs ts x = option_map_or (λ c. c.control) (control_in window cs x) 0
+    told_by (Some Text) window cs ts x = option_map_or (λ t. t.text) (text_in window ts x) 0
 
 -- what is told of an item of this window
 abbrev pub info_of : ℕ → DialogDesk → Item → DialogReply
-info_of window d x = reply.Info (record { number = dialog_type x; layer = serial_or_0 x.layer; rect = (look_in window d x).rect })
+info_of window d x = reply.Info (record { number = dialog_type x; layer = layer_by window d.controls.controls d.texts.texts x; rect = (look_in window d x).rect })
 
 -- how many items there are, and which is edited
 abbrev pub counts_of : Dialog → DialogReply
@@ -298,7 +308,7 @@ IsDialogEffect (call.New n) answer before after = (number : ℕ) × (answer ≡ 
 IsDialogEffect (call.SetParams p) answer before after =
     (answer ≡ reply.Done) × AreDialogs (record before.dialogs { params = params_of p }) before after
 IsDialogEffect (call.SetText t) answer before after = (answer ≡ reply.Done)
-    × OfItem t.item before (λ x. IsTextGiven (text_in t.item.window x) (text_by x.kind before.dialogs.params t.bytes) before after)
+    × OfItem t.item before (λ x. IsTextGiven (text_in t.item.window before.texts.texts x) (text_by x.kind before.dialogs.params t.bytes) before after)
 IsDialogEffect (call.Enable f) answer before after =
     (answer ≡ reply.Done) × AreDialogs (changed_item f.item (with_enabled f.flag) before.dialogs) before after
 IsDialogEffect (call.Show i) answer before after = (answer ≡ reply.Done) × OfItem i before (λ x. IsItemShown true i x before after)
@@ -306,7 +316,7 @@ IsDialogEffect (call.Hide i) answer before after = (answer ≡ reply.Done) × Of
 IsDialogEffect (call.Select z) answer before after =
     (answer ≡ reply.Done) × IsItemSelected z.item (nat_abs z.start) (nat_abs z.end) before after
 IsDialogEffect (call.Activate f) answer before after =
-    (answer ≡ reply.Done) × IsEditedActivated (edited_text (dialog_of f.window before.dialogs.dialogs)) f.flag before after
+    (answer ≡ reply.Done) × IsEditedActivated (edited_text f.window before.dialogs before.texts.texts) f.flag before after
 IsDialogEffect (call.Click c) answer before after = IsDialogClicked c answer before after
 IsDialogEffect (call.Key k) answer before after = IsKeyed k answer before after
 IsDialogEffect (call.Get i) answer before after = OfItem i before (λ x. Tells (info_of i.window before x) answer before after)

@@ -1,7 +1,7 @@
 -- The controls and text records that items are shown by: which are made for an item, and which an item has.
-use Rattle.std.specs.Prelude.{ℕ, ◌==◌, pos, ◌+ℤ◌, ◌-ℤ◌, Bool, true, not, ◌&&◌, codes, if◌then◌else◌, List, ◌++◌, ◌∷◌, [], Option, None}
+use Rattle.std.specs.Prelude.{ℕ, ◌==◌, pos, ◌+ℤ◌, ◌-ℤ◌, Bool, true, not, ◌&&◌, codes, if◌then◌else◌, List, ◌++◌, ◌∷◌, [], Option, None, Some, is_some}
 use Rattle.std.specs.List.{list_any}
-use Rattle.std.specs.Option.{option_and_then, option_map}
+use Rattle.std.specs.Option.{option_and_then}
 use Rattle.tb_geom.specs.declared.point.Point.{Point}
 use Rattle.tb_geom.specs.declared.rect.Rect.{Rect}
 use Rattle.tb_geom.specs.Rects.{in_plane, moved_rect}
@@ -20,6 +20,10 @@ use Rattle.dialog_call.specs.declared.calls.NewItem.{NewItem}
 use Rattle.desk_call.specs.declared.text.NewText.{NewText}
 use Rattle.desk_call.specs.declared.text.TextOf.{TextOf}
 use Rattle.desk_call.specs.declared.text.TextPlace.{TextPlace}
+use Rattle.control_mgr.specs.ControlDesks as control
+use Rattle.control_mgr.specs.ControlDesks.{ControlRecord}
+use Rattle.text_mgr.specs.TextDesks as text
+use Rattle.text_mgr.specs.TextDesks.{KeptText}
 use Rattle.dialog_mgr.specs.DialogDesks.{Dialog, DialogsState, dialog_of, list_of}
 
 -- ---- a new item
@@ -86,20 +90,23 @@ becomes_edited n s = is_edit_kind n.kind && not (list_any is_edit (dialog_of n.w
 
 -- ---- an item that is there
 
--- its control, and its text record, where it has a layer
-abbrev pub control_in : ℕ → Item → Option ControlOf
-control_in window i = option_map (λ serial. record { window = window; control = serial }) i.layer
+-- a control, and a text record, where they are among these
+abbrev pub control_there : List ControlRecord → ControlOf → Option ControlOf
+control_there cs c = if is_some (control.index_of c cs) then Some c else None
 
-abbrev pub text_in : ℕ → Item → Option TextOf
-text_in window i = option_map (λ serial. record { window = window; text = serial }) i.layer
+abbrev pub text_there : List KeptText → TextOf → Option TextOf
+text_there ts t = if is_some (text.index_of t ts) then Some t else None
 
--- the text record of the item of this number
-abbrev pub text_of_number : Dialog → ℕ → Option TextOf
-text_of_number d number = option_and_then (λ i. text_in d.window i) (item_of d.items number)
+-- an item's control, and its text record, where it has one that is there
+abbrev pub control_in : ℕ → List ControlRecord → Item → Option ControlOf
+control_in window cs i = option_and_then (λ serial. control_there cs (record { window = window; control = serial })) i.layer
 
--- that of the edited item, and that of the edited item where another one is edited next
-abbrev pub edited_text : Dialog → Option TextOf
-edited_text d = text_of_number d d.edited
+abbrev pub text_in : ℕ → List KeptText → Item → Option TextOf
+text_in window ts i = option_and_then (λ serial. text_there ts (record { window = window; text = serial })) i.layer
 
-abbrev pub left_text : Dialog → ℕ → Option TextOf
-left_text d next = if d.edited == next then None else edited_text d
+-- the text record of the edited item of a window, and the same where it is another than this one, which is edited next
+abbrev pub edited_text : ℕ → DialogsState → List KeptText → Option TextOf
+edited_text window s ts = let d = dialog_of window s.dialogs in option_and_then (text_in window ts) (item_of d.items d.edited)
+
+abbrev pub left_text : TextOf → DialogsState → List KeptText → Option TextOf
+left_text next s ts = option_and_then (λ t. if t.text == next.text then None else Some t) (edited_text next.window s ts)

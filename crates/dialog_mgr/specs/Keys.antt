@@ -20,5 +20,5 @@ IsTabbedFrom window back before after =
 -- the key was typed in the edited item, or it is refused
 abbrev pub HasTyped : DialogKey → Result DialogReply Refusal → DialogDesk → DialogDesk → Type 0
 HasTyped k = IsStepOf
-    (λ before why. first_refusal (typed_refusals k (edited_text (dialog_of k.window before.dialogs.dialogs)) before.texts) ≡ why) true
-    (λ answer before. IsTyped (edited_text (dialog_of k.window before.dialogs.dialogs)) k answer before) IsDialogDeskUnchanged
+    (λ before why. first_refusal (typed_refusals k (edited_text k.window before.dialogs before.texts.texts) before.texts) ≡ why) true
+    (λ answer before. IsTyped (edited_text k.window before.dialogs before.texts.texts) k answer before) IsDialogDeskUnchanged

@@ -1,5 +1,5 @@
 -- How items stand in their windows, as their controls and text records stand there.
-use Rattle.std.specs.Prelude.{ℕ, false, nat_eq, List, map, Option, None, Some}
+use Rattle.std.specs.Prelude.{ℕ, false, List, map, Option, None, Some}
 use Rattle.std.specs.Option.{option_map, option_map_or}
 use Rattle.tb_geom.specs.declared.point.Point.{Point}
 use Rattle.tb_geom.specs.declared.rect.Rect.{Rect}
@@ -13,8 +13,9 @@ use Rattle.dialog_items.specs.Finding.{item_at}
 use Rattle.dialog_items.specs.Items.{look_of, own_look}
 use Rattle.dialog_items.specs.Kinds.{item_rect, sort_of}
 use Rattle.text_record.specs.Texts.{Record}
-use Rattle.control_mgr.specs.declared.control.Control.{Control}
+use Rattle.control_mgr.specs.declared.standing.ControlStand.{ControlStand}
 use Rattle.control_mgr.specs.ControlDesks.{ControlRecord, control_of}
+use Rattle.control_mgr.specs.Standing.{stand_of}
 use Rattle.text_mgr.specs.TextDesks.{KeptText, text_of}
 use Rattle.dialog_mgr.specs.DialogDesks.{DialogDesk, dialog_of}
 
@@ -22,15 +23,14 @@ use Rattle.dialog_mgr.specs.DialogDesks.{DialogDesk, dialog_of}
 abbrev pub look_of_none : Item → ItemLook
 look_of_none i = look_of i false empty_rect false
 
-module _ {D : Type 0} where
-  -- the rectangle of a control in its window
-  abbrev pub control_rect : Control D → Rect
-  control_rect c = moved_rect (rect_of c.size) c.place.h c.place.v
+-- the rectangle of a control in its window
+abbrev pub control_rect : ControlStand → Rect
+control_rect c = moved_rect (rect_of c.size) c.place.h c.place.v
 
-  -- an item as its control stands, if that is there
-  abbrev pub look_by_control : Item → Option (Control D) → ItemLook
-  look_by_control i None = look_of_none i
-  look_by_control i (Some c) = look_of i c.shown (item_rect i.kind (control_rect c)) (nat_eq c.highlight 255)
+-- an item as its control stands, if that is there
+abbrev pub look_by_control : Item → Option ControlStand → ItemLook
+look_by_control i None = look_of_none i
+look_by_control i (Some c) = look_of i c.shown (item_rect i.kind (control_rect c)) c.inactive
 
 -- an item as its text record stands, if that is there: its rectangle is the view
 abbrev pub look_by_text : Item → Option Record → ItemLook
@@ -40,7 +40,7 @@ look_by_text i (Some r) = look_of i r.shown r.view false
 -- an item of this window as its layer of this sort and serial stands
 abbrev pub look_by_layer : LayerSort → ℕ → ℕ → List ControlRecord → List KeptText → Item → ItemLook
 look_by_layer ByControl window serial cs ts i =
-    look_by_control i (option_map (λ c. c.kept) (control_of (record { window = window; control = serial }) cs))
+    look_by_control i (option_map stand_of (control_of (record { window = window; control = serial }) cs))
 look_by_layer Text window serial cs ts i =
     look_by_text i (option_map (λ t. t.kept) (text_of (record { window = window; text = serial }) ts))
 

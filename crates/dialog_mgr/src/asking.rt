@@ -5,15 +5,16 @@ ghost use Rattle.dialog_call.specs.declared.calls.DialogCall.TheVariants as asks
 ghost use Rattle.window_mgr.specs.DeskStates.{Opened};
 ghost use Rattle.dialog_mgr.specs.DialogDesks.{named_item};
 ghost use Rattle.dialog_mgr.specs.DialogRefusals.{missing_refusals, window_refusals};
-ghost use Rattle.dialog_mgr.specs.DialogSteps.{IsDialogStep};
+ghost use Rattle.dialog_mgr.specs.DialogSteps.{IsDialogStep, layer_by};
 ghost use Rattle.dialog_mgr.specs.WholeDialogs.{dialogs_state};
 
+use crate::item_layers::{control_in, text_in};
 use crate::looks::look_in;
 use crate::{DeskDialogs, Dialogs};
-use control_mgr::{Controls, DeskControls};
+use control_mgr::{Controls, ControlsOnStock, DeskControls};
 use def_iface::TakenControl;
 use dialog_call::{DialogInfo, DialogReply, FindItem, ItemInfo, ItemOf};
-use dialog_items::{Item, item_at};
+use dialog_items::{Item, LayerSort, item_at};
 use tb_geom::Refusal;
 use text_mgr::{DeskTexts, Texts};
 use window_mgr::{DeskWindows, WindowManager};
@@ -26,6 +27,24 @@ pub(crate) fn window_there(windows: &WindowManager, window: u64) -> Result<(), R
     match windows.find(window) {
         Some(_) => Ok(()),
         None => Err(Refusal::NoSuchWindow),
+    }
+}
+
+/// The serial of the layer of an item of a window, and 0 where it has none that is there.
+fn layer_told(controls: &Controls<TakenControl>, texts: &Texts, window: u64, item: &Item) -> u64
+    ensures { result ≡ layer_by window (⟦<Controls<TakenControl> as ControlsOnStock>⟧.records controls.now)
+        texts.now.list.items.items item.now }
+{
+    match item.kind.layer_sort() {
+        Some(LayerSort::Control) => match control_in(controls, window, item) {
+            Some(there) => there.control,
+            None => 0,
+        },
+        Some(LayerSort::Text) => match text_in(texts, window, item) {
+            Some(there) => there.text,
+            None => 0,
+        },
+        None => 0,
     }
 }
 
@@ -64,7 +83,7 @@ impl Dialogs {
         let look = look_in(controls, texts, of.window, &item);
         Ok(DialogReply::Info(ItemInfo {
             number: item.type_number(),
-            layer: item.layer.unwrap_or(0),
+            layer: layer_told(controls, texts, of.window, &item),
             rect: look.rect,
         }))
     }

@@ -1,14 +1,14 @@
 //! The edited item of a window: which it is, and what of its text is selected.
-ghost use Rattle.std.specs.Prelude.{◌≡◌, ◌≤◌};
+ghost use Rattle.std.specs.Prelude.{◌≡◌, ◌≤◌, Some, false, is_none};
 ghost use Rattle.tb_geom.specs.Points.{PixelSet};
 ghost use Rattle.desk_call.specs.declared.activity.Activity.TheVariants.{Idle};
 ghost use Rattle.dialog_call.specs.declared.calls.DialogCall.TheVariants as asks;
 ghost use Rattle.text_edits.specs.Edits.{is_selection};
 ghost use Rattle.window_mgr.specs.DeskStates.{Opened};
 ghost use Rattle.control_mgr.specs.Spots.{opened};
-ghost use Rattle.dialog_mgr.specs.Choosing.{IsEditItem};
-ghost use Rattle.dialog_mgr.specs.DialogDesks.{dialog_of};
-ghost use Rattle.dialog_mgr.specs.DialogSteps.{IsDialogStep, IsItemSelected, IsWhereRight};
+ghost use Rattle.text_mgr.specs.TextDesks.{index_of};
+ghost use Rattle.dialog_mgr.specs.DialogSteps.{IsDialogStep, IsTextSelected, IsWhereRight, item_in};
+ghost use Rattle.dialog_mgr.specs.Rooms.{MayBeEdited};
 ghost use Rattle.dialog_mgr.specs.ItemLayers.{edited_text, left_text};
 ghost use Rattle.dialog_mgr.specs.WholeDialogs.{dialogs_state};
 
@@ -19,7 +19,7 @@ use crate::{DeskDialogs, Dialogs};
 use control_mgr::{Controls, DeskControls};
 use def_iface::TakenControl;
 use desk_call::{Activity, TextCall, TextFlag, TextOf};
-use dialog_call::{DialogFlag, DialogReply, ItemOf, SelectItem};
+use dialog_call::{DialogFlag, DialogReply, SelectItem};
 use tb_geom::Refusal;
 use text_mgr::{DeskTexts, Texts};
 use window_mgr::{DeskWindows, WindowManager};
@@ -36,34 +36,33 @@ fn is_selection(start: i32, end: i32) -> bool
 
 impl Dialogs {
     /// The text record of the edited item of a window, if one is edited.
-    pub(crate) fn edited_text(&self, window: u64) -> Option<TextOf>
-        ensures { result ≡ edited_text (dialog_of window (dialogs_state self.now).dialogs) }
+    pub(crate) fn edited_text(&self, texts: &Texts, window: u64) -> Option<TextOf>
+        ensures { result ≡ edited_text window (dialogs_state self.now) texts.now.list.items.items }
     {
         match self.item(window, self.edited(window)) {
-            Some(item) => text_in(window, &item),
+            Some(item) => text_in(texts, window, &item),
             None => None,
         }
     }
 
-    /// The text record that is left where this item is edited next: that of the edited item, if it is another.
-    pub(crate) fn left_text(&self, next: ItemOf) -> Option<TextOf>
-        ensures { result ≡ left_text (dialog_of next.window (dialogs_state self.now).dialogs) next.item }
+    /// The text record of the item that is edited, where that is another than this one, which is edited next.
+    pub(crate) fn left_text(&self, texts: &Texts, next: TextOf) -> Option<TextOf>
+        ensures { result ≡ left_text next (dialogs_state self.now) texts.now.list.items.items }
     {
-        if self.edited(next.window) == next.item {
-            None
-        } else {
-            self.edited_text(next.window)
+        match self.edited_text(texts, next.window) {
+            Some(text) if text.text != next.text => Some(text),
+            _ => None,
         }
     }
 
-    /// Edits an item, and selects so many bytes of its text. The text records of both items are drawn where they are not to be
-    /// redrawn. It takes no memory.
+    /// Edits an item, which has this text record, and selects so many bytes of its text. The text records of both items are drawn
+    /// where they are not to be redrawn. It takes no memory.
     pub(crate) fn edit_selected(
         &mut self,
         windows: &mut WindowManager,
         controls: &Controls<TakenControl>,
         texts: &mut Texts,
-        of: ItemOf,
+        item: usize,
         text: TextOf,
         start: usize,
         end: usize,
@@ -71,15 +70,16 @@ impl Dialogs {
         requires kept { ⟦<WindowManager as DeskWindows>⟧.IsKept windows.old }
         requires controls { ⟦<Controls<TakenControl> as DeskControls>⟧.AreBeside windows.old controls.now }
         requires texts { ⟦<Texts as DeskTexts>⟧.AreBeside windows.old texts.old }
-        requires dialogs { ⟦<Self as DeskDialogs>⟧.AreBeside windows.old controls.now texts.old self.old }
-        requires item { IsEditItem of text self.old texts.old }
+        requires there { is_none (index_of text texts.old.list.items.items) ≡ false }
+        requires edit { MayBeEdited text.window item self.old }
         requires order { start ≤ end }
         ensures { (o : Opened) → ⟦<Self as DeskDialogs>⟧.Leaves
-            (IsWhereRight (IsItemSelected of start end))
+            (IsWhereRight (IsTextSelected (Some text) (item_in text.window item) start end))
             windows.old o controls.now texts.old self.old windows.new o controls.now texts.new self.new }
     {
-        texts.select_next(windows, self.left_text(of), text, start, end);
-        self.edit_next(of.window, of.item);
+        let left = self.left_text(texts, text);
+        texts.select_next(windows, left, text, start, end);
+        self.edit_next(text.window, item);
     }
 
     /// Edits an item, and selects a part of its text.
@@ -93,7 +93,6 @@ impl Dialogs {
         requires kept { ⟦<WindowManager as DeskWindows>⟧.IsKept windows.old }
         requires controls { ⟦<Controls<TakenControl> as DeskControls>⟧.AreBeside windows.old controls.now }
         requires texts { ⟦<Texts as DeskTexts>⟧.AreBeside windows.old texts.old }
-        requires dialogs { ⟦<Self as DeskDialogs>⟧.AreBeside windows.old controls.now texts.old self.old }
         ensures { (o : Opened) → ⟦<Self as DeskDialogs>⟧.Leaves
             (IsWhereRight (IsDialogStep (asks.Select chosen) result))
             windows.old o controls.now texts.old self.old windows.new o controls.now texts.new self.new }
@@ -104,9 +103,9 @@ impl Dialogs {
         if !item.is_edit() || !look.shown || !is_selection(chosen.start, chosen.end) {
             return Err(Refusal::OutOfRange);
         }
-        if let Some(text) = text_in(of.window, &item) {
+        if let Some(text) = text_in(texts, of.window, &item) {
             let (start, end) = (chosen.start as usize, chosen.end as usize);
-            self.edit_selected(windows, controls, texts, of, text, start, end);
+            self.edit_selected(windows, controls, texts, of.item, text, start, end);
         }
         Ok(DialogReply::Done)
     }
@@ -123,7 +122,6 @@ impl Dialogs {
         requires kept { ⟦<WindowManager as DeskWindows>⟧.IsKept windows.old }
         requires controls { ⟦<Controls<TakenControl> as DeskControls>⟧.AreBeside windows.old controls.now }
         requires texts { ⟦<Texts as DeskTexts>⟧.AreBeside windows.old texts.old }
-        requires dialogs { ⟦<Self as DeskDialogs>⟧.AreBeside windows.old controls.now texts.old self.now }
         requires idle { activity.old ≡ Idle }
         ensures step { (begun : PixelSet) → ⟦<Self as DeskDialogs>⟧.Leaves
             (IsWhereRight (IsDialogStep (asks.Activate set) result))
@@ -132,7 +130,7 @@ impl Dialogs {
         ensures idle { activity.new ≡ Idle }
     {
         window_there(windows, set.window)?;
-        if let Some(text) = self.edited_text(set.window) {
+        if let Some(text) = self.edited_text(texts, set.window) {
             let flag = set.flag;
             let call = TextCall::Activate(TextFlag { text, flag });
             let _done = texts.perform(windows, activity, &call)?;

@@ -23,12 +23,8 @@ pub trait DeskDialogs {
     /// The boxes that definitions lie in: what these mean, the members say.
     type Boxes;
 
-    /// They are whole beside these, as they are between calls: each item's layer is there, and is its alone, and the edited item of
-    /// a window is none or an edit item.
-    ghost AreBeside: { Self.Windows → Self.Controls → Self.Texts → Self → Type 0 };
-
-    /// Whatever other layers show, over any slots over which all are whole all are so afterwards, and this holds of the desk that
-    /// they are together. The controls' slots are the same before and after.
+    /// Whatever other layers show, over any slots over which windows, controls and text records are whole they are so afterwards, and
+    /// this holds of the desk that all are together. The controls' slots are the same before and after.
     ghost Leaves: { (DialogDesk → DialogDesk → Type 0)
         → Self.Windows → Opened → Self.Controls → Self.Texts → Self
         → Self.Windows → Opened → Self.Controls → Self.Texts → Self → Type 0 };
@@ -49,8 +45,6 @@ impl DeskDialogs for Dialogs {
     type Stock = ControlStock;
 
     type Boxes = (Box<dyn WindowDef>, Box<dyn ControlDef>);
-
-    ghost AreBeside = { boxed.AreBeside WindowDef-box ControlDef-box };
 
     ghost Leaves = { boxed.Leaves WindowDef-box ControlDef-box };
 

@@ -2,13 +2,16 @@
 ghost use Rattle.std.specs.Prelude.{◌≡◌, pos, true};
 ghost use Rattle.dialog_items.specs.Kinds.{is_edit_kind};
 ghost use Rattle.dialog_mgr.specs.ItemLayers.{control_for, control_in, control_name, item_for, may_be_item, rect_of_item, ring_of, text_in};
+ghost use Rattle.dialog_mgr.specs.ItemLayers.{control_there, text_there};
 ghost use Rattle.dialog_mgr.specs.ItemLayers.{text_place, text_record_for};
 
-use def_iface::Size;
+use control_mgr::{Controls, ControlsOnStock};
+use def_iface::{Size, TakenControl};
 use desk_call::{ControlOf, NewControl, NewText, TextOf, TextPlace};
 use dialog_call::NewItem;
 use dialog_items::{Item, ItemKind};
 use tb_geom::{BytesRef, Point, Rect};
+use text_mgr::Texts;
 
 /// The widest and highest that an item may be.
 const LARGEST: i32 = 1024;
@@ -133,22 +136,46 @@ pub(crate) fn item_for(new: &NewItem<'_>, layer: Option<u64>) -> Item
     }
 }
 
-/// The control of an item of a window, if it has a layer.
-pub(crate) fn control_in(window: u64, item: &Item) -> Option<ControlOf>
-    ensures { result ≡ control_in window item.now }
+/// A control, if it is among these.
+fn control_there(controls: &Controls<TakenControl>, control: ControlOf) -> Option<ControlOf>
+    ensures { result
+        ≡ control_there (⟦<Controls<TakenControl> as ControlsOnStock>⟧.records controls.now) control }
+{
+    if controls.has(control) {
+        Some(control)
+    } else {
+        None
+    }
+}
+
+/// The control of an item of a window, if it has one that is there.
+pub(crate) fn control_in(
+    controls: &Controls<TakenControl>,
+    window: u64,
+    item: &Item,
+) -> Option<ControlOf>
+    ensures { result
+        ≡ control_in window (⟦<Controls<TakenControl> as ControlsOnStock>⟧.records controls.now) item.now }
 {
     match item.layer {
-        Some(control) => Some(ControlOf { window, control }),
+        Some(control) => control_there(controls, ControlOf { window, control }),
         None => None,
     }
 }
 
-/// The text record of an item of a window, if it has a layer.
-pub(crate) fn text_in(window: u64, item: &Item) -> Option<TextOf>
-    ensures { result ≡ text_in window item.now }
+/// A text record, if it is among these.
+fn text_there(texts: &Texts, text: TextOf) -> Option<TextOf>
+    ensures { result ≡ text_there texts.now.list.items.items text }
+{
+    if texts.has(text) { Some(text) } else { None }
+}
+
+/// The text record of an item of a window, if it has one that is there.
+pub(crate) fn text_in(texts: &Texts, window: u64, item: &Item) -> Option<TextOf>
+    ensures { result ≡ text_in window texts.now.list.items.items item.now }
 {
     match item.layer {
-        Some(text) => Some(TextOf { window, text }),
+        Some(text) => text_there(texts, TextOf { window, text }),
         None => None,
     }
 }

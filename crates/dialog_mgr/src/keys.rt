@@ -17,7 +17,7 @@ use crate::{DeskDialogs, Dialogs};
 use control_mgr::{Controls, DeskControls};
 use def_iface::TakenControl;
 use desk_call::{Activity, TextCall, TextNumber};
-use dialog_call::{DialogKey, DialogReply, ItemOf};
+use dialog_call::{DialogKey, DialogReply};
 use dialog_items::{return_item, tab_item};
 use tb_geom::Refusal;
 use text_mgr::{DeskTexts, Texts};
@@ -66,7 +66,6 @@ impl Dialogs {
         requires kept { ⟦<WindowManager as DeskWindows>⟧.IsKept windows.old }
         requires controls { ⟦<Controls<TakenControl> as DeskControls>⟧.AreBeside windows.old controls.now }
         requires texts { ⟦<Texts as DeskTexts>⟧.AreBeside windows.old texts.old }
-        requires dialogs { ⟦<Self as DeskDialogs>⟧.AreBeside windows.old controls.now texts.old self.old }
         requires idle { activity.old ≡ Idle }
         ensures step { (begun : PixelSet) → ⟦<Self as DeskDialogs>⟧.Leaves
             (IsWhereRight (IsDialogStep (asks.Key typed) result))
@@ -108,7 +107,6 @@ impl Dialogs {
         requires kept { ⟦<WindowManager as DeskWindows>⟧.IsKept windows.old }
         requires controls { ⟦<Controls<TakenControl> as DeskControls>⟧.AreBeside windows.old controls.now }
         requires texts { ⟦<Texts as DeskTexts>⟧.AreBeside windows.old texts.old }
-        requires dialogs { ⟦<Self as DeskDialogs>⟧.AreBeside windows.old controls.now texts.old self.old }
         ensures { (o : Opened) → ⟦<Self as DeskDialogs>⟧.Leaves
             (IsWhereRight (IsTabbedFrom window back))
             windows.old o controls.now texts.old self.old windows.new o controls.now texts.new self.new }
@@ -118,9 +116,8 @@ impl Dialogs {
         let Some(next) = self.item(window, item) else {
             return;
         };
-        if let Some(text) = text_in(window, &next) {
-            let of = ItemOf { window, item };
-            self.edit_selected(windows, controls, texts, of, text, 0, MOST_TEXT);
+        if let Some(text) = text_in(texts, window, &next) {
+            self.edit_selected(windows, controls, texts, item, text, 0, MOST_TEXT);
         }
     }
 
@@ -136,7 +133,6 @@ impl Dialogs {
         requires kept { ⟦<WindowManager as DeskWindows>⟧.IsKept windows.old }
         requires controls { ⟦<Controls<TakenControl> as DeskControls>⟧.AreBeside windows.old controls.now }
         requires texts { ⟦<Texts as DeskTexts>⟧.AreBeside windows.old texts.old }
-        requires dialogs { ⟦<Self as DeskDialogs>⟧.AreBeside windows.old controls.now texts.old self.now }
         requires idle { activity.old ≡ Idle }
         requires code { is_outside (pos 0) (pos 255) typed.code ≡ false }
         ensures step { (begun : PixelSet) → ⟦<Self as DeskDialogs>⟧.Leaves
@@ -149,13 +145,14 @@ impl Dialogs {
         let Some(item) = self.item(typed.window, number) else {
             return Ok(DialogReply::Item(0));
         };
-        if let Some(text) = text_in(typed.window, &item) {
-            let call = TextCall::Key(TextNumber {
-                text,
-                number: typed.code,
-            });
-            let _done = texts.perform(windows, activity, &call)?;
-        }
+        let Some(text) = text_in(texts, typed.window, &item) else {
+            return Ok(DialogReply::Item(0));
+        };
+        let call = TextCall::Key(TextNumber {
+            text,
+            number: typed.code,
+        });
+        let _done = texts.perform(windows, activity, &call)?;
         Ok(DialogReply::Item(if_enabled(&item, number)))
     }
 }

@@ -5,11 +5,13 @@ ghost use Rattle.dialog_call.specs.declared.calls.DialogCall.{DialogCall as Aske
 ghost use Rattle.dialog_call.specs.declared.calls.DialogReply.{DialogReply as Told};
 ghost use Rattle.dialog_mgr.specs.DialogDesks.{DialogDesk};
 ghost use Rattle.dialog_mgr.specs.DialogSteps.{IsDialogStep};
-ghost use Rattle.dialog_mgr.specs.WholeDialogs.{HasWholeDialogs, IsEditedThere, is_edited_shown};
+ghost use Rattle.dialog_mgr.specs.WholeDialogs.{HasWholeDialogs, is_edited_shown};
 
-/// The edited item of each window is none, or an edit item whose text record is there.
+/// After any call about dialogs the edited item of each window is none, or an edit item whose text record is there, where that was so
+/// before it.
 pub fn the_edited_item_has_its_text_record()
-    ensures { (d : DialogDesk) → HasWholeDialogs d → (window : ℕ) → IsEditedThere window d }
+    ensures { (call : Asked) (result : Result Told Refused) (before after : DialogDesk) → HasWholeDialogs before
+        → IsDialogStep call result before after → HasWholeDialogs after }
 {}
 
 /// A call about dialogs leaves the edited item of each window shown: only a call about text records hides it and leaves it edited.

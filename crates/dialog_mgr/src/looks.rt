@@ -11,7 +11,7 @@ ghost use Rattle.dialog_mgr.specs.Looks.{look_at, look_by_control, look_by_text,
 ghost use Rattle.dialog_mgr.specs.WholeDialogs.{dialogs_state};
 
 use crate::Dialogs;
-use control_mgr::{Control, Controls, ControlsOnStock};
+use control_mgr::{ControlStand, Controls, ControlsOnStock};
 use def_iface::{Size, TakenControl};
 use desk_call::{ControlOf, TextOf};
 use dialog_items::{Item, ItemKind, ItemLook, LayerSort};
@@ -90,18 +90,18 @@ fn look_of_none(item: &Item) -> ItemLook
     ItemLook::new(item, false, BLANK.rect, false)
 }
 
-/// How an item stands whose control is this, if that is there.
-fn look_by_control(item: &Item, control: Option<&Control<TakenControl>>) -> ItemLook
-    requires place { IfSome control.entry (λ c. in_plane c.now.place ≡ true) }
-    requires size { IfSome control.entry (λ c. is_control_size c.now.size ≡ true) }
-    ensures { result ≡ look_by_control item.now (option_map (λ c. c.now) control.entry) }
+/// How an item stands whose control stands so, if that is there.
+fn look_by_control(item: &Item, control: Option<ControlStand>) -> ItemLook
+    requires placed { IfSome control (λ c. in_plane c.place ≡ true) }
+    requires sized { IfSome control (λ c. is_control_size c.size ≡ true) }
+    ensures { result ≡ look_by_control item.now control }
 {
     match control {
         Some(control) => ItemLook::new(
             item,
             control.shown,
             rect_at(item.kind, control.place, control.size),
-            control.highlight.is_inactive(),
+            control.inactive,
         ),
         None => look_of_none(item),
     }
@@ -131,7 +131,7 @@ pub(crate) fn look_in(
     match (item.layer, item.kind.layer_sort()) {
         (None, _) => item.own_look(),
         (Some(control), Some(LayerSort::Control)) => {
-            look_by_control(item, controls.control(ControlOf { window, control }))
+            look_by_control(item, controls.stand(ControlOf { window, control }))
         }
         (Some(text), Some(LayerSort::Text)) => {
             look_by_text(item, texts.record(TextOf { window, text }))

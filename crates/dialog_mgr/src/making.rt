@@ -37,7 +37,6 @@ impl Dialogs {
         requires kept { ⟦<WindowManager as DeskWindows>⟧.IsKept windows.old }
         requires controls { ⟦<Controls<TakenControl> as DeskControls>⟧.IsWhole windows.old controls.old stock.old }
         requires texts { ⟦<Texts as DeskTexts>⟧.AreBeside windows.old texts.old }
-        requires dialogs { ⟦<Self as DeskDialogs>⟧.AreBeside windows.old controls.old texts.old self.old }
         requires idle { activity.old ≡ Idle }
         ensures step { (begun : PixelSet) → ⟦<Self as DeskDialogs>⟧.LeavesStock stock.old stock.new
             (IsWhereRight (IsDialogStep (asks.New new.now) result))
@@ -71,7 +70,6 @@ impl Dialogs {
         requires kept { ⟦<WindowManager as DeskWindows>⟧.IsKept windows.old }
         requires controls { ⟦<Controls<TakenControl> as DeskControls>⟧.IsWhole windows.old controls.old stock.old }
         requires texts { ⟦<Texts as DeskTexts>⟧.AreBeside windows.old texts.now }
-        requires dialogs { ⟦<Self as DeskDialogs>⟧.AreBeside windows.old controls.old texts.now self.old }
         requires idle { activity.old ≡ Idle }
         requires sort { sort_of new.now.kind ≡ Some LayerSort.Control }
         requires form { first_refusal (item_form_refusals new.now (⟦<ControlStock as Stocked>⟧.slots stock.old)) ≡ None }
@@ -105,7 +103,6 @@ impl Dialogs {
         requires kept { ⟦<WindowManager as DeskWindows>⟧.IsKept windows.old }
         requires controls { ⟦<Controls<TakenControl> as DeskControls>⟧.AreBeside windows.old controls.now }
         requires texts { ⟦<Texts as DeskTexts>⟧.AreBeside windows.old texts.old }
-        requires dialogs { ⟦<Self as DeskDialogs>⟧.AreBeside windows.old controls.now texts.old self.old }
         requires sort { sort_of new.now.kind ≡ Some LayerSort.Text }
         ensures { (o : Opened) → ⟦<Self as DeskDialogs>⟧.Leaves
             (IsMadeOrRefused new.now result)
@@ -131,7 +128,6 @@ impl Dialogs {
         new: &NewItem<'_>,
     ) -> Result<usize, Refusal>
         requires kept { ⟦<WindowManager as DeskWindows>⟧.IsKept windows.now }
-        requires dialogs { ⟦<Self as DeskDialogs>⟧.AreBeside windows.now controls.now texts.now self.old }
         requires sort { sort_of new.now.kind ≡ None }
         ensures { (o : Opened) → ⟦<Self as DeskDialogs>⟧.Leaves
             (IsMadeOrRefused new.now result)

@@ -9,8 +9,10 @@ ghost use Rattle.control_mgr.specs.WholeControls.{IsTrackable};
 ghost use Rattle.text_mgr.specs.WholeTexts.{IsSelectable};
 ghost use Rattle.control_mgr.specs.ControlDesks.{index_of};
 ghost use Rattle.control_mgr.specs.Damages as damages;
-ghost use Rattle.dialog_mgr.specs.Choosing.{IsEditItem, IsPressed};
-ghost use Rattle.dialog_mgr.specs.DialogSteps.{IsDialogStep, IsEditClicked, IsWhereRight, clicked, if_enabled};
+ghost use Rattle.text_mgr.specs.TextDesks as texts;
+ghost use Rattle.dialog_mgr.specs.Choosing.{IsPressed};
+ghost use Rattle.dialog_mgr.specs.DialogSteps.{IsDialogStep, IsTextOpened, IsWhereRight, clicked, if_enabled, item_in};
+ghost use Rattle.dialog_mgr.specs.Rooms.{MayBeEdited};
 
 use crate::asking::window_there;
 use crate::item_layers::{control_in, text_in};
@@ -20,7 +22,7 @@ use def_iface::{ControlStock, TakenControl};
 use desk_call::{
     Activity, ControlCall, ControlOf, ControlReply, PointAtControl, SelectedText, TextOf,
 };
-use dialog_call::{ClickDialog, DialogClick, DialogReply, ItemOf};
+use dialog_call::{ClickDialog, DialogClick, DialogReply};
 use dialog_items::{Item, ItemKind, item_at};
 use tb_geom::{Point, Refusal};
 use text_edits::ClickMode;
@@ -55,7 +57,6 @@ impl Dialogs {
         requires kept { ⟦<WindowManager as DeskWindows>⟧.IsKept windows.old }
         requires controls { ⟦<Controls<TakenControl> as DeskControls>⟧.IsWhole windows.old controls.old stock.old }
         requires texts { ⟦<Texts as DeskTexts>⟧.AreBeside windows.old texts.old }
-        requires dialogs { ⟦<Self as DeskDialogs>⟧.AreBeside windows.old controls.old texts.old self.old }
         requires idle { activity.old ≡ Idle }
         ensures step { (begun : PixelSet) → ⟦<Self as DeskDialogs>⟧.LeavesStock stock.old stock.new
             (IsWhereRight (IsDialogStep (asks.Click pressed) result))
@@ -82,26 +83,17 @@ impl Dialogs {
             ItemKind::Static | ItemKind::Icon | ItemKind::User => {
                 Ok(clicked(if_enabled(&item, number), false))
             }
-            ItemKind::Edit => {
-                if let Some(text) = text_in(window, &item) {
-                    let of = ItemOf {
-                        window,
-                        item: number,
-                    };
+            ItemKind::Edit => match text_in(texts, window, &item) {
+                Some(text) => {
+                    let point = pressed.point;
                     self.open(
-                        windows,
-                        activity,
-                        controls,
-                        texts,
-                        of,
-                        text,
-                        pressed.point,
-                        mode,
+                        windows, activity, controls, texts, number, text, point, mode,
                     );
+                    Ok(clicked(if_enabled(&item, number), true))
                 }
-                Ok(clicked(if_enabled(&item, number), true))
-            }
-            _ => match control_in(window, &item) {
+                None => Ok(clicked(0, false)),
+            },
+            _ => match control_in(controls, window, &item) {
                 Some(control) if item.enabled => {
                     let begun = track(windows, activity, controls, control, pressed.point, stock);
                     Ok(clicked(if begun { number } else { 0 }, begun))
@@ -118,7 +110,7 @@ impl Dialogs {
         activity: &mut Activity,
         controls: &Controls<TakenControl>,
         texts: &mut Texts,
-        of: ItemOf,
+        item: usize,
         text: TextOf,
         point: Point,
         mode: ClickMode,
@@ -126,16 +118,18 @@ impl Dialogs {
         requires kept { ⟦<WindowManager as DeskWindows>⟧.IsKept windows.old }
         requires controls { ⟦<Controls<TakenControl> as DeskControls>⟧.AreBeside windows.old controls.now }
         requires texts { ⟦<Texts as DeskTexts>⟧.AreBeside windows.old texts.old }
-        requires dialogs { ⟦<Self as DeskDialogs>⟧.AreBeside windows.old controls.now texts.old self.old }
-        requires item { IsEditItem of text self.old texts.old }
+        requires there { is_none (texts.index_of text texts.old.list.items.items) ≡ false }
+        requires edit { MayBeEdited text.window item self.old }
+        requires idle { activity.old ≡ Idle }
         ensures step { (begun : PixelSet) → ⟦<Self as DeskDialogs>⟧.Leaves
-            (IsWhereRight (IsEditClicked (Some text) of mode point))
+            (IsWhereRight (IsTextOpened text (item_in text.window item) mode point))
             windows.old (opened activity.old begun) controls.now texts.old self.old
             windows.new (opened activity.new begun) controls.now texts.new self.new }
         ensures selectable { IsSelectable activity.new texts.new.list.items.items }
     {
-        let anchor = texts.click_next(windows, self.left_text(of), text, point, mode);
-        self.edit_next(of.window, of.item);
+        let left = self.left_text(texts, text);
+        let anchor = texts.click_next(windows, left, text, point, mode);
+        self.edit_next(text.window, item);
         *activity = Activity::Selecting(SelectedText { text, mode, anchor });
     }
 }

@@ -34,7 +34,6 @@ impl Dialogs {
         requires kept { ⟦<WindowManager as DeskWindows>⟧.IsKept windows.old }
         requires controls { ⟦<Controls<TakenControl> as DeskControls>⟧.IsWhole windows.old controls.old stock.old }
         requires texts { ⟦<Texts as DeskTexts>⟧.AreBeside windows.old texts.old }
-        requires dialogs { ⟦<Self as DeskDialogs>⟧.AreBeside windows.old controls.old texts.old self.old }
         requires trackable { IsTrackable activity.old
             (⟦<Controls<TakenControl> as ControlsOnStock>⟧.records controls.old) }
         requires selectable { IsSelectable activity.old texts.old.list.items.items }

@@ -60,7 +60,6 @@ impl Dialogs {
         requires kept { ⟦<WindowManager as DeskWindows>⟧.IsKept windows.old }
         requires controls { ⟦<Controls<TakenControl> as DeskControls>⟧.AreBeside windows.old controls.now }
         requires texts { ⟦<Texts as DeskTexts>⟧.AreBeside windows.old texts.old }
-        requires dialogs { ⟦<Self as DeskDialogs>⟧.AreBeside windows.old controls.now texts.old self.old }
         ensures { (o : Opened) → ⟦<Self as DeskDialogs>⟧.Leaves
             (IsWhereRight (IsDialogStep (asks.SetText put.now) result))
             windows.old o controls.now texts.old self.old windows.new o controls.now texts.new self.new }
@@ -74,7 +73,7 @@ impl Dialogs {
             return Err(Refusal::TooLong);
         }
         let filled = self.params.text_by(self.alloc, item.kind, bytes)?;
-        if let Some(text) = text_in(put.item.window, &item) {
+        if let Some(text) = text_in(texts, put.item.window, &item) {
             texts.put_text(windows, text, filled.as_slice())?;
         }
         Ok(DialogReply::Done)

@@ -39,7 +39,6 @@ impl Dialogs {
         requires kept { ⟦<WindowManager as DeskWindows>⟧.IsKept windows.old }
         requires controls { ⟦<Controls<TakenControl> as DeskControls>⟧.IsWhole windows.old controls.old stock.old }
         requires texts { ⟦<Texts as DeskTexts>⟧.AreBeside windows.old texts.old }
-        requires dialogs { ⟦<Self as DeskDialogs>⟧.AreBeside windows.old controls.old texts.old self.old }
         requires idle { activity.old ≡ Idle }
         ensures step { (begun : PixelSet) → ⟦<Self as DeskDialogs>⟧.LeavesStock stock.old stock.new
             (IsWhereRight (IsDialogStep (shown_call shown of) result))
@@ -50,7 +49,7 @@ impl Dialogs {
         let item = self.named(windows, of)?;
         match item.kind.layer_sort() {
             Some(LayerSort::Control) => {
-                if let Some(control) = control_in(of.window, &item) {
+                if let Some(control) = control_in(controls, of.window, &item) {
                     let call = if shown {
                         ControlCall::Show(control)
                     } else {
@@ -63,7 +62,7 @@ impl Dialogs {
                 if !shown && self.edited(of.window) == of.item {
                     return self.hide_edited(windows, controls, texts, of);
                 }
-                if let Some(text) = text_in(of.window, &item) {
+                if let Some(text) = text_in(texts, of.window, &item) {
                     let call = if shown {
                         TextCall::Show(text)
                     } else {
@@ -88,7 +87,6 @@ impl Dialogs {
         requires kept { ⟦<WindowManager as DeskWindows>⟧.IsKept windows.old }
         requires controls { ⟦<Controls<TakenControl> as DeskControls>⟧.AreBeside windows.old controls.now }
         requires texts { ⟦<Texts as DeskTexts>⟧.AreBeside windows.old texts.old }
-        requires dialogs { ⟦<Self as DeskDialogs>⟧.AreBeside windows.old controls.now texts.old self.old }
         requires named { first_refusal (missing_refusals of (⟦<WindowManager as DeskWindows>⟧.desk windows.old [])
             (dialogs_state self.old)) ≡ None }
         requires edited { (dialog_of of.window (dialogs_state self.old).dialogs).edited ≡ of.item }
@@ -96,7 +94,7 @@ impl Dialogs {
             (IsWhereRight (IsDialogStep (asks.Hide of) result))
             windows.old o controls.now texts.old self.old windows.new o controls.now texts.new self.new }
     {
-        if let Some(text) = self.edited_text(of.window) {
+        if let Some(text) = self.edited_text(texts, of.window) {
             texts.put_away(windows, text)?;
         }
         self.edit_next(of.window, 0);

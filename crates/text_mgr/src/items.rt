@@ -1,5 +1,5 @@
 //! Text records that show the items of dialogs: made with their texts, and edited in turn.
-ghost use Rattle.std.specs.Prelude.{◌≡◌, ◌≤◌, false, true, Some, is_none, length, IfSome};
+ghost use Rattle.std.specs.Prelude.{◌≡◌, ◌≤◌, false, true, Some, is_none, is_some, length, IfSome};
 ghost use Rattle.std.specs.Option.{option_map, option_map_or};
 ghost use Rattle.window_items.specs.Items.{count_of};
 ghost use Rattle.desk_call.specs.declared.text.TextOf.{TextOf as Named};
@@ -43,6 +43,13 @@ impl Texts {
             Some(at) => Some(&self.list.items[at].kept),
             None => None,
         }
+    }
+
+    /// Whether the text record is there.
+    pub fn has(&self, text: TextOf) -> bool
+        ensures { result ≡ is_some (index_of text self.now.list.items.items) }
+    {
+        self.list.find(text.window, text.text).is_some()
     }
 
     /// How many text records the window has.
