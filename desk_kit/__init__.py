@@ -45,6 +45,8 @@ To drive a desk with a mouse and keys, for desk-view and desk-web:
   event_loop      the loop of events of a Macintosh program over it
   mouse_tracking  what follows the mouse as long as its button is down
   list_tracking   how a list does
+  text_tracking   how a text record does
+  text_editing    which text record gets the keys and the items of menus, its caret and its scroll bar
   known           what a script has made on its desk, as far as the loop has to know it
   recording       the script that is made of what the loop does
   replay          a script that is shown line by line

@@ -1,6 +1,7 @@
 """The loop of events of a Macintosh program, over a desk that is driven: the mouse and the keys become events, the loop asks
 for the next one, and does what that calls for. A program of its own has to decide what a control means; here a check box
-changes its value, a radio button takes the place of those beside it, and a scroll bar scrolls.
+changes its value, a radio button takes the place of those beside it, and a scroll bar scrolls; and keys are typed into a text
+record.
 
 Nothing of a display is needed: whoever has a mouse tells of it, and asks for the image.
 """
@@ -8,7 +9,7 @@ Nothing of a display is needed: whoever has a mouse tells of it, and asks for th
 import time
 from typing import NamedTuple
 
-from desk_kit.known import Known, numbers_of
+from desk_kit.known import Known, Text, numbers_of
 from desk_kit.list_tracking import ListTracking
 from desk_kit.mouse_tracking import (
     BoxTracking,
@@ -21,14 +22,16 @@ from desk_kit.mouse_tracking import (
     named,
 )
 from desk_kit.shown_desk import QUESTIONS, ShownDesk, command_of, lines_of
+from desk_kit.text_editing import TextEditing
 
 # The kinds of events, and what a mask of all of them is.
-MOUSE_DOWN, MOUSE_UP, KEY_DOWN, KEY_UP, UPDATE = 1, 2, 3, 4, 6
+MOUSE_DOWN, MOUSE_UP, KEY_DOWN, KEY_UP, UPDATE, ACTIVATE = 1, 2, 3, 4, 6, 8
 EVERY_EVENT = 65535
 MOUSE_UP_MASK = 1 << MOUSE_UP
 NO_EVENT = "ok 0 0 0 0 0 0"
 
-# The modifiers of an event.
+# The modifiers of an event; the first one is that of a window that became active.
+ACTIVE = 1
 BUTTON_UP, COMMAND, SHIFT, CAPS_LOCK, OPTION = 128, 256, 512, 1024, 2048
 
 # The parts that a point of the screen may lie in.
@@ -62,9 +65,10 @@ class EventLoop(ShownDesk):
 
     def __init__(self, desk, clock=time.monotonic, recording=None):
         super().__init__(desk, clock)
-        self.known, self.recording = Known(), recording
+        self.known, self.recording, self.for_now = Known(), recording, b""
         self.tracked, self.point, self.button_is_up = None, None, True
         self.began = self.goes_on_at = clock()
+        self.texts = TextEditing(self)
 
     def run_script(self, script):
         """Runs the lines of a script, and then serves the events that they gave rise to, but for those that they posted.
@@ -84,9 +88,12 @@ class EventLoop(ShownDesk):
         self.serve()
 
     def record(self, line):
-        """Keeps a line, where something is recorded."""
+        """Keeps a line, where something is recorded, behind the last one that held for the time before it."""
         if self.recording:
+            if self.for_now:
+                self.recording.keep(self.for_now)
             self.recording.keep(line)
+        self.for_now = b""
 
     def record_image(self):
         """The script that is recorded makes an image of the screen as it is now."""
@@ -120,11 +127,17 @@ class EventLoop(ShownDesk):
         self.happened(KEY_UP, code, h, v, modifiers)
 
     def time_passed(self):
-        """What the button holds goes on, where that is due."""
+        """What the button holds goes on, where that is due, and else a caret blinks."""
         now = self.clock()
         if self.tracked and now >= self.goes_on_at:
             self.goes_on_at = now + HELD_EVERY
             self.guarded(self.tracked.held)
+        elif not self.tracked and not self.known.open:
+            self.guarded(self.texts.blink)
+
+    def blinks(self):
+        """Where a text record is active its caret may blink."""
+        return bool(self.texts.active())
 
     def happened(self, kind, message, h, v, modifiers):
         """Posts an event, and serves what there is to be served."""
@@ -190,12 +203,23 @@ class EventLoop(ShownDesk):
             self.record(text)
         return answer
 
+    def tell_for_now(self, line):
+        """Tells a line that has to be done, as long as no other one of its sort is told. Of several that follow each other the
+        last one is recorded, before the next line of another sort."""
+        answer = self.answer_to(line.encode("latin-1")).decode("latin-1")
+        if answer.startswith("refused"):
+            raise Refused(f"{line} is {answer}")
+        self.for_now = line.encode("latin-1")
+
     def numbers(self, line):
         """The numbers that a line is answered by, which has to be done."""
         return numbers_of(self.tell(line).encode("latin-1"))
 
     def update_due(self, event):
         self.tell(f"update {event.message}")
+
+    def window_turned(self, event):
+        self.texts.window_turned(event.message, event.modifiers & ACTIVE)
 
     def mouse_went_down(self, event):
         """The button went down: what that means depends on whose the point is."""
@@ -235,41 +259,53 @@ class EventLoop(ShownDesk):
         left, top = self.numbers(f"info {window}")[:2]
         h, v = clamped(event.h - left), clamped(event.v - top)
         part, number = self.numbers(f"findc {window} {h} {v}")
-        its = self.list_at(window, h, v)
+        its = self.layer_at(window, h, v)
         if part:
             self.follow(ControlTracking(self, self.known.controls[number], left, top), event)
+        elif isinstance(its, Text):
+            self.follow(self.texts.clicked(its, left, top, event), event)
         elif its:
             self.follow(ListTracking(self, its, left, top), event)
         else:
             self.status = f"{self.window_name(window)}, at {h} {v} in it"
 
-    def list_at(self, window, h, v):
-        """The list that a point of a window's content belongs to, or none: controls lie in front of it, also where they are
-        inactive."""
+    def layer_at(self, window, h, v):
+        """The list or text record that a point of a window's content belongs to, or none: controls lie in front of it, also
+        where they are inactive."""
         for control in self.known.controls_of(window):
             if control.covers(h, v) and self.numbers(f"cget {window} {control.number}")[4]:
                 return None
-        found = [its for its in self.known.lists_of(window) if its.covers(h, v)]
-        return found[0] if found else None
+        return next((its for its in self.known.layers_of(window) if its.covers(h, v) and self.is_shown(its)), None)
+
+    def is_shown(self, its):
+        """Whether a list or a text record is shown, as each list is."""
+        return not isinstance(its, Text) or self.numbers(f"tinfo {its.window} {its.number}")[3] == 1
 
     def key_went_down(self, event):
-        """A key with the Command key may stand for an item of a menu."""
+        """A key with the Command key may stand for an item of a menu. Another one may be typed into a text record."""
         character = chr(event.message & 255)
         name = f"Key {character if ' ' < character <= '~' else event.message & 255}"
         if not event.modifiers & COMMAND:
-            self.status = name
+            self.status = f"{name}{self.into(self.texts.typed(event.message & 255))}"
             return
         self.status = f"{name} with Command: no item"
         if " " <= character <= "~" and character != '"':
             self.item_chosen(*self.numbers(f'mkey "{character}"'))
 
     def item_chosen(self, menu, item):
-        """An item of a menu was chosen, or none, which is 0 0. Nothing is done for it here but to say so, and no title is
-        highlighted after that."""
+        """An item of a menu was chosen, or none, which is 0 0. What an item is for a text record does is done; of another one it
+        is only said. No title is highlighted after that."""
         if menu:
-            title, items = self.known.menus[menu].title, self.known.menus[menu].items
-            self.status = f'"{items[item - 1]}" was chosen from "{title}": menu {menu}, item {item}'
-            self.tell("mhilite 0")
+            title, name = self.known.menus[menu].title, self.known.menus[menu].items[item - 1]
+            self.status = f'"{name}" was chosen from "{title}": menu {menu}, item {item}'
+            try:
+                self.status += self.into(self.texts.item_chosen(name))
+            finally:
+                self.tell("mhilite 0")
+
+    def into(self, text):
+        """Says which text record something went to, if there is one."""
+        return f", for text record {text.number}" if text else ""
 
     def window_name(self, window):
         return named("Window", window, self.known.windows[window])
@@ -279,6 +315,7 @@ SERVES = {
     MOUSE_DOWN: EventLoop.mouse_went_down,
     KEY_DOWN: EventLoop.key_went_down,
     UPDATE: EventLoop.update_due,
+    ACTIVATE: EventLoop.window_turned,
 }
 WENT_DOWN = {
     MENU_BAR: EventLoop.in_menu_bar,

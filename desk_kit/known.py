@@ -9,6 +9,9 @@ WORD = re.compile(r'"[^"]*"|[^ ]+')
 # A point at which no button, menu, box or desktop is, so that what is tracked ends there with nothing chosen.
 NOWHERE = "-16384 -16384"
 
+# How many columns may lie between the view of a text record and its scroll bar.
+FARTHEST_BAR = 8
+
 # The characters of a menu's items that take the character after them, and the one that stands alone.
 SIGNS = "!/^<"
 DISABLES = "("
@@ -33,24 +36,30 @@ class Control:
 
 
 @dataclass
-class List:
-    """A list, with its view in its window's content, the size of its cells, and the numbers of its scroll bars, 0 for
-    none."""
+class Layer:
+    """A list or a text record, with its view in its window's content. Of two the one with the lesser age was made first."""
 
+    age: int
     number: int
     window: int
     left: int
     top: int
     width: int
     height: int
-    cell_width: int
-    cell_height: int
-    vertical: int
-    horizontal: int
 
     def covers(self, h, v):
         """Whether its view has a point of the content."""
         return self.left <= h < self.left + self.width and self.top <= v < self.top + self.height
+
+
+@dataclass
+class List(Layer):
+    """A list, with the size of its cells, and the numbers of its scroll bars, 0 for none."""
+
+    cell_width: int
+    cell_height: int
+    vertical: int
+    horizontal: int
 
     def nearest(self, h, v):
         """The point of its view that is nearest to a point of the content."""
@@ -65,6 +74,20 @@ class List:
         """How many rows, or columns, its view shows whole, and at least one."""
         count = self.height // self.cell_height if vertical else self.width // self.cell_width
         return max(1, count)
+
+
+@dataclass
+class Text(Layer):
+    """A text record, whether it is active, and when it became so last: the number is greater for the one that did later."""
+
+    is_active: bool = False
+    used: int = 0
+
+    def has_beside(self, control):
+        """Whether a control stands at the right side of its view, as its scroll bar does: higher than wide, not farther than
+        this from the view, and not wholly above or below it."""
+        is_near = 0 <= control.left - self.left - self.width <= FARTHEST_BAR and control.width < control.height
+        return is_near and control.top < self.top + self.height and self.top < control.top + control.height
 
 
 @dataclass
@@ -101,8 +124,9 @@ def text_of(item):
 
 
 class Known:
-    """The windows, controls, lists and menus that are there, by their numbers, and the line that ends what is open: an
-    update, the tracking of a box or a control, a menu that is pulled down, or a window that is dragged or grown."""
+    """The windows, controls, lists, text records and menus that are there, by their numbers, and the line that ends what is
+    open: an update, the tracking of a box or a control, a menu that is pulled down, a window that is dragged or grown, or the
+    selecting of text, which ends where the mouse was last."""
 
     def __init__(self):
         self.windows = {}
@@ -110,8 +134,10 @@ class Known:
         self.floating = set()
         self.controls = {}
         self.lists = {}
+        self.texts = {}
         self.menus = {}
-        self.last_control = 0
+        # How many controls, how many lists and text records, and how often one became active, were learned of.
+        self.last_control = self.layers = self.uses = 0
         self.open = ""
 
     def learn(self, line, answer):
@@ -124,14 +150,29 @@ class Known:
         """The controls of a window, the oldest first."""
         return [control for _, control in sorted(self.controls.items()) if control.window == window]
 
-    def lists_of(self, window):
-        """The lists of a window, the oldest first."""
-        return [its for _, its in sorted(self.lists.items()) if its.window == window]
+    def layers_of(self, window):
+        """The lists and text records of a window, the oldest first."""
+        layers = [its for its in (*self.lists.values(), *self.texts.values()) if its.window == window]
+        return sorted(layers, key=lambda its: its.age)
+
+    def texts_of(self, window):
+        """The text records of a window, the oldest first."""
+        return [its for its in self.layers_of(window) if isinstance(its, Text)]
 
     def list_with(self, control):
         """The list whose scroll bar a control is, or none."""
         found = [its for its in self.lists.values() if control in (its.vertical, its.horizontal)]
         return found[0] if found else None
+
+    def bar_of(self, text):
+        """The scroll bar at the right side of a text record, or none."""
+        bars = [it for it in self.controls_of(text.window) if it.kind == "scroll" and not self.list_with(it.number)]
+        return next(filter(text.has_beside, bars), None)
+
+    def text_with(self, control):
+        """The text record whose scroll bar a control is, or none."""
+        texts = self.texts_of(self.controls[control].window)
+        return next((its for its in texts if (bar := self.bar_of(its)) and bar.number == control), None)
 
     def radio_group(self, number):
         """The numbers of a radio button and of those of its window that stand with it: they were made one after the other,
@@ -160,6 +201,11 @@ class Known:
         self.floating.discard(window)
         self.controls = {key: control for key, control in self.controls.items() if control.window != window}
         self.lists = {key: its for key, its in self.lists.items() if its.window != window}
+        self.texts = {key: its for key, its in self.texts.items() if its.window != window}
+
+    def next_age(self):
+        self.layers += 1
+        return self.layers
 
     def add_control(self, window, kind, place, title):
         """A control is made; its number is the next one, which is the answer."""
@@ -192,12 +238,29 @@ class Known:
             vertical = self.add_control(window, "scroll", (left + width, top, 16, height), "")
         if words[12] == "1":
             horizontal = self.add_control(window, "scroll", (left, top + height, width, 16), "")
-        self.lists[numbers[0]] = List(numbers[0], window, *sizes, vertical, horizontal)
+        self.lists[numbers[0]] = List(self.next_age(), numbers[0], window, *sizes, vertical, horizontal)
 
     def list_disposed(self, words, _):
         its = self.lists.pop(int(words[2]))
         for control in (its.vertical, its.horizontal):
             self.controls.pop(control, None)
+
+    def text_made(self, words, numbers):
+        self.texts[numbers[0]] = Text(self.next_age(), numbers[0], int(words[1]), *map(int, words[5:9]))
+
+    def text_placed(self, words, _):
+        its = self.texts[int(words[2])]
+        its.left, its.top, its.width, its.height = map(int, words[6:10])
+
+    def text_turned(self, words, _):
+        its = self.texts[int(words[2])]
+        its.is_active = words[3] == "1"
+        if its.is_active:
+            self.uses += 1
+            its.used = self.uses
+
+    def text_disposed(self, words, _):
+        self.texts.pop(int(words[2]), None)
 
     def menu_made(self, words, _):
         self.menus[int(words[1])] = Menu(words[2][1:-1], [])
@@ -216,6 +279,11 @@ class Known:
         if numbers[:1] != [0]:
             self.open = f"end {words[1]}" if words[0] == "begin" else f"{ENDS[words[0]]} {NOWHERE}"
 
+    def selecting(self, words, numbers):
+        """Text is selected from now on, or is selected on, and the mouse is at this point."""
+        if words[0] == "tstep" or numbers == [1]:
+            self.open = "tend {} {}".format(*(words[1:3] if words[0] == "tstep" else words[3:5]))
+
     def ended(self, *_):
         self.open = ""
 
@@ -233,10 +301,15 @@ LEARNED = {
     "cdispose": Known.control_disposed,
     "list": Known.list_made,
     "ldispose": Known.list_disposed,
+    "text": Known.text_made,
+    "tplace": Known.text_placed,
+    "tactive": Known.text_turned,
+    "tdispose": Known.text_disposed,
     "menu": Known.menu_made,
     "mappend": Known.menu_grown,
     "mitem": Known.item_named,
     "mdispose": Known.menu_disposed,
     **dict.fromkeys(("begin", *ENDS), Known.begun),
-    **dict.fromkeys(("end", *ENDS.values()), Known.ended),
+    **dict.fromkeys(("tclick", "tstep"), Known.selecting),
+    **dict.fromkeys(("end", "tend", *ENDS.values()), Known.ended),
 }

@@ -247,25 +247,36 @@ class ControlTracking(Tracking):
         self.tell_value()
 
     def scrolled(self, part):
-        """A scroll bar of a list scrolls the list, which sets it. Any other one gets another value."""
-        its = self.loop.known.list_with(self.control.number)
-        if its:
-            by = self.value() - self.before if part == THUMB else self.step(part, its)
-            across, down = (0, by) if self.control.number == its.vertical else (by, 0)
-            self.loop.tell(f"lscroll {its.window} {its.number} {across} {down}")
-        elif part != THUMB:
-            value = self.before + self.step(part, None)
-            self.loop.tell(f"cvalue {self.call} {max(-32768, min(32767, value))}")
+        """A part of a scroll bar that was used. The thumb has set the value by itself."""
+        its, text = self.loop.known.list_with(self.control.number), self.loop.known.text_with(self.control.number)
+        if part != THUMB:
+            self.go_to(self.before + self.step(part, its, text), its, text)
+        elif its or text:
+            self.go_to(self.value(), its, text)
         self.tell_value()
 
-    def step(self, part, its):
-        """By how much a part of a scroll bar goes. A page of a list is what is seen whole, less one; of any other scroll bar
-        it is a part of its range. It is 1 at least."""
+    def go_to(self, value, its, text):
+        """A scroll bar of a list scrolls the list, which sets it, and one beside a text record scrolls that. Any other one gets
+        another value."""
+        if its:
+            by = value - self.before
+            across, down = (0, by) if self.control.number == its.vertical else (by, 0)
+            self.loop.tell(f"lscroll {its.window} {its.number} {across} {down}")
+        elif text:
+            self.loop.texts.scroll_to(text, value)
+        else:
+            self.loop.tell(f"cvalue {self.call} {max(-32768, min(32767, value))}")
+
+    def step(self, part, its, text):
+        """By how much a part of a scroll bar goes. A page of a list, and of a text record, is what is seen whole, less one; of
+        any other scroll bar it is a part of its range. It is 1 at least."""
         way, by_page = SCROLL_PARTS[part]
         if not by_page:
             return way
         if its:
             return way * max(1, its.whole(self.control.number == its.vertical) - 1)
+        if text:
+            return way * max(1, self.loop.texts.whole(text) - 1)
         _, least, most, _, _ = self.loop.numbers(f"cget {self.call}")
         return way * max(1, (most - least) // PAGES)
 

@@ -66,5 +66,9 @@ class ShownDesk:
     def time_passed(self):
         """Some time went by, a part of a second."""
 
+    def blinks(self):
+        """Whether the screen changes as time goes by, with no button down."""
+        return False
+
     def record_image(self):
         """An image is wanted where something is recorded."""

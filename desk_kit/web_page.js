@@ -2,8 +2,9 @@
 "use strict";
 
 const COMMAND = 256, SHIFT = 512, CAPS_LOCK = 1024, OPTION = 2048;
-// The milliseconds between two times at which is told that time has passed, while the button is down.
-const PERIOD = 50;
+// The milliseconds between two times at which is told that time has passed, while the button is down; and of how many of these
+// times one is told while something blinks.
+const PERIOD = 50, BEATS = 3;
 // A pixel is a square of this many pixels of the display at most, and the line below has this much room.
 const LARGEST = 4, LINE = 40;
 // The keys that stay those of the browser.
@@ -12,7 +13,7 @@ const BROWSERS_OWN = /^F([1-46-9]|1[0-2])$/;
 const canvas = document.getElementById("screen"), pen = canvas.getContext("2d");
 const said = document.getElementById("status"), place = document.getElementById("place");
 const queue = [];
-let seen = 0, isWaiting = false, isDown = false, mouse = [0, 0];
+let seen = 0, isWaiting = false, isDown = false, blinks = false, beats = 0, mouse = [0, 0];
 // What is shown of the desk; and how many of its pixels the side of a square has that is one pixel of the canvas.
 let desk = { width: 1, height: 1, stride: 1, bytes: [0] }, side = 1;
 
@@ -61,6 +62,7 @@ function show(answer) {
     draw(answer.width, answer.height, answer.screen);
   }
   seen = answer.version;
+  blinks = answer.blinks === true;
   said.textContent = answer.status;
 }
 
@@ -159,7 +161,8 @@ document.addEventListener("keydown", event => key("keydown", event));
 document.addEventListener("keyup", event => key("keyup", event));
 window.addEventListener("resize", fit);
 window.setInterval(() => {
-  if (isDown && !isWaiting) {
+  beats = (beats + 1) % BEATS;
+  if ((isDown || blinks && beats === 0) && !isWaiting) {
     tell("time");
   }
 }, PERIOD);

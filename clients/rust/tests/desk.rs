@@ -59,6 +59,29 @@ fn refusals_have_a_number_and_a_name() {
     assert_eq!(desk.ask("frontwin").unwrap(), "ok 0");
 }
 
+/// Bytes that a text has no sign for are hex digits, in a line and in an answer.
+#[test]
+fn texts_are_edited() {
+    let mut desk = Desk::open(program(), None).unwrap();
+    for (line, due) in [
+        ("version 3", "ok"),
+        ("desk 64 32 0", "ok"),
+        ("window plain 1 1 60 28 1 0 \"\"", "ok 1"),
+        ("text 1 2 2 50 2 2 50 20 0 1", "ok 1"),
+        ("tset 1 1 610D62", "ok"),
+        ("tkey 1 1 99", "ok"),
+        ("tget 1 1", "ok 610D6263"),
+        ("tinfo 1 1", "ok 4 4 0 1 4 2 2 2"),
+        ("tclick 1 1 4 15 2", "ok 1"),
+        ("tend 4 15", "ok 2 4"),
+        ("tcut 1 1", "ok"),
+        ("scrap", "ok \"bc\""),
+    ] {
+        assert_eq!(desk.ask(line).unwrap(), due, "{line}");
+    }
+    assert_eq!(refusal(desk.ask("tget 1 2").unwrap_err()), (21, "NoSuchText".to_string()));
+}
+
 #[test]
 fn what_has_no_answer_is_not_given() {
     let mut desk = desk_of(9, 9);

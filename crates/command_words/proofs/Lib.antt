@@ -1,4 +1,3 @@
-mod FormLemmas
 mod NameLemmas
 pub mod NamedLemmas
 mod VerbLemmas

@@ -8,8 +8,8 @@ use Rattle.line_words.specs.Shapes.{Shape, says, never, number, name, hex}
 use Rattle.line_words.specs.Tables.{named}
 use Rattle.command_words.specs.declared.asked.AskedWord.{AskedWord}
 use Rattle.command_words.specs.declared.asked.AskedWord.TheVariants as words
-use Rattle.command_words.specs.declared.forms.FormWord.TheVariants as forms
-use Rattle.command_words.specs.Forms.{drawn_forms, form_shape, pen}
+use Rattle.form_words.specs.declared.forms.FormWord.TheVariants as forms
+use Rattle.form_words.specs.Forms.{drawn_forms, form_shape, pen}
 
 -- HEX
 abbrev pub rgn_shape : Shape RegionRef

@@ -12,10 +12,10 @@ use Rattle.lent_ops.specs.declared.op_ref.ShapeRef.TheVariants.{Erase, Invert, F
 use Rattle.desk_call.specs.declared.window.Drawing.{Drawing}
 use Rattle.line_words.specs.Shapes.{Shape, ends, says, never, number, name, text, hex, serial, point, rect, mapped}
 use Rattle.line_words.specs.Tables.{named}
-use Rattle.command_words.specs.declared.forms.FormWord.{FormWord}
+use Rattle.form_words.specs.declared.forms.FormWord.{FormWord}
 use Rattle.command_words.specs.declared.operation.Operation.{Operation}
 use Rattle.command_words.specs.declared.operation.Operation.TheVariants as words
-use Rattle.command_words.specs.Forms.{drawn_forms, form_shape, pen}
+use Rattle.form_words.specs.Forms.{drawn_forms, form_shape, pen}
 use Rattle.command_words.specs.Names.{shade_of, source_mode_of, text_mode_of}
 
 -- MODE PAT

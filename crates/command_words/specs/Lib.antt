@@ -1,7 +1,6 @@
 pub mod ControlWords
 pub mod Drawings
 pub mod EventWords
-pub mod Forms
 pub mod FrameWords
 pub mod ListWords
 pub mod MenuWords

@@ -3,15 +3,15 @@ ghost use Rattle.std.specs.Prelude.{◌≡◌};
 ghost use Rattle.line_words.specs.Shapes.{reading, says};
 ghost use Rattle.line_words.specs.Tables.{named};
 ghost use Rattle.command_words.specs.Asked.{asked_shape, asked_words, both_shape, form_words, frame_shape, inset_shape, named_shape, offset_shape, rgn_shape, word_shape};
-ghost use Rattle.command_words.specs.Forms.{form_shape};
+ghost use Rattle.form_words.specs.Forms.{form_shape};
 
-use crate::forms::{FormWord, drawn_form_of, pen};
+use form_words::{FormWord, drawn_form_of, pen};
 use lent_ops::{Combination, Distance, RegionRef};
 use line_words::{Words, named};
 use tb_geom::{BytesRef, Refusal};
 
 /// The first word after `region`. It says which words follow.
-#[derive(Clone, Copy, Debug, PartialEq, Eq)]
+#[derive(Clone, Copy)]
 pub enum AskedWord {
     Form(FormWord),
     Rgn,
@@ -88,7 +88,7 @@ impl AskedWord {
 }
 
 /// The numbers of a form, and nothing after them.
-#[tactic(auto, using(crate::proofs::FormLemmas::form_then))]
+#[tactic(auto, using(form_words::proofs::FormLemmas::form_then))]
 fn form_alone<'a>(word: FormWord, words: Words<'a>) -> Result<RegionRef<'a>, Refusal>
     ensures { result ≡ reading (word_shape (AskedWord.Form word)) words.entry }
 {
@@ -127,7 +127,7 @@ fn inset<'a>(words: Words<'a>) -> Result<RegionRef<'a>, Refusal>
 }
 
 /// The bytes of a region, and the pen that frames it.
-#[tactic(auto, using(crate::proofs::FormLemmas::pen_then))]
+#[tactic(auto, using(form_words::proofs::FormLemmas::pen_then))]
 fn frame<'a>(words: Words<'a>) -> Result<RegionRef<'a>, Refusal>
     ensures { result ≡ reading frame_shape words.entry }
 {

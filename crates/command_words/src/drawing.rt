@@ -9,11 +9,11 @@ ghost use Rattle.command_words.specs.Drawings.{shade_shape, shaded_rect_shape, l
 ghost use Rattle.command_words.specs.Drawings.{bits_shape, framed_region_shape, region_shape, shaded_form_shape, operation_shape};
 ghost use Rattle.command_words.specs.Drawings.{operations_of, clipped_shape, clip_shape, drawing_shape};
 
-use crate::forms::{FormWord, pen};
 use crate::names::{shade_of, source_mode_of, text_mode_of};
 use crate::operation::{Operation, operation_of};
 use desk_call::Drawing;
 use draw_port::Shade;
+use form_words::{FormWord, pen};
 use lent_ops::{BitsRef, LineRef, OpRef, ShapeRef, TextRef};
 use line_words::Words;
 use tb_geom::{BytesRef, Rect, Refusal};
@@ -185,7 +185,7 @@ fn region<'a>(words: Words<'a>) -> Result<(BytesRef<'a>, Shade), Refusal>
 }
 
 /// The bytes of a region, a pen, a mode and a pattern.
-#[tactic(auto, using(crate::proofs::FormLemmas::pen_then, line_words::proofs::Mapped::reading_mapped))]
+#[tactic(auto, using(form_words::proofs::FormLemmas::pen_then, line_words::proofs::Mapped::reading_mapped))]
 fn framed_region<'a>(words: Words<'a>) -> Result<ShapeRef<'a>, Refusal>
     ensures { result ≡ reading framed_region_shape words.entry }
 {
@@ -196,7 +196,7 @@ fn framed_region<'a>(words: Words<'a>) -> Result<ShapeRef<'a>, Refusal>
 }
 
 /// The numbers of a form, a mode and a pattern.
-#[tactic(auto, using(crate::proofs::FormLemmas::form_then, line_words::proofs::Mapped::reading_mapped))]
+#[tactic(auto, using(form_words::proofs::FormLemmas::form_then, line_words::proofs::Mapped::reading_mapped))]
 fn shaded_form<'a>(word: FormWord, words: Words<'a>) -> Result<ShapeRef<'a>, Refusal>
     ensures { result ≡ reading (shaded_form_shape word) words.entry }
 {

@@ -5,7 +5,7 @@
 //! desk or the whole script.
 //! `verb_of` finds it in the one table of all (`specs/Verbs.antt`), with the verbs of later versions up to the script's. The
 //! method `call` of each of the nine reads the words that follow. Which these are, and what they ask, `specs/WindowWords.antt`
-//! states and its likes, and for what is drawn `Drawings.antt`, with the `Forms.antt` of version 3. A cell is its column and
+//! states and its likes, and for what is drawn `Drawings.antt`, with the `Forms.antt` of `form_words`. A cell is its column and
 //! then its row.
 //!
 //! `laws` says that verbs are those of the table, and that modes are read by their names.
@@ -18,7 +18,6 @@ mod asked;
 mod controls;
 mod drawing;
 mod events;
-mod forms;
 mod frames;
 pub mod laws;
 mod lists;

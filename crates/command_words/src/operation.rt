@@ -3,11 +3,11 @@ ghost use Rattle.std.specs.Prelude.{◌≡◌, ◌++◌};
 ghost use Rattle.line_words.specs.Tables.{named};
 ghost use Rattle.command_words.specs.Drawings.{operations_of, form_operations, frame_operations, later_operations};
 
-use crate::forms::{FormWord, drawn_form_of};
+use form_words::{FormWord, drawn_form_of};
 use line_words::named;
 
 /// What `draw` does. It says which words follow.
-#[derive(Clone, Copy, Debug, PartialEq, Eq)]
+#[derive(Clone, Copy)]
 pub enum Operation {
     Erase,
     Invert,

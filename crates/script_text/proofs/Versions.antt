@@ -12,8 +12,8 @@ use Rattle.lent_ops.specs.Points.{are_points}
 use Rattle.line_words.specs.Words.{◌>>=◌, Field, word_at, is_plain, serial_of}
 use Rattle.line_words.specs.Shapes.{Shape, mapped, never}
 use Rattle.line_words.specs.Tables.{named}
-use Rattle.command_words.specs.declared.forms.FormWord.{FormWord}
-use Rattle.command_words.specs.declared.forms.FormWord.TheVariants as forms
+use Rattle.form_words.specs.declared.forms.FormWord.{FormWord}
+use Rattle.form_words.specs.declared.forms.FormWord.TheVariants as forms
 use Rattle.command_words.specs.declared.operation.Operation.{Operation}
 use Rattle.command_words.specs.declared.operation.Operation.TheVariants as operation_words
 use Rattle.command_words.specs.declared.updates.UpdateVerb.{UpdateVerb}
@@ -26,7 +26,7 @@ use Rattle.command_words.specs.ControlWords.{control_shape}
 use Rattle.command_words.specs.Drawings.{form_operations, frame_operations, shade_shape, shaded_rect_shape, line_shape, run_shape, bits_shape, region_shape, operations, operations_of, operation_shape, clipped_shape, clip_shape, drawing_shape}
 use Rattle.command_words.specs.EventWords.{event_shape}
 use Rattle.command_words.specs.Asked.{asked_shape}
-use Rattle.command_words.specs.Forms.{form_shape, pen}
+use Rattle.form_words.specs.Forms.{form_shape, pen}
 use Rattle.command_words.specs.FrameWords.{frame_shape}
 use Rattle.command_words.specs.ListWords.{list_shape}
 use Rattle.command_words.specs.MenuWords.{menu_shape}

@@ -1,5 +1,5 @@
 -- Selecting with the mouse, as steps.
-use Rattle.std.proofs.Common.{◌≡◌, ℕ, Bool, true, false, List, [], ◌∷◌, get_or, Option, Some, None, Result, Ok, Err, refl, sym, ap, ◌∙◌, subst}
+use Rattle.std.proofs.Common.{◌≡◌, ℕ, Bool, true, false, List, [], ◌∷◌, get_or, Some, None, Result, Ok, Err, refl, sym, ap, ◌∙◌, subst}
 use Rattle.std.specs.Prelude.{is_none, not}
 use Rattle.tb_geom.specs.declared.point.Point.{Point}
 use Rattle.tb_geom.specs.declared.refusal.Refusal.{Refusal}
@@ -19,7 +19,6 @@ use Rattle.desk_call.specs.declared.text.TextCall.TheVariants as asks
 use Rattle.desk_call.specs.declared.text.TextReply.{TextReply}
 use Rattle.desk_call.specs.declared.text.TextReply.TheVariants as reply
 use Rattle.text_record.specs.Places.{offset_at}
-use Rattle.text_record.specs.Texts.{Record}
 use Rattle.text_edits.specs.declared.selecting.Anchor.{Anchor}
 use Rattle.text_edits.specs.declared.selecting.ClickMode.{ClickMode}
 use Rattle.text_edits.specs.Selecting.{anchor_of, extended, extended_to, is_clicked}
@@ -27,7 +26,6 @@ use Rattle.window_mgr.specs.declared.manager.WindowManager.{WindowManager}
 use Rattle.window_mgr.specs.DeskStates.{Opened}
 use Rattle.window_mgr.specs.FullDesk.{IsRightState}
 use Rattle.window_mgr.specs.Records.{desk_of}
-use Rattle.window_mgr.specs.Whole.{IsWholeManager}
 use Rattle.control_mgr.proofs.Lays.{one_item}
 use Rattle.control_mgr.proofs.Places.{read_is}
 use Rattle.text_mgr.specs.declared.spots.TextAt.{TextAt}
@@ -38,7 +36,7 @@ use Rattle.text_mgr.specs.TextDesks.{KeptText, TextDesk}
 use Rattle.text_mgr.specs.TextPlaces.{click_mode}
 use Rattle.text_mgr.specs.TextRefusals.{missing_refusals, text_refusals}
 use Rattle.text_mgr.specs.TextSteps.{IsOpenedIf, IsSelected, IsTextShownAnew, IsTextStep, IsWhereRight, Opens, offsets_of}
-use Rattle.text_mgr.specs.WholeTexts.{AreBeside, LeavesTexts, text_desk, texts_state}
+use Rattle.text_mgr.specs.WholeTexts.{LeavesTexts, text_desk, texts_state}
 use Rattle.text_mgr.proofs.Places.{named_there, record_there}
 use Rattle.text_mgr.proofs.Steps.{desk_seen, missing_first, other_reasons, refused_by, told, unchanged, where_right}
 

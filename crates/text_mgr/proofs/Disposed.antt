@@ -34,14 +34,14 @@ use Rattle.window_mgr.specs.Whole.{IsWholeManager}
 use Rattle.control_mgr.specs.Planned.{IsLaidSo}
 use Rattle.control_mgr.proofs.LaidSo.{laid_now}
 use Rattle.control_mgr.proofs.LayerOut.{apart_out, may_out, planned_out}
-use Rattle.control_mgr.proofs.Places.{layers_named, read_is, there_is}
+use Rattle.control_mgr.proofs.Places.{layers_named}
 use Rattle.text_mgr.specs.declared.spots.TextAt.{TextAt}
 use Rattle.text_mgr.specs.declared.texts.Texts.{Texts}
 use Rattle.text_mgr.specs.Spots.{IsSpotOf}
-use Rattle.text_mgr.specs.TextDesks.{KeptText, texts_show}
+use Rattle.text_mgr.specs.TextDesks.{texts_show}
 use Rattle.text_mgr.specs.TextLayers.{AreTextLayersOf, without_part}
 use Rattle.text_mgr.specs.TextSteps.{IsTextDisposed}
-use Rattle.text_mgr.specs.WholeTexts.{AreBeside, AreWholeTexts, LeavesTexts, text_desk, texts_state}
+use Rattle.text_mgr.specs.WholeTexts.{AreBeside, AreWholeTexts, LeavesTexts, texts_state}
 use Rattle.text_mgr.proofs.Layered.{joined_removed}
 use Rattle.text_mgr.proofs.Places.{among_there, found_window, joined_there, layer_found, layer_low, layer_there, one_there, parts_apart, record_there}
 use Rattle.text_mgr.proofs.Reshown.{alone, set_among}

@@ -1,5 +1,5 @@
 -- A text record that a call edits: why it is refused, and the step.
-use Rattle.std.proofs.Common.{◌≡◌, inl, inr, ◌⊎◌, ⊎_elim, ℕ, ◌<◌, Bool, true, List, [], ◌∷◌, length, Option, Some, None, Result, Ok, Err, refl, sym, ap, ◌∙◌, subst}
+use Rattle.std.proofs.Common.{◌≡◌, inl, inr, ⊎_elim, ℕ, List, [], Some, None, Result, Ok, Err, refl, sym, ap, ◌∙◌, subst}
 use Rattle.std.specs.Prelude.{IfSome, slice_get}
 use Rattle.tb_geom.specs.declared.refusal.Refusal.{Refusal}
 use Rattle.tb_geom.specs.Points.{PixelSet}
@@ -34,7 +34,7 @@ use Rattle.text_mgr.specs.TextRefusals.{missing_refusals, named_refusals, text_r
 use Rattle.text_mgr.specs.TextSteps.{IsTextEdited, IsTextEffect, IsTextShownAnew, IsTextStep, IsWhereRight}
 use Rattle.text_mgr.specs.WholeTexts.{AreWholeTexts, LeavesTexts, text_desk, texts_state}
 use Rattle.text_mgr.proofs.Edits.{edited_box}
-use Rattle.text_mgr.proofs.Places.{named_there, one_there, record_there}
+use Rattle.text_mgr.proofs.Places.{named_there, record_there}
 use Rattle.text_mgr.proofs.Reshown.{alone}
 use Rattle.text_mgr.proofs.Shown.{put_done}
 use Rattle.text_mgr.proofs.Steps.{desk_seen, missing_first, other_reasons, refused_by, unchanged, where_right}

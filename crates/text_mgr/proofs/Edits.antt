@@ -1,5 +1,5 @@
 -- What calls make of a text record keeps its box.
-use Rattle.std.proofs.Common.{◌≡◌, ℕ, ◌==◌, Bool, true, false, cond, List, Option, Some, None, refl}
+use Rattle.std.proofs.Common.{ℕ, ◌==◌, Bool, true, false, cond, List, Option, Some, None, refl}
 use Rattle.std.specs.Prelude.{nat_abs}
 use Rattle.std.specs.Option.{option_map_or}
 use Rattle.desk_call.specs.declared.text.TextCall.{TextCall}
@@ -7,7 +7,7 @@ use Rattle.desk_call.specs.declared.text.TextCall.TheVariants as call
 use Rattle.text_record.specs.declared.placing.Justification.{Justification}
 use Rattle.text_record.specs.Changes.{justified}
 use Rattle.text_record.specs.Texts.{Record}
-use Rattle.text_edits.specs.Edits.{above, backspaced, below, deleted, is_point, keyed, left_of, pasted, pointed, right_of}
+use Rattle.text_edits.specs.Edits.{backspaced, is_point, keyed}
 use Rattle.text_mgr.specs.CallEdits.{edited}
 use Rattle.text_mgr.specs.TextPlaces.{justification_of}
 use Rattle.text_mgr.proofs.Whole.{SameBox}

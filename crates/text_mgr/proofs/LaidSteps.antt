@@ -1,6 +1,5 @@
 -- A text record shown, hidden or put elsewhere, as a step.
-use Rattle.std.proofs.Common.{◌≡◌, inl, inr, ℕ, Bool, true, false, List, [], ◌∷◌, Option, Some, None, Result, Ok, Err, refl, sym, ap, ◌∙◌, subst}
-use Rattle.std.specs.Prelude.{IfSome, slice_get}
+use Rattle.std.proofs.Common.{◌≡◌, inr, ℕ, Bool, true, false, List, [], Some, None, Result, Ok, Err, refl, ap, ◌∙◌, subst}
 use Rattle.tb_geom.specs.declared.refusal.Refusal.{Refusal}
 use Rattle.tb_geom.specs.Points.{PixelSet}
 use Rattle.tb_geom.specs.Refusals.{first_refusal}
@@ -8,7 +7,6 @@ use Rattle.desk_layers.specs.declared.part.Part.{Part}
 use Rattle.def_iface.specs.Slots.{TakenBox}
 use Rattle.def_iface.specs.WindowMeaning.{WindowLoan}
 use Rattle.def_iface.specs.WindowSlots.{WindowSlot}
-use Rattle.desk_call.specs.declared.text.PlaceText.{PlaceText}
 use Rattle.desk_call.specs.declared.text.TextCall.{TextCall}
 use Rattle.desk_call.specs.declared.text.TextCall.TheVariants as asks
 use Rattle.desk_call.specs.declared.text.TextOf.{TextOf}
@@ -16,7 +14,7 @@ use Rattle.desk_call.specs.declared.text.TextReply.{TextReply}
 use Rattle.desk_call.specs.declared.text.TextReply.TheVariants.{Done}
 use Rattle.text_record.specs.Changes.{placed, shown_as}
 use Rattle.text_record.specs.Texts.{Record, placing_of}
-use Rattle.window_items.specs.Items.{edit_at, with_kept}
+use Rattle.window_items.specs.Items.{with_kept}
 use Rattle.window_items.proofs.EditLemmas.{edit_alike}
 use Rattle.window_mgr.specs.declared.manager.WindowManager.{WindowManager}
 use Rattle.window_mgr.specs.DeskStates.{Opened}
@@ -32,7 +30,7 @@ use Rattle.text_mgr.specs.TextRefusals.{may_text_grow, missing_refusals, text_re
 use Rattle.text_mgr.specs.TextSteps.{IsTextEffect, IsTextLaid, IsTextStep}
 use Rattle.text_mgr.specs.WholeTexts.{LeavesTexts, text_desk, texts_state}
 use Rattle.text_mgr.proofs.Places.{named_there, one_there, record_there, text_there}
-use Rattle.text_mgr.proofs.Steps.{desk_seen, nothing_missing, other_reasons, refused_by}
+use Rattle.text_mgr.proofs.Steps.{desk_seen, nothing_missing, refused_by}
 
 module _ {V : Type 0} {H : V → Type 0} (loan : TakenBox V H → WindowLoan) where
   module _ (x : TextOf) (t : WindowManager V H) (m : Texts) (s : TextAt) (is : IsSpotOf loan x t m s) (l : Lie) where

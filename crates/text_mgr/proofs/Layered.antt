@@ -1,15 +1,13 @@
 -- Text records and the layers of one window that are theirs.
-use Rattle.std.proofs.Common.{◌≡◌, ℕ, zero, suc, ◌+◌, ◌<◌, ◌==◌, ◌||◌, Bool, true, false, cond, if◌then◌else◌, List, [], ◌∷◌, ◌++◌, length, get_or, Option, Some, None, refl, sym, ap, ◌∙◌, subst, arith}
+use Rattle.std.proofs.Common.{◌≡◌, ℕ, zero, suc, ◌+◌, Bool, true, false, cond, List, [], ◌∷◌, ◌++◌, length, Some, None, refl, sym, ap, ◌∙◌, subst, arith}
 use Rattle.std.specs.Prelude.{All, slice_get, nat_lt}
-use Rattle.std.specs.List.{AllZip, filter, insert, list_any, position, position_or_len, remove}
-use Rattle.std.specs.Option.{option_map}
+use Rattle.std.specs.List.{AllZip, filter, insert, list_any, position_or_len, remove}
 use Rattle.std.proofs.lemmas.Bool.{cond-true, eq-eqb, false≢true, lt-ltb, ltb-true}
 use Rattle.std.proofs.lemmas.List.Elements.{All-cons, All-nil}
-use Rattle.tb_geom.specs.declared.point.Point.{Point}
 use Rattle.desk_layers.specs.declared.part.Part.{Part}
 use Rattle.desk_layers.specs.declared.part.Part.TheVariants as part
 use Rattle.desk_layers.specs.Desk.{same_part}
-use Rattle.desk_layers.proofs.Owning.{same_number, same_part-self}
+use Rattle.desk_layers.proofs.Owning.{same_part-self}
 use Rattle.desk_call.specs.declared.update.LayerKind.TheVariants.{Texts}
 use Rattle.window_items.specs.Items.{AreApart, edit_at, has_serial}
 use Rattle.window_items.proofs.SerialLemmas.{or_parts}

@@ -1,5 +1,5 @@
 -- A text record that is laid elsewhere, or shown or hidden: its layer, the plan, and the step.
-use Rattle.std.proofs.Common.{◌≡◌, ℕ, ◌<◌, Bool, true, List, [], length, get_or, map, Option, Some, refl, sym, ap, ◌∙◌, subst}
+use Rattle.std.proofs.Common.{◌≡◌, ℕ, ◌<◌, true, List, [], length, get_or, map, Option, Some, refl, sym, ap, ◌∙◌, subst}
 use Rattle.std.specs.Prelude.{slice_get}
 use Rattle.std.specs.List.{list_all}
 use Rattle.std.specs.Option.{option_map_or}
@@ -15,7 +15,7 @@ use Rattle.def_iface.specs.WindowMeaning.{WindowLoan}
 use Rattle.def_iface.specs.WindowSlots.{WindowSlot}
 use Rattle.desk_call.specs.declared.text.TextOf.{TextOf}
 use Rattle.text_record.specs.Placings.{box_of, is_placing}
-use Rattle.window_items.specs.Items.{edit_at, is_in_at, items_of, place_among, with_kept}
+use Rattle.window_items.specs.Items.{edit_at, items_of, place_among, with_kept}
 use Rattle.window_items.proofs.SerialLemmas.{apart_among}
 use Rattle.window_items.proofs.WindowLemmas.{items_of-edit_at}
 use Rattle.window_list.specs.declared.layer.Layer.{Layer}
@@ -30,21 +30,20 @@ use Rattle.window_mgr.specs.declared.manager.WindowManager.{WindowManager}
 use Rattle.window_mgr.specs.DeskStates.{Opened}
 use Rattle.window_mgr.specs.Edits.{IsWindowAt}
 use Rattle.window_mgr.specs.FullDesk.{FullDesk}
-use Rattle.window_mgr.specs.Kept.{IsKept}
 use Rattle.window_mgr.specs.Records.{desk_of, state_of, state_showing}
-use Rattle.window_mgr.specs.Relayered.{AreLayersSet, IsGainedAt, IsPartAt, MayHaveLayers}
+use Rattle.window_mgr.specs.Relayered.{AreLayersSet, IsPartAt, MayHaveLayers}
 use Rattle.window_mgr.specs.Whole.{IsWholeManager}
 use Rattle.control_mgr.proofs.Lays.{fits_reshaped, one_item, same_part_at}
-use Rattle.control_mgr.proofs.Places.{get_is, layers_named, read_is, there_is, within}
+use Rattle.control_mgr.proofs.Places.{layers_named, read_is, within}
 use Rattle.text_mgr.specs.declared.laying.Lie.{Lie}
 use Rattle.text_mgr.specs.declared.spots.TextAt.{TextAt}
 use Rattle.text_mgr.specs.declared.texts.Texts.{Texts}
 use Rattle.text_mgr.specs.Laying.{IsBoxShape, MayLie, laid}
-use Rattle.text_mgr.specs.Spots.{IsSpot, IsSpotOf}
+use Rattle.text_mgr.specs.Spots.{IsSpotOf}
 use Rattle.text_mgr.specs.TextDesks.{KeptText, texts_show}
-use Rattle.text_mgr.specs.TextLayers.{AreTextLayersOf, IsLayerOf, with_shape_of}
+use Rattle.text_mgr.specs.TextLayers.{AreTextLayersOf, with_shape_of}
 use Rattle.text_mgr.specs.TextSteps.{IsTextLaid}
-use Rattle.text_mgr.specs.WholeTexts.{AreBeside, AreWholeTexts, LeavesTexts, text_desk, texts_state}
+use Rattle.text_mgr.specs.WholeTexts.{AreBeside, AreWholeTexts, text_desk, texts_state}
 use Rattle.text_mgr.proofs.Layered.{ItsLayer, joined_reshaped}
 use Rattle.text_mgr.proofs.Places.{among_there, found_window, it_is, joined_there, layer_found, layer_part, layer_there, layers_fit, layers_there, named_there, one_there, parts_apart, record_there}
 use Rattle.text_mgr.proofs.Reshown.{alone, one_text, set_among}

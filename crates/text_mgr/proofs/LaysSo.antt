@@ -1,16 +1,15 @@
 -- A text record that is laid, as the code comes to it.
-use Rattle.std.proofs.Common.{◌≡◌, ℕ, ◌<◌, true, List, length, get_or, Option, Some, refl, sym, ap, ◌∙◌, subst}
+use Rattle.std.proofs.Common.{◌≡◌, ℕ, ◌<◌, true, length, get_or, Option, Some, sym, ap, ◌∙◌, subst}
 use Rattle.std.specs.Prelude.{IfSome, slice_get}
 use Rattle.tb_geom.specs.declared.point.Point.{Point}
 use Rattle.tb_geom.specs.declared.rect.Rect.{Rect}
-use Rattle.tb_geom.specs.Points.{PixelSet, minus}
+use Rattle.tb_geom.specs.Points.{minus}
 use Rattle.tb_geom.specs.Pixels.{holds}
 use Rattle.tb_geom.specs.Rects.{is_in_range}
 use Rattle.desk_layers.specs.declared.part.Part.{Part}
 use Rattle.desk_layers.specs.declared.part.Part.TheVariants as part
 use Rattle.def_iface.specs.Slots.{TakenBox}
 use Rattle.def_iface.specs.WindowMeaning.{WindowLoan}
-use Rattle.def_iface.specs.WindowSlots.{WindowSlot}
 use Rattle.desk_call.specs.declared.text.TextOf.{TextOf}
 use Rattle.text_record.specs.Placings.{box_of, is_placing}
 use Rattle.window_items.specs.Items.{edit_at, with_kept}
@@ -32,7 +31,7 @@ use Rattle.text_mgr.specs.declared.laying.Lie.{Lie}
 use Rattle.text_mgr.specs.declared.spots.TextAt.{TextAt}
 use Rattle.text_mgr.specs.declared.texts.Texts.{Texts}
 use Rattle.text_mgr.specs.Laying.{IsBoxShape, MayLie, laid}
-use Rattle.text_mgr.specs.Spots.{IsSpot, IsSpotOf}
+use Rattle.text_mgr.specs.Spots.{IsSpotOf}
 use Rattle.text_mgr.specs.TextDesks.{KeptText}
 use Rattle.text_mgr.specs.TextSteps.{IsTextLaid}
 use Rattle.text_mgr.specs.WholeTexts.{AreBeside, LeavesTexts}

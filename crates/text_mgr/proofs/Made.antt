@@ -1,69 +1,52 @@
 -- A text record that is made: its layer behind all others of its window, the plan, and the step.
 use Rattle.std.proofs.lemmas.Bool.{and_parts}
 use Rattle.std.specs.Prelude.{pos, int_le}
-use Rattle.std.proofs.Common.{◌≡◌, ℕ, ◌<◌, ◌≤◌, Bool, true, false, List, [], ◌∷◌, ◌++◌, length, get_or, map, Option, Some, refl, sym, ap, ◌∙◌, subst, arith}
-use Rattle.std.specs.Prelude.{All, is_none}
+use Rattle.std.proofs.Common.{◌≡◌, ℕ, ◌<◌, ◌≤◌, true, false, List, length, get_or, Option, Some, refl, sym, ap, ◌∙◌, subst, arith}
+use Rattle.std.specs.Prelude.{All}
 use Rattle.std.specs.List.{insert, list_any}
-use Rattle.std.proofs.lemmas.List.Edits.{get_or-insert_at}
 use Rattle.tb_geom.specs.declared.point.Point.{Point}
-use Rattle.tb_geom.specs.declared.rect.Rect.{Rect}
-use Rattle.tb_geom.specs.Points.{PixelSet, minus}
+use Rattle.tb_geom.specs.Points.{minus}
 use Rattle.tb_geom.specs.Pixels.{holds}
 use Rattle.tb_geom.specs.Rects.{is_in_range, moved_rect, rect_holds}
 use Rattle.desk_layers.specs.declared.part.Part.{Part}
 use Rattle.desk_layers.specs.declared.part.Part.TheVariants as part
 use Rattle.desk_layers.specs.Desk.{same_part}
-use Rattle.desk_layers.proofs.Owning.{same_number}
 use Rattle.def_iface.specs.Slots.{TakenBox}
 use Rattle.def_iface.specs.WindowMeaning.{WindowLoan}
-use Rattle.def_iface.specs.WindowSlots.{WindowSlot}
 use Rattle.desk_call.specs.declared.text.NewText.{NewText}
 use Rattle.text_record.specs.declared.placing.Placing.{Placing}
 use Rattle.text_record.specs.Placings.{box_of, is_placing}
 use Rattle.text_record.specs.Texts.{Record}
-use Rattle.window_items.specs.Items.{are_before, has_serial, items_of, serial_after}
+use Rattle.window_items.specs.Items.{are_before, has_serial, items_of}
 use Rattle.window_items.proofs.LawLemmas.{no_others}
 use Rattle.window_items.proofs.SerialLemmas.{none_in_window}
-use Rattle.window_items.proofs.WindowLemmas.{items_of-push}
 use Rattle.window_list.specs.declared.layer.Layer.{Layer}
 use Rattle.window_list.specs.declared.layer.LayerShape.{LayerShape}
 use Rattle.window_list.specs.declared.layers.Relaid.{Relaid}
 use Rattle.window_list.specs.declared.window.Window.{Window}
-use Rattle.window_list.specs.Holders.{ArePartsApart, IsLayerAt, PlacedLayers, fits_at}
+use Rattle.window_list.specs.Holders.{ArePartsApart, IsLayerAt, fits_at}
 use Rattle.window_list.specs.LayerChanges.{is_gained}
 use Rattle.vis_update.specs.declared.area.Area.{Area}
 use Rattle.vis_update.specs.declared.relaying.Relaying.{Relaying}
-use Rattle.vis_update.specs.Relayings.{with_layers_of}
 use Rattle.window_mgr.specs.declared.manager.WindowManager.{WindowManager}
-use Rattle.window_mgr.specs.DeskStates.{Opened}
 use Rattle.window_mgr.specs.Edits.{IsWindowAt}
-use Rattle.window_mgr.specs.FullDesk.{FullDesk}
 use Rattle.window_mgr.specs.Kept.{IsKept}
-use Rattle.window_mgr.specs.Records.{desk_of, state_of, state_showing}
-use Rattle.window_mgr.specs.Relayered.{AreLayersSet, HasUpdate, IsGainedAt, IsPartAt, IsPlanOfLayers, MayHaveLayers}
-use Rattle.window_mgr.specs.Refused.{is_missing}
-use Rattle.window_mgr.specs.Whole.{IsWholeManager}
+use Rattle.window_mgr.specs.Relayered.{HasUpdate, IsGainedAt, IsPartAt, IsPlanOfLayers, MayHaveLayers}
 use Rattle.window_mgr.proofs.Contents as contents
 use Rattle.control_mgr.specs.Planned.{IsLaidSo}
 use Rattle.control_mgr.proofs.LaidSo.{laid_now}
-use Rattle.control_mgr.proofs.LayerIn.{apart_in, low_in, may_in, one_read, planned_in}
-use Rattle.control_mgr.proofs.Places.{at_window, layers_named, read_is, there_is}
-use Rattle.text_mgr.specs.declared.making.Addition.{Addition}
+use Rattle.control_mgr.proofs.LayerIn.{apart_in, low_in, may_in, planned_in}
+use Rattle.control_mgr.proofs.Places.{at_window, read_is, there_is}
 use Rattle.text_mgr.specs.declared.making.Ticket.{Ticket}
 use Rattle.text_mgr.specs.declared.texts.Texts.{Texts}
 use Rattle.text_mgr.specs.Laying.{IsBoxShape}
-use Rattle.text_mgr.specs.Making.{IsAddition, IsTicket}
-use Rattle.text_mgr.specs.TextDesks.{KeptText, texts_show}
-use Rattle.text_mgr.specs.TextLayers.{AreTextLayersOf, IsLayerOf, with_last}
-use Rattle.text_mgr.specs.TextPlaces.{may_stand, may_stand_at, placing_of, view_of}
-use Rattle.text_mgr.specs.TextSteps.{IsTextMade}
-use Rattle.text_mgr.specs.WholeTexts.{AreBeside, AreWholeTexts, LeavesTexts, text_desk, texts_state}
-use Rattle.text_mgr.proofs.NewJudged.{window_is}
-use Rattle.text_mgr.proofs.Layered.{inserted_last, joined_more, none_named}
-use Rattle.text_mgr.proofs.Lays.{AreSetFor}
+use Rattle.text_mgr.specs.Making.{IsTicket}
+use Rattle.text_mgr.specs.TextDesks.{KeptText}
+use Rattle.text_mgr.specs.TextLayers.{AreTextLayersOf, IsLayerOf}
+use Rattle.text_mgr.specs.TextPlaces.{may_stand, placing_of, view_of}
+use Rattle.text_mgr.specs.WholeTexts.{AreBeside}
+use Rattle.text_mgr.proofs.Layered.{none_named}
 use Rattle.text_mgr.proofs.PlaceParts.{MayStand, place_parts}
-use Rattle.text_mgr.proofs.Reshown.{alone, one_text, set_among}
-use Rattle.text_mgr.proofs.Whole.{whole_pushed}
 
 -- ---- one more layer, planned
 

@@ -1,16 +1,14 @@
 -- A text record that was put behind the others, and drawn, as planned.
-use Rattle.std.proofs.Common.{◌≡◌, ℕ, ◌<◌, ◌≤◌, Bool, true, false, List, [], ◌∷◌, ◌++◌, length, get_or, map, Option, Some, refl, sym, ap, ◌∙◌, subst, arith}
+use Rattle.std.proofs.Common.{◌≡◌, ◌<◌, ◌≤◌, true, false, List, [], ◌∷◌, ◌++◌, length, get_or, map, Option, Some, refl, sym, ap, ◌∙◌, subst, arith}
 use Rattle.std.specs.Prelude.{is_none}
 use Rattle.std.specs.List.{insert}
 use Rattle.std.proofs.lemmas.List.Edits.{get_or-insert_at}
-use Rattle.tb_geom.specs.Points.{PixelSet}
 use Rattle.tb_geom.specs.Rects.{is_in_range}
 use Rattle.desk_layers.specs.declared.part.Part.{Part}
 use Rattle.desk_layers.specs.declared.part.Part.TheVariants as part
 use Rattle.desk_layers.proofs.Owning.{same_number}
 use Rattle.def_iface.specs.Slots.{TakenBox}
 use Rattle.def_iface.specs.WindowMeaning.{WindowLoan}
-use Rattle.def_iface.specs.WindowSlots.{WindowSlot}
 use Rattle.desk_call.specs.declared.text.NewText.{NewText}
 use Rattle.text_record.specs.Placings.{box_of}
 use Rattle.window_items.specs.Items.{count_of, items_of, serial_after}
@@ -26,7 +24,6 @@ use Rattle.window_mgr.specs.Kept.{IsKept}
 use Rattle.window_mgr.specs.Records.{desk_of, state_of, state_showing}
 use Rattle.window_mgr.specs.Relayered.{AreLayersSet, IsPartAt, IsPlanOfLayers}
 use Rattle.window_mgr.specs.Refused.{is_missing}
-use Rattle.window_mgr.specs.Whole.{IsWholeManager}
 use Rattle.control_mgr.proofs.LayerIn.{one_read}
 use Rattle.control_mgr.proofs.Places.{at_window, layers_named, read_is, there_is}
 use Rattle.text_mgr.specs.declared.making.Addition.{Addition}
@@ -35,7 +32,7 @@ use Rattle.text_mgr.specs.Making.{IsAddition}
 use Rattle.text_mgr.specs.TextDesks.{KeptText, texts_show}
 use Rattle.text_mgr.specs.TextLayers.{AreTextLayersOf, with_last}
 use Rattle.text_mgr.specs.TextSteps.{IsTextMade}
-use Rattle.text_mgr.specs.WholeTexts.{AreBeside, AreWholeTexts, LeavesTexts, text_desk, texts_state}
+use Rattle.text_mgr.specs.WholeTexts.{AreWholeTexts, LeavesTexts, texts_state}
 use Rattle.text_mgr.proofs.NewJudged.{window_is}
 use Rattle.text_mgr.proofs.Layered.{inserted_last, joined_more}
 use Rattle.text_mgr.proofs.Lays.{AreSetFor}

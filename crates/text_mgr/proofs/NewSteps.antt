@@ -1,11 +1,8 @@
 -- A text record that is made, as a step.
-use Rattle.std.proofs.Common.{◌≡◌, inl, inr, ℕ, ◌<◌, List, [], Option, Some, None, Result, Ok, Err, refl, sym, ap, ◌∙◌, subst}
+use Rattle.std.proofs.Common.{◌≡◌, inl, inr, ℕ, ◌<◌, [], None, Result, Ok, Err, refl, sym, ◌∙◌, subst}
 use Rattle.tb_geom.specs.declared.refusal.Refusal.{Refusal}
-use Rattle.tb_geom.specs.Points.{PixelSet}
-use Rattle.desk_layers.specs.declared.part.Part.{Part}
 use Rattle.def_iface.specs.Slots.{TakenBox}
 use Rattle.def_iface.specs.WindowMeaning.{WindowLoan}
-use Rattle.def_iface.specs.WindowSlots.{WindowSlot}
 use Rattle.desk_call.specs.declared.text.NewText.{NewText}
 use Rattle.desk_call.specs.declared.text.TextCall.TheVariants as asks
 use Rattle.desk_call.specs.declared.text.TextReply.{TextReply}

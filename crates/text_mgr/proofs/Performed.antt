@@ -1,5 +1,5 @@
 -- A call, by what it asks.
-use Rattle.std.proofs.Common.{◌≡◌, List, Option, Some, None, Result, refl, sym, subst}
+use Rattle.std.proofs.Common.{◌≡◌, List, Some, None, Result, refl, sym, subst}
 use Rattle.tb_geom.specs.declared.refusal.Refusal.{Refusal}
 use Rattle.tb_geom.specs.Points.{PixelSet}
 use Rattle.def_iface.specs.Slots.{TakenBox}

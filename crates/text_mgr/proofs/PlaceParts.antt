@@ -1,5 +1,5 @@
 -- What is known of a text record that may stand so.
-use Rattle.std.proofs.Common.{◌≡◌, ℕ, ◌≤◌, Bool, true, false, ◌&&◌, ℤ, pos, negsuc, ◌+ℤ◌, ◌≤ℤ◌, if◌then◌else◌, Option, None, Some, FitsSigned, w32, refl, sym, ap, ◌∙◌, arith}
+use Rattle.std.proofs.Common.{◌≡◌, ◌≤◌, Bool, true, false, ◌&&◌, ℤ, pos, negsuc, ◌+ℤ◌, ◌≤ℤ◌, if◌then◌else◌, None, Some, FitsSigned, w32, refl, sym, ap, ◌∙◌, arith}
 use Rattle.std.specs.Prelude.{int_le, int_lt, nat_abs}
 use Rattle.std.proofs.lemmas.Int.{ints}
 use Rattle.tb_geom.specs.declared.rect.Rect.{Rect}

@@ -1,6 +1,6 @@
 -- Where a text record stands: its record, its window, and its layer there.
-use Rattle.std.proofs.Common.{◌≡◌, ℕ, ◌<◌, ◌==◌, Bool, true, false, List, [], length, get_or, Option, Some, None, refl, sym, ap, ◌∙◌, subst, eqb-true}
-use Rattle.std.specs.Prelude.{IfSome, is_none, slice_get}
+use Rattle.std.proofs.Common.{◌≡◌, ℕ, ◌<◌, ◌==◌, true, false, List, length, get_or, Option, Some, sym, ap, ◌∙◌, subst, eqb-true}
+use Rattle.std.specs.Prelude.{IfSome, slice_get}
 use Rattle.std.specs.Option.{option_and_then, option_map_or}
 use Rattle.std.specs.List.{list_all}
 use Rattle.std.proofs.lemmas.Bool.{and_parts}
@@ -9,14 +9,13 @@ use Rattle.def_iface.specs.Slots.{TakenBox}
 use Rattle.def_iface.specs.WindowMeaning.{WindowLoan}
 use Rattle.def_iface.specs.WindowSlots.{WindowSlot}
 use Rattle.desk_call.specs.declared.text.TextOf.{TextOf}
-use Rattle.window_items.specs.Items.{AreApart, is_in_at, is_item, item_index, items_of, place_among}
+use Rattle.window_items.specs.Items.{is_in_at, is_item, items_of, place_among}
 use Rattle.window_items.proofs.SerialLemmas.{apart_among}
 use Rattle.window_items.proofs.WindowLemmas.{found_in, position_there, slice_get-items_of}
 use Rattle.window_list.specs.Holders.{ArePartsApart, fits_at, layer_index}
 use Rattle.window_list.specs.declared.window.Window.{Window}
 use Rattle.window_mgr.specs.declared.manager.WindowManager.{WindowManager}
 use Rattle.window_mgr.specs.Edits.{IsWindowAt}
-use Rattle.window_mgr.specs.Records.{desk_of}
 use Rattle.window_mgr.specs.Whole.{IsSettled, IsWholeManager}
 use Rattle.window_mgr.proofs.Contents as contents
 use Rattle.control_mgr.proofs.Places.{IsThere, at_window, read_is, there_is, within}
@@ -25,9 +24,8 @@ use Rattle.text_mgr.specs.declared.texts.Texts.{Texts}
 use Rattle.text_mgr.specs.Spots.{IsSpotOf}
 use Rattle.text_mgr.specs.TextDesks.{KeptText, index_of, text_of}
 use Rattle.text_mgr.specs.TextLayers.{AreTextLayersOf}
-use Rattle.text_mgr.specs.WholeTexts.{AreBeside, AreWholeTexts, texts_state}
+use Rattle.text_mgr.specs.WholeTexts.{AreBeside}
 use Rattle.text_mgr.proofs.Layered.{ItsLayer, its_layer}
-use Rattle.text_mgr.proofs.Whole.{AreJoined}
 
 named : (window serial : ℕ) (o : Option KeptText) (x : KeptText) → o ≡ Some x → option_map_or (is_item window serial) o false ≡ true → (x.window ≡ window) × (x.serial ≡ serial)
 named window serial o x e h =

@@ -1,5 +1,5 @@
 -- A text record whose selection was extended and drawn: what is left of the text records, and what stays selectable.
-use Rattle.std.proofs.Common.{◌≡◌, ℕ, ◌<◌, ◌≤◌, Bool, true, false, List, [], ◌∷◌, length, get_or, Option, Some, None, refl, sym, ap, ◌∙◌, subst}
+use Rattle.std.proofs.Common.{◌≡◌, ℕ, ◌<◌, ◌≤◌, false, List, [], ◌∷◌, length, get_or, Option, Some, None, refl, sym, ap, ◌∙◌, subst}
 use Rattle.std.specs.Prelude.{IfSome, is_none, slice_get}
 use Rattle.std.specs.Option.{option_and_then}
 use Rattle.tb_geom.specs.declared.point.Point.{Point}

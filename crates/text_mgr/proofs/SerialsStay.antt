@@ -1,5 +1,5 @@
 -- Which text records stay the same, where one is changed, put in or taken out, or some were shown anew.
-use Rattle.std.proofs.Common.{◌≡◌, ℕ, zero, suc, Bool, true, false, ◌&&◌, ◌||◌, ◌==◌, cond, List, [], ◌∷◌, ◌++◌, Option, Some, None, refl, sym, ap, ◌∙◌, subst, eqb-true}
+use Rattle.std.proofs.Common.{◌≡◌, ℕ, suc, Bool, true, false, ◌&&◌, ◌||◌, cond, List, [], ◌∷◌, ◌++◌, Option, Some, None, refl, sym, ap, ◌∙◌, subst}
 use Rattle.std.specs.Prelude.{IfSome, slice_get}
 use Rattle.std.specs.List.{list_any, remove}
 use Rattle.std.specs.Option.{option_map, option_map_or}
@@ -10,7 +10,7 @@ use Rattle.desk_layers.specs.Owner.Owner.{Content}
 use Rattle.desk_call.specs.declared.text.TextOf.{TextOf}
 use Rattle.text_record.specs.Texts.{Record}
 use Rattle.window_items.specs.Items.{AreApart, has_serial, is_in, is_item, item_index, items_of}
-use Rattle.window_items.proofs.SerialLemmas.{any_of, one_window, with_edited, with_pushed, with_removed, with_there}
+use Rattle.window_items.proofs.SerialLemmas.{any_of, with_pushed, with_removed, with_there}
 use Rattle.window_items.proofs.WindowLemmas.{position-cons, position_there}
 use Rattle.control_mgr.proofs.Places.{IsThere}
 use Rattle.text_mgr.specs.TextDesks.{KeptText, TextDesk, TextsState, index_of, text_of, with_serial}

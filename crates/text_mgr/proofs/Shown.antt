@@ -1,5 +1,5 @@
 -- A text record that is changed and shown anew.
-use Rattle.std.proofs.Common.{◌≡◌, ℕ, zero, suc, ◌<◌, ◌==◌, ◌&&◌, Bool, true, false, List, [], ◌∷◌, length, get_or, Option, Some, None, refl, sym, ap, ◌∙◌, subst, eqb-true}
+use Rattle.std.proofs.Common.{◌≡◌, ℕ, zero, suc, ◌<◌, ◌==◌, Bool, true, false, List, [], ◌∷◌, length, get_or, Option, Some, None, refl, sym, ap, ◌∙◌, subst, eqb-true}
 use Rattle.std.specs.Prelude.{slice_get}
 use Rattle.std.specs.Option.{option_and_then}
 use Rattle.std.proofs.lemmas.Bool.{eqb-false, false≢true}
@@ -28,20 +28,20 @@ use Rattle.window_paint.specs.Kinds.{is_of}
 use Rattle.window_mgr.specs.declared.manager.WindowManager.{WindowManager}
 use Rattle.window_mgr.specs.DeskStates.{Opened}
 use Rattle.window_mgr.specs.Edits.{IsWindowAt}
-use Rattle.window_mgr.specs.FullDesk.{FullDesk, IsRightState}
+use Rattle.window_mgr.specs.FullDesk.{FullDesk}
 use Rattle.window_mgr.specs.Records.{desk_of, state_of, state_showing}
 use Rattle.window_mgr.specs.Relayered.{IsLayerDrawnWithin, IsLayerRedrawn}
 use Rattle.window_mgr.specs.Whole.{IsWholeManager}
 use Rattle.control_mgr.proofs.Places.{get_is}
 use Rattle.text_mgr.specs.declared.spots.TextAt.{TextAt}
 use Rattle.text_mgr.specs.declared.texts.Texts as declared
-use Rattle.text_mgr.specs.Showing.{IsDrawnAnew, IsPut}
-use Rattle.text_mgr.specs.Spots.{IsSpot, IsSpotOf}
+use Rattle.text_mgr.specs.Showing.{IsDrawnAnew}
+use Rattle.text_mgr.specs.Spots.{IsSpotOf}
 use Rattle.text_mgr.specs.TextDesks.{KeptText, TextDesk, index_of, text_of, texts_show}
-use Rattle.text_mgr.specs.TextSteps.{AreTextsShownAnew, IsTextChanged, IsTextShownAnew, IsWhereRight}
+use Rattle.text_mgr.specs.TextSteps.{IsTextChanged, IsTextShownAnew, IsWhereRight}
 use Rattle.text_mgr.specs.WholeTexts.{AreBeside, AreWholeTexts, LeavesTexts, text_desk, texts_state}
 use Rattle.text_mgr.proofs.Layered.{ItsLayer}
-use Rattle.text_mgr.proofs.Places.{found_names, found_window, it_is, layer_found, layer_low, layer_part, layer_read, layer_there, one_there, record_there}
+use Rattle.text_mgr.proofs.Places.{found_names, it_is, layer_low, layer_part, layer_read, layer_there, one_there, record_there}
 use Rattle.text_mgr.proofs.Reshown.{alone, redrawn_among}
 use Rattle.text_mgr.proofs.Whole.{SameBox, whole_edited}
 

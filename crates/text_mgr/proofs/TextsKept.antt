@@ -1,5 +1,5 @@
 -- What holds of a desk with text records between calls holds after any call about text records.
-use Rattle.std.proofs.Common.{◌≡◌, ⊎_elim, Result, sym, ap, ◌∙◌, subst}
+use Rattle.std.proofs.Common.{⊎_elim, Result, sym, subst}
 use Rattle.tb_geom.specs.declared.refusal.Refusal.{Refusal}
 use Rattle.desk_layers.specs.Desk.{IsDesk}
 use Rattle.desk_call.specs.declared.text.TextCall.{TextCall}

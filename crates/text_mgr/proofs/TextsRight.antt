@@ -1,5 +1,5 @@
 -- A call about text records leaves a right desk right: its steps are sound changes.
-use Rattle.std.proofs.Common.{◌≡◌, ⊎_elim, inl, inr, ◌⊎◌, ℕ, Bool, true, false, not, ◌&&◌, ◌==◌, cond, List, [], ◌∷◌, ◌++◌, map, Option, None, Some, Result, Ok, Err, refl, sym, ap, ◌∙◌, subst}
+use Rattle.std.proofs.Common.{◌≡◌, ⊎_elim, inl, inr, ◌⊎◌, ℕ, Bool, true, false, not, ◌&&◌, ◌==◌, cond, List, [], ◌∷◌, map, Option, None, Some, Result, Ok, Err, refl, sym, ap, ◌∙◌, subst}
 use Rattle.std.specs.Prelude.{is_none}
 use Rattle.std.proofs.lemmas.Bool.{and_parts}
 use Rattle.tb_geom.specs.declared.point.Point.{Point}
@@ -11,8 +11,7 @@ use Rattle.desk_layers.specs.declared.part.Part.{Part}
 use Rattle.desk_layers.specs.declared.part.Part.TheVariants as part
 use Rattle.desk_layers.specs.Change as plain
 use Rattle.desk_layers.specs.Desk.{IsDesk, on_screen}
-use Rattle.desk_layers.specs.Owner.{Owner, owner, same_owner}
-use Rattle.desk_layers.specs.Owner.Owner.{Content}
+use Rattle.desk_layers.specs.Owner.{owner, same_owner}
 use Rattle.desk_layers.proofs.Changing.{stays_right}
 use Rattle.desk_layers.proofs.Owning.{same_owner-true}
 use Rattle.desk_call.specs.declared.activity.Activity.{Activity}

@@ -1,5 +1,5 @@
 -- The text records are whole after any call about text records where they were before.
-use Rattle.std.proofs.Common.{◌≡◌, ℕ, ◌<◌, ◌≤◌, ◌||◌, Bool, true, false, not, cond, List, [], ◌∷◌, ◌++◌, map, Option, None, Some, Result, Ok, Err, refl, sym, ap, ◌∙◌, subst, arith}
+use Rattle.std.proofs.Common.{◌≡◌, ℕ, ◌<◌, ◌||◌, Bool, true, false, not, List, [], ◌∷◌, ◌++◌, map, Option, None, Some, Result, Ok, Err, refl, sym, ap, ◌∙◌, subst, arith}
 use Rattle.std.specs.Prelude.{is_none, nat_le, slice_get}
 use Rattle.std.specs.List.{remove}
 use Rattle.std.specs.Option.{option_and_then, option_map_or}
@@ -29,19 +29,17 @@ use Rattle.window_items.specs.Items.{count_of, edit_at, items_of, place_among, s
 use Rattle.window_items.proofs.EditLemmas.{All-there}
 use Rattle.window_items.proofs.SerialLemmas.{apart_among}
 use Rattle.window_items.proofs.WindowLemmas.{items_of-edit_at, items_of-push, items_of-remove, slice_get-items_of}
-use Rattle.window_list.specs.declared.layer.Layer.{Layer}
 use Rattle.window_list.specs.Holders.{layer_index}
 use Rattle.window_list.specs.LayerChanges.{reshaped}
 use Rattle.vis_update.specs.Records.{WindowRecord}
 use Rattle.vis_update.specs.Relayings.{with_layers_of}
 use Rattle.window_mgr.specs.Finding.{record_with}
-use Rattle.window_mgr.specs.FullDesk.{FullDesk, FullState}
 use Rattle.window_mgr.specs.Refused.{is_missing}
 use Rattle.control_mgr.proofs.ControlBits.{at_serial}
 use Rattle.control_mgr.proofs.Places.{IsThere}
 use Rattle.control_mgr.proofs.Steps.{none_hold}
 use Rattle.text_mgr.specs.TextDesks.{IsTextDeskUnchanged, KeptText, TextDesk, TextsState, index_of, text_of}
-use Rattle.text_mgr.specs.TextLayers.{AreTextLayersOf, IsShapeOf, with_last, with_shape_of, without_part}
+use Rattle.text_mgr.specs.TextLayers.{AreTextLayersOf, IsShapeOf}
 use Rattle.text_mgr.specs.TextPlaces.{justification_of, may_stand_in, placing_of}
 use Rattle.text_mgr.specs.TextRefusals.{is_full, text_refusals}
 use Rattle.text_mgr.specs.TextSteps.{IsOpenedIf, IsScrapSet, IsSelected, IsTextDisposed, IsTextEdited, IsTextEffect, IsTextLaid, IsTextMade, IsTextShownAnew, IsTextStep}
@@ -51,7 +49,7 @@ use Rattle.text_mgr.proofs.Layered.{ItsLayer, its_layer, joined_more, joined_rem
 use Rattle.text_mgr.proofs.PlaceParts.{place_parts}
 use Rattle.text_mgr.proofs.Places.{found_names, found_window, one_there, text_there}
 use Rattle.text_mgr.proofs.SerialsStay.{found_item}
-use Rattle.text_mgr.proofs.Whole.{SameBox, box_is, whole_edited, whole_laid, whole_pushed, whole_removed}
+use Rattle.text_mgr.proofs.Whole.{SameBox, whole_edited, whole_laid, whole_pushed, whole_removed}
 
 not_false : (b : Bool) → not b ≡ false → b ≡ true
 not_false true e = refl

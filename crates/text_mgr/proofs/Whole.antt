@@ -1,19 +1,17 @@
 -- What holds of text records between calls holds where one of them is changed, put behind the others, or taken out.
-use Rattle.std.proofs.Common.{◌≡◌, ℕ, zero, suc, ◌<◌, ◌≤◌, ◌+◌, Bool, true, false, ◌==◌, ◌&&◌, cond, List, [], ◌∷◌, ◌++◌, length, map, Option, Some, None, refl, sym, ap, ◌∙◌, subst, arith, eqb-true}
+use Rattle.std.proofs.Common.{◌≡◌, ℕ, zero, suc, ◌<◌, ◌≤◌, Bool, true, false, ◌==◌, ◌&&◌, cond, List, [], ◌∷◌, ◌++◌, map, Some, refl, sym, ap, ◌∙◌, subst, arith, eqb-true}
 use Rattle.std.specs.Prelude.{All, slice_get}
 use Rattle.std.specs.List.{list_any, remove}
 use Rattle.std.proofs.lemmas.Bool.{and_parts, eq-eqb, false≢true}
 use Rattle.std.proofs.lemmas.List.Elements.{All-append, All-cons, All-map, All-nil, All-weaker}
-use Rattle.tb_geom.specs.declared.rect.Rect.{Rect}
 use Rattle.tb_geom.specs.Rects.{is_in_range, rect_holds}
-use Rattle.desk_call.specs.declared.text.TextCall.{TextCall}
 use Rattle.text_record.specs.Placings.{box_of}
 use Rattle.text_record.specs.Texts.{Record}
 use Rattle.window_items.specs.Items.{AreApart, are_before, is_before, count_of, edit_at, has_serial, is_in_at, items_of, serial_after, with_kept}
 use Rattle.window_items.proofs.EditLemmas.{All-edit, All-remove, All-there, any-edit, before-edit, count-edit}
 use Rattle.window_items.proofs.LawLemmas.{no_others, still_before}
-use Rattle.window_items.proofs.SerialLemmas.{apart-remove, apart_among, apart_more}
-use Rattle.window_items.proofs.WindowLemmas.{count_of-push, count_of-push_other, count_of-remove, count_of-remove_other, is_in_at-other, items_of-edit_at, items_of-edit_at_other, items_of-push, items_of-push_other, items_of-remove, items_of-remove_other, place_among-within, slice_get-items_of}
+use Rattle.window_items.proofs.SerialLemmas.{apart-remove, apart_more}
+use Rattle.window_items.proofs.WindowLemmas.{count_of-push, count_of-push_other, count_of-remove, count_of-remove_other, is_in_at-other, items_of-edit_at, items_of-edit_at_other, items_of-push_other, items_of-remove_other, slice_get-items_of}
 use Rattle.window_list.specs.declared.layer.Layer.{Layer}
 use Rattle.vis_update.specs.Records.{WindowRecord}
 use Rattle.vis_update.specs.Relayings.{with_layers_of}
@@ -22,7 +20,7 @@ use Rattle.control_mgr.proofs.Settled.{missing-layers}
 use Rattle.text_mgr.specs.TextDesks.{KeptText, TextsState}
 use Rattle.text_mgr.specs.TextLayers.{AreTextLayersOf, IsLayerOf}
 use Rattle.text_mgr.specs.TextRefusals.{most_texts}
-use Rattle.text_mgr.specs.WholeTexts.{AreBoxesInRange, AreWholeTexts}
+use Rattle.text_mgr.specs.WholeTexts.{AreWholeTexts}
 use Rattle.text_mgr.proofs.Layered.{zip_edit}
 
 -- ---- one text record

@@ -1,5 +1,5 @@
 -- A text record that was lent, and is written.
-use Rattle.std.proofs.Common.{◌≡◌, ℕ, zero, suc, ◌<◌, Bool, true, List, [], ◌∷◌, length, arith, refl, sym, ap, ◌∙◌, subst}
+use Rattle.std.proofs.Common.{◌≡◌, ℕ, zero, suc, ◌<◌, Bool, true, List, [], ◌∷◌, length, arith, ap, ◌∙◌}
 use Rattle.std.specs.Prelude.{IfSome, slice_get, if◌then◌else◌}
 use Rattle.text_record.specs.declared.placing.Placing.{Placing}
 use Rattle.text_record.specs.Changes.{placed, shown_as}

@@ -9,11 +9,7 @@ use tb_geom::{Point, Refusal};
 use watched_io::WatchedWriter;
 
 /// What a line of at most 100 bytes asks about text records in a script of this version, which is read from the room.
-fn asked<'a>(
-    version: i32,
-    room: &'a mut [u8; 100],
-    line: &[u8],
-) -> Result<TextCall<'a>, Refusal> {
+fn asked<'a>(version: i32, room: &'a mut [u8; 100], line: &[u8]) -> Result<TextCall<'a>, Refusal> {
     let Some(bytes) = room.get_mut(..line.len()) else {
         return Err(Refusal::TooLong);
     };
@@ -202,7 +198,10 @@ fn a_reply_about_text_records_is_one_line(rt: HostRuntime) -> Result<(), Fail> {
         (TextReply::Opened(true), b"ok 1\n"),
         (TextReply::Opened(false), b"ok 0\n"),
         (TextReply::Offsets(3, 65535), b"ok 3 65535\n"),
-        (TextReply::Info(info), b"ok 1 32000 1 0 32000 32001 -16777216 7\n"),
+        (
+            TextReply::Info(info),
+            b"ok 1 32000 1 0 32000 32001 -16777216 7\n",
+        ),
         (TextReply::Place(place), b"ok -2147483648 2147483647\n"),
         (TextReply::Offset(9), b"ok 9\n"),
         (TextReply::Width(4294967295), b"ok 4294967295\n"),

@@ -81,6 +81,28 @@ static void refusals_are_numbers(void)
     WANT("a status", desk_close(desk) == 0);
 }
 
+/* Bytes that a text has no sign for are hex digits, in a line and in an answer. */
+static void texts_are_edited(void)
+{
+    desk_session *desk = desk_open(program, NULL);
+    WANT("a desk", desk != NULL);
+    answered(desk, "version 3", DESK_OK, "ok");
+    answered(desk, "desk 64 32 0", DESK_OK, "ok");
+    answered(desk, "window plain 1 1 60 28 1 0 \"\"", DESK_OK, "ok 1");
+    answered(desk, "tget 1 1", 21, "refused 21 NoSuchText");
+    answered(desk, "text 1 2 2 50 2 2 50 20 0 1", DESK_OK, "ok 1");
+    answered(desk, "tset 1 1 610D62", DESK_OK, "ok");
+    answered(desk, "tkey 1 1 99", DESK_OK, "ok");
+    answered(desk, "tget 1 1", DESK_OK, "ok 610D6263");
+    answered(desk, "tinfo 1 1", DESK_OK, "ok 4 4 0 1 4 2 2 2");
+    answered(desk, "tclick 1 1 4 15 2", DESK_OK, "ok 1");
+    answered(desk, "tcut 1 1", 11, "refused 11 Busy");
+    answered(desk, "tend 4 15", DESK_OK, "ok 2 4");
+    answered(desk, "tcut 1 1", DESK_OK, "ok");
+    answered(desk, "scrap", DESK_OK, "ok \"bc\"");
+    WANT("a status", desk_close(desk) == 0);
+}
+
 static void what_has_no_answer_is_not_given(void)
 {
     static const char *const lines[] = {"", "\r", "# desk", "find 1 1\nfind 2 2", "\n"};
@@ -303,6 +325,7 @@ static const struct {
 } tests[] = {
     TEST(lines_are_answered),
     TEST(refusals_are_numbers),
+    TEST(texts_are_edited),
     TEST(what_has_no_answer_is_not_given),
     TEST(an_answer_may_be_the_next_line),
     TEST(the_screen_has_its_pixels),

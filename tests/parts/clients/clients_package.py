@@ -40,10 +40,14 @@ def its_text_names_what_it_has(_):
     same("those of resources", sorted(NAMED.findall(text)), sorted({it.removesuffix(".py") for it in files} - {"__init__"}))
 
 
-def the_program_of_the_page_prints_what_it_has_to(place):
-    program, due, *_ = blocks()
-    python = python_with("sys")
-    same("what it prints", place.succeeds(python, "-c", program, PYTHONPATH=tree_over(place)), due)
+def the_programs_of_the_page_print_what_they_have_to(place):
+    """Behind each of them stands what it prints."""
+    its = blocks()
+    found = [pair for pair in zip(its, its[1:]) if pair[0].startswith("from desk_kit import Desk\n")]
+    python, tree = python_with("sys"), tree_over(place)
+    same("the programs", len(found), 2)
+    for program, due in found:
+        same("what it prints", place.succeeds(python, "-c", program, PYTHONPATH=tree), due)
 
 
 def the_test_of_the_page_passes(place):
@@ -96,7 +100,7 @@ def it_is_installed_by_pip(place):
 
 TESTS = [
     its_text_names_what_it_has,
-    the_program_of_the_page_prints_what_it_has_to,
+    the_programs_of_the_page_print_what_they_have_to,
     the_test_of_the_page_passes,
     it_is_described_as_it_is,
     it_is_installed_by_pip,

@@ -47,6 +47,28 @@ def lines_are_answered(place):
         same("the program", (desk.program, desk.is_proved), (place.program, None))
 
 
+def texts_are_edited(place):
+    """Bytes that a text has no sign for are hex digits, in a line and in an answer."""
+    wanted = {
+        "version 3": "ok",
+        "desk 64 32 0": "ok",
+        'window plain 1 1 60 28 1 0 ""': "ok 1",
+        "text 1 2 2 50 2 2 50 20 0 1": "ok 1",
+        "tset 1 1 610D62": "ok",
+        "tkey 1 1 99": "ok",
+        "tget 1 1": "ok 610D6263",
+        "tinfo 1 1": "ok 4 4 0 1 4 2 2 2",
+        "tclick 1 1 4 15 2": "ok 1",
+        "tend 4 15": "ok 2 4",
+        "tcut 1 1": "ok",
+        "scrap": 'ok "bc"',
+    }
+    with Desk(place.program) as desk:
+        for line, answer in wanted.items():
+            same(line, desk.ask(line), answer)
+        refused("another record", ("tget 1 2", 21, "NoSuchText"), desk.ask, "tget 1 2", raises=True)
+
+
 def a_refusal_is_an_exception_where_that_is_asked_for(place):
     wanted = ("close 7", 2, "NoSuchWindow")
     with Desk(place.program, raises=True) as desk:
@@ -156,6 +178,7 @@ def the_program_is_named_or_found(place):
 
 TESTS = [
     lines_are_answered,
+    texts_are_edited,
     a_refusal_is_an_exception_where_that_is_asked_for,
     the_screen_is_rows_and_a_picture,
     screens_of_all_sizes_are_whole,

@@ -62,6 +62,28 @@ move 1 40 64 0
 image
 """
 
+# A text in which a caret blinks; what is recorded of a time without anything else, up to a key and up to an image.
+BLINKING = b"""\
+version 3
+desk 100 40 0
+window plain 10 10 80 20 1 0 ""
+text 1 4 4 72 4 4 72 12 0 1
+tactive 1 1 1
+"""
+BLINKED = b"""\
+flush 65535 0
+next 65535
+next 65535
+update 1
+tidle 1 1 120
+post 3 97 150 5 5 128
+next 65535
+tkey 1 1 97
+tview 1 1
+tidle 1 1 60
+image
+"""
+
 SHOWN = b"""\
 # A desk
 desk 8 8 0
@@ -111,6 +133,24 @@ def a_drag_is_recorded_with_each_step_of_its_outline(program, folder):
         loop.record_image()
     same("what is said", loop.status, "Image 2 is recorded")
     same("a drag", read(path), SCRIPT + b"image\n" + BEGINS + DRAGGED)
+
+
+def of_a_caret_that_blinks_the_last_line_is_recorded(program, folder):
+    path, seconds = os.path.join(folder, "it.desk"), [0.0]
+    with Kept([program]) as desk:
+        loop = EventLoop(desk, lambda: seconds[0], Recording(path))
+        loop.run_script(BLINKING)
+        for seconds[0] in (0.6, 0.7, 1.2, 2, 2.1):
+            loop.time_passed()
+        seconds[0] = 2.5
+        loop.key_down(97, 5, 5)
+        for seconds[0] in (2.6, 3.5):
+            loop.time_passed()
+        loop.record_image()
+        same("what is told", [line for line in desk.asked if line.startswith("tidle")], [
+            "tidle 1 1 36", "tidle 1 1 72", "tidle 1 1 120", "tidle 1 1 60",
+        ])  # fmt: skip
+    same("the script", read(path), BLINKING + BLINKED)
 
 
 def what_is_refused_is_not_recorded(program, folder):
@@ -228,6 +268,7 @@ def words_that_exclude_each_other_are_told(program, folder):
 TESTS = [
     what_changes_something_is_recorded,
     a_drag_is_recorded_with_each_step_of_its_outline,
+    of_a_caret_that_blinks_the_last_line_is_recorded,
     what_is_refused_is_not_recorded,
     without_a_recording_there_is_none,
     a_recording_that_cannot_be_written_is_a_fault,

@@ -40,14 +40,17 @@ LOOK = """(async () => {
 })()"""
 SIGNS = {0: "1", 255: "0"}
 WIDTH, HEIGHT = 240, 160
-# The script of view_window.py, with a menu less.
+# The script of view_window.py, with a menu less, and with a text in the first window: its first byte begins in column 19 of the
+# screen, and its line has the rows 92 to 101.
 SCRIPT = f"""\
+version 3
 desk {WIDTH} {HEIGHT} 20
 menu 1 "File"
 mappend 1 "New/N;Close/W;-;Quit/Q"
 minsert 1 0
 window document 10 44 90 60 1 1 "One"
 draw 1 fill 8 8 60 40 patCopy ltGray
+text 1 8 48 60 8 48 60 10 0 1
 window nogrow 60 70 140 70 1 1 "Two"
 control 2 check 8 6 60 14 1 0 1 0 "Grid"
 control 2 button 8 40 60 18 1 0 1 0 "OK"
@@ -265,6 +268,32 @@ def keys_stand_for_items(page):
     page.browser.says("Key 28")
 
 
+def a_text_is_typed_and_selected(page):
+    page.browser.drag((60, 96))
+    page.browser.says("Text record 1, the caret is at offset 0")
+    for key, code in (("w", 87), ("o", 79), (" ", 32), ("x", 88), ("Backspace", 8), ("d", 68)):
+        page.browser.key(key, code)
+    page.browser.says("Key d, for text record 1")
+    page.shows_the_screen()
+    page.browser.drag((46, 96), (30, 97), (25, 96))
+    page.browser.says("Text record 1, selected from offset 1 to 4")
+    page.shows_the_screen()
+
+
+def a_double_click_takes_a_word(page):
+    """On a busy machine the second click may come too late: then there is another pair."""
+
+    def look():
+        page.browser.drag((22, 96))
+        page.browser.drag((22, 96))
+        time.sleep(SETTLED)
+        said = page.browser.value("document.getElementById('status').textContent")
+        return said == "Text record 1, selected from offset 0 to 2"
+
+    at_last(look, "a word that is selected")
+    page.shows_the_screen()
+
+
 def a_key_records_an_image_and_the_page_stays(page):
     page.browser.value("window.mark = 7")
     page.browser.key("F5", 116)
@@ -327,6 +356,8 @@ TESTS = [
     a_drag_that_ends_beside_the_screen_ends,
     keys_stand_for_items,
     a_narrow_page_shows_the_mean_of_squares,
+    a_text_is_typed_and_selected,
+    a_double_click_takes_a_word,
     a_key_records_an_image_and_the_page_stays,
     another_page_tells_nothing,
 ]

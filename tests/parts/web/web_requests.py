@@ -24,6 +24,13 @@ window document 10 44 90 60 1 1 "One"
 window zoom 60 70 100 60 1 1 "Two"
 control 2 scroll 20 6 16 50 1 0 3 0 ""
 """
+# Bytes are 6 columns wide, and the first one of the text begins in column 9 of the screen; its line has the rows 8 to 17.
+TEXT = """\
+version 3
+desk 80 40 0
+window plain 4 4 70 30 1 0 ""
+text 1 4 4 60 4 4 60 20 0 1
+"""
 EMPTY = "desk 8 8 0\n"
 FRAME = 'desk 8 8 0\nwindow plain 1 1 6 6 1 0 ""\n'
 WIDE = "desk 12 8 0\n"
@@ -102,6 +109,30 @@ def keys_have_their_codes(served):
     ):
         words = [key, is_on_keypad, 5, 30, modifiers]
         same(key, served.says(["keydown", *words], ["keyup", *words]), said)
+
+
+def a_text_is_typed_and_selected(served):
+    click = [["down", 40, 12, 0], ["up", 40, 12, 0]]
+    same("a click", served.says(*click), "Text record 1, the caret is at offset 0")
+    keys = [[kind, key, False, 5, 5, 0] for key in ("a", "b", " ", "c", "Backspace", "d") for kind in ("keydown", "keyup")]
+    same("keys", served.says(*keys), "Key d, for text record 1")
+    dragged = [["down", 9, 12, 512], ["move", 20, 12], ["up", 15, 12, 512]]
+    same("the Shift key", served.says(*dragged), "Text record 1, selected from offset 1 to 4")
+    same("two clicks", served.says(*click, *click), "Text record 1, selected from offset 3 to 4")
+    with open(served.recorded) as file:
+        lines = file.read().split("\n")
+    told = [line for line in lines if line.startswith(("tkey", "tclick", "tend"))]
+    same("what is recorded", told, [
+        "tclick 1 1 36 8 0", "tend 36 8", "tkey 1 1 97", "tkey 1 1 98", "tkey 1 1 32", "tkey 1 1 99", "tkey 1 1 8", "tkey 1 1 100",
+        "tclick 1 1 5 8 1", "tend 11 8", "tclick 1 1 36 8 0", "tend 36 8", "tclick 1 1 36 8 2", "tend 36 8",
+    ])  # fmt: skip
+
+
+def a_page_is_told_where_something_blinks(served):
+    same("before", "blinks" in served.tell(TIME), False)
+    same("with a caret", served.tell(["down", 40, 12, 0], ["up", 40, 12, 0])["blinks"], True)
+    versions = set()
+    eventually(lambda: versions.add(served.tell(TIME)["version"]) or len(versions) > 2, "a caret that blinks")
 
 
 def an_image_is_recorded(served):
@@ -214,6 +245,8 @@ TESTS = {
     a_window_is_dragged: SCRIPT,
     a_box_that_is_held_goes_on: SCRIPT,
     keys_have_their_codes: SCRIPT,
+    a_text_is_typed_and_selected: TEXT,
+    a_page_is_told_where_something_blinks: TEXT,
     an_image_is_recorded: SCRIPT,
     only_the_loopback_address_is_served: EMPTY,
     without_the_token_there_is_nothing: SCRIPT,

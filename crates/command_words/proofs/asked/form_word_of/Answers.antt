@@ -1,7 +1,7 @@
 use Rattle.std.proofs.Common.{ap, sym, ◌∙◌}
 use Rattle.std.specs.Prelude.{option_map}
 use Rattle.command_words.specs.declared.asked.AskedWord.TheVariants.{Form}
-use Rattle.command_words.specs.Forms.{drawn_forms}
+use Rattle.form_words.specs.Forms.{drawn_forms}
 use Rattle.command_words.proofs.NamedLemmas.{named-map}
 use Rattle.command_words.proofs.asked.form_word_of.Goals as goal
 

@@ -1,7 +1,7 @@
 use Rattle.std.proofs.Common.{ap, sym, ◌∙◌}
 use Rattle.std.specs.Prelude.{option_map}
 use Rattle.command_words.specs.declared.operation.Operation.TheVariants.{Form}
-use Rattle.command_words.specs.Forms.{drawn_forms}
+use Rattle.form_words.specs.Forms.{drawn_forms}
 use Rattle.command_words.proofs.NamedLemmas.{named-map}
 use Rattle.command_words.proofs.operation.form_operation_of.Goals as goal
 

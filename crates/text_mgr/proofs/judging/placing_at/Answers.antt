@@ -1,4 +1,4 @@
-use Rattle.std.proofs.Common.{rules, ◌≡◌, Bool, true, false, SFits, w32, sym, ap, ◌∙◌}
+use Rattle.std.proofs.Common.{rules, ◌≡◌, true, false, SFits, w32, sym, ap, ◌∙◌}
 use Rattle.std.specs.Result.{is_ok}
 use Rattle.std.proofs.lemmas.Int.{to_z-of_z}
 use Rattle.tb_geom.specs.declared.rect.Rect.{Rect}

@@ -1,4 +1,4 @@
-use Rattle.std.proofs.Common.{rules, ◌≡◌, ◌≤ℤ◌, ◌+ℤ◌, ℤ, pos, nat_abs, FitsSigned, SFits, w32, false, true, ◌∙◌, sym}
+use Rattle.std.proofs.Common.{rules, ◌≡◌, ◌≤ℤ◌, ◌+ℤ◌, pos, nat_abs, FitsSigned, SFits, w32, false, true, ◌∙◌, sym}
 use Rattle.std.proofs.lemmas.Int.{to_z-of_z}
 use Rattle.text_record.specs.Placings.{is_placing}
 use Rattle.text_mgr.proofs.PlaceParts.{below_zero, fits_small, from_test, none_stands, placed, too_wide}

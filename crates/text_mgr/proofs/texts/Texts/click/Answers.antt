@@ -1,4 +1,4 @@
-use Rattle.std.proofs.Common.{rules, ◌≡◌, Err, SFits, w32, sym, ◌∙◌}
+use Rattle.std.proofs.Common.{rules, SFits, w32, sym, ◌∙◌}
 use Rattle.std.proofs.lemmas.Int.{to_z-of_z}
 use Rattle.text_edits.specs.Selecting.{extended_to}
 use Rattle.text_mgr.specs.Spots.{opened}

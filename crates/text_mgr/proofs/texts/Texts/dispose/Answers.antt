@@ -1,4 +1,4 @@
-use Rattle.std.proofs.Common.{◌≡◌, rules, get_or, refl, sym, ap, ◌∙◌, subst}
+use Rattle.std.proofs.Common.{rules, get_or, refl, sym, ap, ◌∙◌}
 use Rattle.window_mgr.proofs.Remarked.{area_there}
 use Rattle.text_mgr.specs.declared.texts.Texts.{Texts}
 use Rattle.text_mgr.proofs.Disposed.{disposed, found_at, left_apart, left_planned, may_be_left, out_apart}

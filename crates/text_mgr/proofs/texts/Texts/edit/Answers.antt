@@ -1,4 +1,4 @@
-use Rattle.std.proofs.Common.{◌≡◌, rules, Err, refl, sym, ap, ◌∙◌}
+use Rattle.std.proofs.Common.{rules, refl}
 use Rattle.window_items.specs.Lends.{with_value}
 use Rattle.text_mgr.specs.declared.texts.Texts.{Texts}
 use Rattle.text_mgr.specs.CallEdits.{edited}

@@ -1,4 +1,4 @@
-use Rattle.std.proofs.Common.{◌≡◌, refl, sym, ap, ◌∙◌}
+use Rattle.std.proofs.Common.{sym, ◌∙◌}
 use Rattle.text_edits.specs.Selecting.{extended_to}
 use Rattle.text_mgr.specs.Spots.{opened}
 use Rattle.text_mgr.proofs.Clicks.{end_outside, let_go}

@@ -1,4 +1,4 @@
-use Rattle.std.proofs.Common.{◌≡◌, refl}
+use Rattle.std.proofs.Common.{refl}
 use Rattle.text_edits.specs.Selecting.{extended_to}
 use Rattle.window_items.specs.Lends.{with_value}
 use Rattle.text_mgr.specs.declared.texts.Texts.{Texts}

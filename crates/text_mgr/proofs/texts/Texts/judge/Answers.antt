@@ -1,7 +1,7 @@
-use Rattle.std.proofs.Common.{rules, ◌≡◌, ◌<◌, ◌≤◌, true, false, get_or, Some, None, sym, ap, ◌∙◌, subst, SFits, w32}
+use Rattle.std.proofs.Common.{rules, ◌<◌, ◌≤◌, false, get_or, sym, ap, ◌∙◌, subst, SFits, w32}
 use Rattle.std.proofs.lemmas.Int.{to_z-of_z}
 use Rattle.control_mgr.proofs.Lays.{one_item}
-use Rattle.text_mgr.specs.TextPlaces.{justification_of, may_stand_at, placing_of}
+use Rattle.text_mgr.specs.TextPlaces.{may_stand_at, placing_of}
 use Rattle.text_mgr.proofs.NewJudged.{allowed, bad_justification, is_given, many, not_allowed, no_serial, out_of_place}
 use Rattle.text_mgr.proofs.texts.Texts.judge.Goals as goal
 

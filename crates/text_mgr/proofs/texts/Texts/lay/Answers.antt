@@ -1,9 +1,7 @@
-use Rattle.std.proofs.Common.{◌≡◌, rules, get_or, refl, sym, ap, ◌∙◌, subst}
+use Rattle.std.proofs.Common.{rules, get_or, refl, sym, ap, ◌∙◌}
 use Rattle.text_record.specs.Placings.{box_of, is_placing}
-use Rattle.window_list.specs.LayerChanges.{reshaped}
 use Rattle.window_mgr.proofs.Remarked.{area_there}
 use Rattle.control_mgr.proofs.LaidSo.{has_now}
-use Rattle.control_mgr.proofs.Lays.{one_item}
 use Rattle.text_mgr.proofs.LaysSo.{after_laying, before_laying, found_at, in_range, laid_so, may_be_put, may_place}
 use Rattle.text_mgr.proofs.texts.Texts.lay.Goals as goal
 

@@ -1,4 +1,4 @@
-use Rattle.std.proofs.Common.{rules, ◌≡◌, Err, get_or, refl, sym, ap, ◌∙◌, subst}
+use Rattle.std.proofs.Common.{rules, get_or, sym, ap, ◌∙◌, subst}
 use Rattle.std.specs.Prelude.{IfSome}
 use Rattle.text_mgr.specs.Laying.{IsLieOf}
 use Rattle.text_mgr.specs.TextPlaces.{may_stand_at, placing_of}

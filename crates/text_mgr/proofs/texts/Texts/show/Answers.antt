@@ -1,4 +1,4 @@
-use Rattle.std.proofs.Common.{rules, ◌≡◌, Err, refl, sym, ap, ◌∙◌, subst}
+use Rattle.std.proofs.Common.{rules, refl, subst}
 use Rattle.std.specs.Prelude.{IfSome}
 use Rattle.text_mgr.specs.Laying.{IsLieOf}
 use Rattle.text_mgr.proofs.LaidSteps.{shown_by, shown_missing}

@@ -1,6 +1,6 @@
-use Rattle.std.proofs.Common.{◌≡◌, rules, get_or, sym, ap, ◌∙◌}
+use Rattle.std.proofs.Common.{rules, get_or, sym, ap, ◌∙◌}
 use Rattle.text_mgr.proofs.Reshown.{alone}
-use Rattle.text_mgr.proofs.Shown.{drawn_anew, found_at, index_low}
+use Rattle.text_mgr.proofs.Shown.{drawn_anew, found_at}
 use Rattle.text_mgr.proofs.texts.Texts.show_anew.Goals as goal
 
 pub unwrap-layer-requires : goal.unwrap-layer-requires

@@ -1,4 +1,4 @@
-use Rattle.std.proofs.Common.{◌≡◌, refl, sym, ap, ◌∙◌}
+use Rattle.std.proofs.Common.{sym, ◌∙◌}
 use Rattle.desk_call.specs.declared.activity.Activity.TheVariants.{Selecting}
 use Rattle.text_edits.specs.Selecting.{extended_to}
 use Rattle.text_mgr.specs.Spots.{opened}

@@ -11,9 +11,9 @@ use Rattle.lent_ops.specs.declared.form_ref.PenRef.{PenRef}
 use Rattle.lent_ops.specs.Points.{are_points}
 use Rattle.line_words.specs.Words.{◌>>=◌, Field, hex_at, number_at, point_at, rect_at}
 use Rattle.line_words.specs.Shapes.{Shape, never, number, point, rect, reading}
-use Rattle.command_words.specs.declared.forms.FormWord.{FormWord}
-use Rattle.command_words.specs.declared.forms.FormWord.TheVariants as words
-use Rattle.command_words.specs.Forms.{angles, corner, pen, points, form_shape, angles_at, corner_at, pen_at, points_at, form_at}
+use Rattle.form_words.specs.declared.forms.FormWord.{FormWord}
+use Rattle.form_words.specs.declared.forms.FormWord.TheVariants as words
+use Rattle.form_words.specs.Forms.{angles, corner, pen, points, form_shape, angles_at, corner_at, pen_at, points_at, form_at}
 
 -- what follows a word is read after the word and all that belongs to it, or after the word alone
 field_then : {A B C : Type 0} (w : Field C) (shape : C → Shape A) (rest_at : C → Option (List ℕ) → Field B) (next : B → Shape A)

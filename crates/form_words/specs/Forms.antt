@@ -9,8 +9,8 @@ use Rattle.lent_ops.specs.declared.form_ref.PenRef.{PenRef}
 use Rattle.lent_ops.specs.Points.{are_points}
 use Rattle.line_words.specs.Words.{◌>>=◌, Field, hex_at, number_at, point_at, rect_at}
 use Rattle.line_words.specs.Shapes.{Shape, hex, never, number, point, rect}
-use Rattle.command_words.specs.declared.forms.FormWord.{FormWord}
-use Rattle.command_words.specs.declared.forms.FormWord.TheVariants as words
+use Rattle.form_words.specs.declared.forms.FormWord.{FormWord}
+use Rattle.form_words.specs.declared.forms.FormWord.TheVariants as words
 
 -- width height, of a corner
 abbrev pub corner : {A : Type 0} → (CornerRef → Shape A) → Shape A

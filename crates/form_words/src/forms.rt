@@ -1,14 +1,14 @@
 //! The words of forms: shapes that are painted or framed, and lines.
 ghost use Rattle.std.specs.Prelude.{◌≡◌};
 ghost use Rattle.line_words.specs.Tables.{named};
-ghost use Rattle.command_words.specs.Forms.{angles_at, corner_at, pen_at, points_at, form_at, drawn_forms};
+ghost use Rattle.form_words.specs.Forms.{angles_at, corner_at, pen_at, points_at, form_at, drawn_forms};
 
 use lent_ops::{AnglesRef, CornerRef, FormRef, PenRef, are_points};
 use line_words::{Words, named};
 use tb_geom::{BytesRef, Refusal};
 
 /// The name of a form. It says which words follow.
-#[derive(Clone, Copy, Debug, PartialEq, Eq)]
+#[derive(Clone, Copy)]
 pub enum FormWord {
     Rect,
     Round,
@@ -144,7 +144,7 @@ fn corner<'a>(words: Words<'a>) -> Result<(CornerRef, Words<'a>), Refusal>
 }
 
 /// The width and height of a pen, and the words after them.
-pub(crate) fn pen<'a>(words: Words<'a>) -> Result<(PenRef, Words<'a>), Refusal>
+pub fn pen<'a>(words: Words<'a>) -> Result<(PenRef, Words<'a>), Refusal>
     ensures { result ≡ pen_at words.entry }
 {
     let (width, words) = words.number()?;
