@@ -1,10 +1,11 @@
 -- A text record that is made: its layer behind all others of its window, the plan, and the step.
 use Rattle.std.proofs.lemmas.Bool.{and_parts}
 use Rattle.std.specs.Prelude.{pos, int_le}
-use Rattle.std.proofs.Common.{◌≡◌, ℕ, ◌<◌, ◌≤◌, true, false, List, length, get_or, Option, Some, refl, sym, ap, ◌∙◌, subst, arith}
+use Rattle.std.proofs.Common.{◌≡◌, ℕ, ◌<◌, ◌≤◌, Bool, true, false, List, length, get_or, Option, Some, refl, sym, ap, ◌∙◌, subst, arith}
 use Rattle.std.specs.Prelude.{All}
 use Rattle.std.specs.List.{insert, list_any}
 use Rattle.tb_geom.specs.declared.point.Point.{Point}
+use Rattle.tb_geom.specs.declared.rect.Rect.{Rect}
 use Rattle.tb_geom.specs.Points.{minus}
 use Rattle.tb_geom.specs.Pixels.{holds}
 use Rattle.tb_geom.specs.Rects.{is_in_range, moved_rect, rect_holds}
@@ -51,16 +52,16 @@ use Rattle.text_mgr.proofs.PlaceParts.{MayStand, place_parts}
 -- ---- one more layer, planned
 
 -- a ticket's record may stand so
-pub ticket_placing : {V : Type 0} {H : V → Type 0} (n : NewText) (t : WindowManager V H) (m : Texts) (k : Ticket) → IsTicket n t m k → is_placing false k.placing ≡ true
-ticket_placing n t m k ticket =
+pub ticket_placing : {V : Type 0} {H : V → Type 0} (n : NewText) (framed : Bool) (t : WindowManager V H) (m : Texts) (k : Ticket) → IsTicket n framed t m k → is_placing framed k.placing ≡ true
+ticket_placing n framed t m k ticket =
     let its = there_is t.windows.records.items k.window ticket.window.0 in
     let w = its.item in
     let lies : IsWindowAt t.windows.records.items k.window w = read_is t.windows.records.items k.window w its.there in
-    ap (is_placing false) ticket.placing
-    ∙ (and_parts (int_le (pos 0) n.place.width) (is_placing false (placing_of n.place)) (and_parts (may_stand false n.place) _ (ticket.placed w lies)).0).1
+    ap (is_placing framed) ticket.placing
+    ∙ (and_parts (int_le (pos 0) n.place.width) (is_placing framed (placing_of n.place)) (and_parts (may_stand framed n.place) _ (ticket.placed w lies)).0).1
 
-module _ {V : Type 0} {H : V → Type 0} (loan : TakenBox V H → WindowLoan) (n : NewText) (t : WindowManager V H) (m : Texts) (k : Ticket) (kept : IsKept loan t) (beside : AreBeside loan t m)
-    (ticket : IsTicket n t m k) (made : Record) (w : Window V H) (lies : IsWindowAt t.windows.records.items k.window w) where
+module _ {V : Type 0} {H : V → Type 0} (loan : TakenBox V H → WindowLoan) (n : NewText) (framed : Bool) (t : WindowManager V H) (m : Texts) (k : Ticket) (kept : IsKept loan t) (beside : AreBeside loan t m)
+    (ticket : IsTicket n framed t m k) (made : Record) (w : Window V H) (lies : IsWindowAt t.windows.records.items k.window w) where
   abbrev ts : List KeptText
   ts = m.list.items.items
 
@@ -70,14 +71,17 @@ module _ {V : Type 0} {H : V → Type 0} (loan : TakenBox V H → WindowLoan) (n
   there : w.layers.place ≡ w.place
   there = contents.layers_there loan t kept.slots kept.whole k.window ticket.window.0 w lies (λ font q p. false)
 
-  parts : MayStand false n.place w.place
-  parts = place_parts false n.place w.place (ticket.placed w lies)
+  parts : MayStand framed n.place w.place
+  parts = place_parts framed n.place w.place (ticket.placed w lies)
 
   view_is : k.placing.view ≡ view_of n.place
   view_is = ap (λ (p : Placing). p.view) ticket.placing
 
-  pub view_in_range : is_in_range k.placing.view ≡ true
-  view_in_range = ap is_in_range view_is ∙ parts.inside
+  abbrev box : Rect
+  box = box_of framed k.placing.view
+
+  pub box_inside : is_in_range box ≡ true
+  box_inside = ap (λ v. is_in_range (box_of framed v)) view_is ∙ parts.inside
 
   joined : AreTextLayersOf (items_of n.window ts) w.layers.layers
   joined =
@@ -90,29 +94,29 @@ module _ {V : Type 0} {H : V → Type 0} (loan : TakenBox V H → WindowLoan) (n
   unnamed : All (λ l. same_part l.part (part.Text k.serial) ≡ false) w.layers.layers
   unnamed = none_named k.serial w.layers.layers (items_of n.window ts) joined (none_in_window k.serial n.window ts unused)
 
-  module _ (shape : LayerShape) (shaped : IsBoxShape k.placing.view true shape) where
+  module _ (shape : LayerShape) (shaped : IsBoxShape box true shape) where
     abbrev pub own : Layer
     own = record { part = part.Text k.serial; shown = shape.shown; region = shape.region; bounds = shape.bounds }
 
     own_fits : fits_at w.layers.place own ≡ true
-    own_fits = (λ i. is_in_range (moved_rect (shaped.bounds i) (there i).h (there i).v)) ∙ ap (λ b. is_in_range (moved_rect b w.place.h w.place.v)) view_is ∙ parts.on_screen
+    own_fits = (λ i. is_in_range (moved_rect (shaped.bounds i) (there i).h (there i).v)) ∙ ap (λ v. is_in_range (moved_rect (box_of framed v) w.place.h w.place.v)) view_is ∙ parts.on_screen
 
     pub own_lies : IsLayerAt w.layers.place own
     own_lies = record {
       boxed = λ p held. (λ i. rect_holds (shaped.bounds i) p) ∙ sym (shaped.region p) ∙ held;
-      inside = ap is_in_range shaped.bounds ∙ view_in_range;
+      inside = ap is_in_range shaped.bounds ∙ box_inside;
       fits = own_fits;
     }
 
-    pub own_is : (x : KeptText) → x.serial ≡ k.serial → x.kept.shown ≡ true → x.kept.framed ≡ false → x.kept.view ≡ k.placing.view → IsLayerOf x own
-    own_is x serial shown framed view =
-        let box : box_of x.kept.framed x.kept.view ≡ k.placing.view = (λ i. box_of (framed i) x.kept.view) ∙ view in
+    pub own_is : (x : KeptText) → x.serial ≡ k.serial → x.kept.shown ≡ true → x.kept.framed ≡ framed → x.kept.view ≡ k.placing.view → IsLayerOf x own
+    own_is x serial shown frame view =
+        let same : box_of x.kept.framed x.kept.view ≡ box = λ i. box_of (frame i) (view i) in
         record {
           part = ap (λ s. part.Text s) (sym serial);
           shape = record {
             shown = shaped.shown ∙ sym shown;
-            region = λ p. shaped.region p ∙ (λ i. rect_holds (sym box i) p);
-            bounds = shaped.bounds ∙ sym box;
+            region = λ p. shaped.region p ∙ (λ i. rect_holds (sym same i) p);
+            bounds = shaped.bounds ∙ sym same;
           };
         }
 

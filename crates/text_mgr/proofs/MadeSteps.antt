@@ -1,16 +1,15 @@
 -- A text record that was put behind the others, and drawn, as planned.
-use Rattle.std.proofs.Common.{◌≡◌, ◌<◌, ◌≤◌, true, false, List, [], ◌∷◌, ◌++◌, length, get_or, map, Option, Some, refl, sym, ap, ◌∙◌, subst, arith}
+use Rattle.std.proofs.Common.{◌≡◌, ◌<◌, ◌≤◌, Bool, true, false, List, [], ◌∷◌, ◌++◌, length, get_or, map, Option, Some, refl, sym, ap, ◌∙◌, subst, arith}
 use Rattle.std.specs.Prelude.{is_none}
 use Rattle.std.specs.List.{insert}
 use Rattle.std.proofs.lemmas.List.Edits.{get_or-insert_at}
-use Rattle.tb_geom.specs.Rects.{is_in_range}
 use Rattle.desk_layers.specs.declared.part.Part.{Part}
 use Rattle.desk_layers.specs.declared.part.Part.TheVariants as part
 use Rattle.desk_layers.proofs.Owning.{same_number}
 use Rattle.def_iface.specs.Slots.{TakenBox}
 use Rattle.def_iface.specs.WindowMeaning.{WindowLoan}
 use Rattle.desk_call.specs.declared.text.NewText.{NewText}
-use Rattle.text_record.specs.Placings.{box_of}
+use Rattle.text_record.specs.Texts.{Record}
 use Rattle.window_items.specs.Items.{count_of, items_of, serial_after}
 use Rattle.window_items.proofs.WindowLemmas.{items_of-push}
 use Rattle.window_list.specs.declared.layer.Layer.{Layer}
@@ -31,16 +30,15 @@ use Rattle.text_mgr.specs.declared.texts.Texts.{Texts}
 use Rattle.text_mgr.specs.Making.{IsAddition}
 use Rattle.text_mgr.specs.TextDesks.{KeptText, texts_show}
 use Rattle.text_mgr.specs.TextLayers.{AreTextLayersOf, with_last}
-use Rattle.text_mgr.specs.TextSteps.{IsTextMade}
+use Rattle.text_mgr.specs.TextSteps.{IsTextMadeAs}
 use Rattle.text_mgr.specs.WholeTexts.{AreWholeTexts, LeavesTexts, texts_state}
 use Rattle.text_mgr.proofs.NewJudged.{window_is}
 use Rattle.text_mgr.proofs.Layered.{inserted_last, joined_more}
 use Rattle.text_mgr.proofs.Lays.{AreSetFor}
-use Rattle.text_mgr.proofs.PlaceParts.{place_parts}
 use Rattle.text_mgr.proofs.Reshown.{alone, one_text, set_among}
 use Rattle.text_mgr.proofs.Whole.{whole_pushed}
 
-module _ {V : Type 0} {H : V → Type 0} (loan : TakenBox V H → WindowLoan) (n : NewText) (t : WindowManager V H) (m : Texts) (a : Addition) (kept : IsKept loan t) (addition : IsAddition loan n t m a) where
+module _ {V : Type 0} {H : V → Type 0} (loan : TakenBox V H → WindowLoan) (n : NewText) (framed : Bool) (f : Record → Record) (t : WindowManager V H) (m : Texts) (a : Addition) (kept : IsKept loan t) (addition : IsAddition loan n framed f t m a) where
   abbrev ts : List KeptText
   ts = m.list.items.items
 
@@ -78,15 +76,12 @@ module _ {V : Type 0} {H : V → Type 0} (loan : TakenBox V H → WindowLoan) (n
   in_window : a.item.window ≡ n.window
   in_window = ap (λ (x : KeptText). x.window) addition.item
 
-  box : is_in_range (box_of a.item.kept.framed a.item.kept.view) ≡ true
-  box = ap (λ (x : KeptText). is_in_range (box_of x.kept.framed x.kept.view)) addition.item ∙ (place_parts false n.place w.place (addition.placed w lies)).inside
-
   module _ (u : WindowManager V H) (m' : Texts) (texts : m'.list.items.items ≡ ts ++ a.item ∷ []) (next : m'.list.next ≡ serial_after a.item.serial) (scrap : m'.scrap ≡ m.scrap)
       (set : AreSetFor loan a.window new a.layer (alone m'.list.items.items) t u) where
     state_is : texts_state m' ≡ record (texts_state m) { texts = ts ++ a.item ∷ []; next = serial_after a.item.serial }
     state_is = λ i. record { texts = texts i; next = next i; scrap = scrap i }
 
-    pub made : (o : Opened) → LeavesTexts loan (IsTextMade n a.item.serial) t o m u o m'
+    pub made : (o : Opened) → LeavesTexts loan (IsTextMadeAs n framed f a.item.serial) t o m u o m'
     made o others slots whole beside =
         let q : Option Part = Some (part.Text a.item.serial) in
         let was = state_showing (texts_show others ts) (state_of loan t slots) in
@@ -106,7 +101,7 @@ module _ {V : Type 0} {H : V → Type 0} (loan : TakenBox V H → WindowLoan) (n
           subst (λ ws. AreWholeTexts ws (texts_state m')) (sym windows_are)
               (subst (AreWholeTexts (map (with_layers_of n.window new) (desk_of loan t []).windows)) (sym state_is)
               (subst (λ k. AreWholeTexts (map (with_layers_of k new) (desk_of loan t []).windows) (record (texts_state m) { texts = ts ++ a.item ∷ []; next = serial_after a.item.serial })) in_window
-              (whole_pushed a.item new (desk_of loan t []).windows (texts_state m) beside addition.serial box
+              (whole_pushed a.item new (desk_of loan t []).windows (texts_state m) beside addition.serial addition.inside
               (subst (λ k. is_missing k (desk_of loan t []).windows ≡ false) (sym in_window) there) (subst (λ k. count_of k ts < 64) (sym in_window) addition.few) joined_new))),
           record {
             widths = addition.widths;

@@ -40,47 +40,47 @@ window_is loan t kept window at stands w lies =
     subst (λ s. record_with s (desk_of loan t []).windows ≡ Some (record_of loan w)) (stands.1 w lies)
     (record_at (look_on t) (desk_of loan t []).windows at (record_of loan w) kept.whole.sound.distinct (record_there loan t kept.slots kept.whole at stands.0 w lies))
 
-module _ {V : Type 0} {H : V → Type 0} (loan : TakenBox V H → WindowLoan) (n : NewText) (t : WindowManager V H) (m : Texts) where
+module _ {V : Type 0} {H : V → Type 0} (loan : TakenBox V H → WindowLoan) (n : NewText) (framed : Bool) (t : WindowManager V H) (m : Texts) where
   module _ (kept : IsKept loan t) (at : ℕ) (stands : StandsAt t.windows.records.items n.window at) (w : Window V H) (lies : IsWindowAt t.windows.records.items at w) where
     -- the reasons, where the window is this one
     abbrev reasons : Option WindowRecord → Option Justification → Bool → List (Bool × Refusal)
     reasons o justification full =
-        (is_none o, NoSuchWindow) ∷ (not (may_stand_in false n.place o), OutOfRange) ∷ (is_none justification, OutOfRange) ∷ (full, TooMany) ∷ []
+        (is_none o, NoSuchWindow) ∷ (not (may_stand_in framed n.place o), OutOfRange) ∷ (is_none justification, OutOfRange) ∷ (full, TooMany) ∷ []
 
     abbrev full : Bool
     full = is_full (count_of n.window m.list.items.items) m.list.next
 
-    by_window : judged_by loan n t m ≡ first_refusal (reasons (Some (record_of loan w)) (justification_of n.justification) full)
+    by_window : judged_by loan n framed t m ≡ first_refusal (reasons (Some (record_of loan w)) (justification_of n.justification) full)
     by_window = ap (λ o. first_refusal (reasons o (justification_of n.justification) full)) (window_is loan t kept n.window at stands w lies)
 
-    pub out_of_place : may_stand_at false n.place w.place ≡ false → judged_by loan n t m ≡ Some OutOfRange
+    pub out_of_place : may_stand_at framed n.place w.place ≡ false → judged_by loan n framed t m ≡ Some OutOfRange
     out_of_place e = by_window ∙ (λ i. first_refusal ((not (e i), OutOfRange) ∷ (is_none (justification_of n.justification), OutOfRange) ∷ (full, TooMany) ∷ []))
 
-    module _ (placed : may_stand_at false n.place w.place ≡ true) where
-      by_place : judged_by loan n t m ≡ first_refusal ((is_none (justification_of n.justification), OutOfRange) ∷ (full, TooMany) ∷ [])
+    module _ (placed : may_stand_at framed n.place w.place ≡ true) where
+      by_place : judged_by loan n framed t m ≡ first_refusal ((is_none (justification_of n.justification), OutOfRange) ∷ (full, TooMany) ∷ [])
       by_place = by_window ∙ (λ i. first_refusal ((not (placed i), OutOfRange) ∷ (is_none (justification_of n.justification), OutOfRange) ∷ (full, TooMany) ∷ []))
 
-      pub bad_justification : justification_of n.justification ≡ None → judged_by loan n t m ≡ Some OutOfRange
+      pub bad_justification : justification_of n.justification ≡ None → judged_by loan n framed t m ≡ Some OutOfRange
       bad_justification e = by_place ∙ (λ i. first_refusal ((is_none (e i), OutOfRange) ∷ (full, TooMany) ∷ []))
 
       module _ (justification : Justification) (justified : justification_of n.justification ≡ Some justification) where
-        by_justification : judged_by loan n t m ≡ first_refusal ((full, TooMany) ∷ [])
+        by_justification : judged_by loan n framed t m ≡ first_refusal ((full, TooMany) ∷ [])
         by_justification = by_place ∙ (λ i. first_refusal ((is_none (justified i), OutOfRange) ∷ (full, TooMany) ∷ []))
 
-        pub no_serial : m.list.next ≡ None → judged_by loan n t m ≡ Some TooMany
+        pub no_serial : m.list.next ≡ None → judged_by loan n framed t m ≡ Some TooMany
         no_serial e = by_justification ∙ by_next (nat_le 64 (count_of n.window m.list.items.items)) m.list.next e
           where
             by_next : (b : Bool) (o : Option ℕ) → o ≡ None → first_refusal ((b || is_none o, TooMany) ∷ []) ≡ Some TooMany
             by_next true o e = refl
             by_next false o e = ap (λ o. first_refusal ((is_none o, TooMany) ∷ [])) e
 
-        pub many : 64 ≤ count_of n.window m.list.items.items → judged_by loan n t m ≡ Some TooMany
+        pub many : 64 ≤ count_of n.window m.list.items.items → judged_by loan n framed t m ≡ Some TooMany
         many e = by_justification ∙ (λ i. first_refusal ((are_many (count_of n.window m.list.items.items) e i || is_none m.list.next, TooMany) ∷ []))
           where
             are_many : (k : ℕ) → 64 ≤ k → nat_le 64 k ≡ true
             are_many k e = grind (arith, nat_tests)
 
-        pub is_given : (serial : ℕ) → m.list.next ≡ Some serial → count_of n.window m.list.items.items < 64 → judged_by loan n t m ≡ None
+        pub is_given : (serial : ℕ) → m.list.next ≡ Some serial → count_of n.window m.list.items.items < 64 → judged_by loan n framed t m ≡ None
         is_given serial next few = by_justification ∙ (λ i. first_refusal ((are_few (count_of n.window m.list.items.items) few i || is_none (next i), TooMany) ∷ []))
           where
             are_few : (k : ℕ) → k < 64 → nat_le 64 k ≡ false

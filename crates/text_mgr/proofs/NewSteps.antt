@@ -17,14 +17,15 @@ use Rattle.text_mgr.specs.declared.texts.Texts.{Texts}
 use Rattle.text_mgr.specs.Making.{IsAddition, IsNotAdded, IsRoomier, judged_by}
 use Rattle.text_mgr.specs.TextDesks.{TextDesk, TextsState, texts_show}
 use Rattle.text_mgr.specs.TextSteps.{IsTextMade, IsTextStep}
+use Rattle.text_record.specs.Texts.{Record}
 use Rattle.text_mgr.specs.WholeTexts.{AreBeside, AreWholeTexts, LeavesTexts, text_desk}
 use Rattle.text_mgr.proofs.Edited.{leaves_same}
 use Rattle.text_mgr.proofs.Steps.{refused_by, short}
 
 module _ {V : Type 0} {H : V → Type 0} (loan : TakenBox V H → WindowLoan) where
   -- an addition is one as well where there is more room
-  pub still_addition : (n : NewText) (t : WindowManager V H) (m m' : Texts) (a : Addition) → m'.list.items.items ≡ m.list.items.items → m'.list.next ≡ m.list.next → IsAddition loan n t m a → IsAddition loan n t m' a
-  still_addition n t m m' a items next its = record {
+  pub still_addition : (n : NewText) (framed : Bool) (f : Record → Record) (t : WindowManager V H) (m m' : Texts) (a : Addition) → m'.list.items.items ≡ m.list.items.items → m'.list.next ≡ m.list.next → IsAddition loan n framed f t m a → IsAddition loan n framed f t m' a
+  still_addition n framed f t m m' a items next its = record {
     widths = its.widths;
     metrics = its.metrics;
     justification = its.justification;
@@ -36,6 +37,7 @@ module _ {V : Type 0} {H : V → Type 0} (loan : TakenBox V H → WindowLoan) wh
     few = subst (λ ts. count_of n.window ts < 64) (sym items) its.few;
     window = its.window;
     placed = its.placed;
+    inside = its.inside;
     is = its.is;
     last = its.last;
     low = its.low;
@@ -52,7 +54,7 @@ module _ {V : Type 0} {H : V → Type 0} (loan : TakenBox V H → WindowLoan) wh
       (λ i. record { texts = items i; next = next i; scrap = scrap i }) (leaves others slots whole) beside
 
   -- no text record was made
-  pub not_added : (n : NewText) (t : WindowManager V H) (m m' : Texts) (result : Result TextReply Refusal) (e : Refusal) (o : Opened) → result ≡ Err e → IsRoomier m m' → IsNotAdded loan n t m e
+  pub not_added : (n : NewText) (t : WindowManager V H) (m m' : Texts) (result : Result TextReply Refusal) (e : Refusal) (o : Opened) → result ≡ Err e → IsRoomier m m' → IsNotAdded loan n false t m e
       → LeavesTexts loan (IsTextStep (asks.New n) result) t o m t o m'
   not_added n t m m' result e o is roomier (inl why) =
       leaves_same loan (IsTextStep (asks.New n) result) t t o o m m m' roomier.texts roomier.next roomier.scrap (refused_by loan (asks.New n) result e t o m is (λ others slots. why))
@@ -61,7 +63,7 @@ module _ {V : Type 0} {H : V → Type 0} (loan : TakenBox V H → WindowLoan) wh
       (subst (λ r. LeavesTexts loan (IsTextStep (asks.New n) r) t o m t o m) (sym is) (short loan (asks.New n) e t o m refl why.1 (λ others slots. why.0)))
 
   -- one was
-  pub made_step : (n : NewText) (t u : WindowManager V H) (m m' k : Texts) (serial : ℕ) (o : Opened) → judged_by loan n t m ≡ None → IsRoomier m m' → LeavesTexts loan (IsTextMade n serial) t o m' u o k
+  pub made_step : (n : NewText) (t u : WindowManager V H) (m m' k : Texts) (serial : ℕ) (o : Opened) → judged_by loan n false t m ≡ None → IsRoomier m m' → LeavesTexts loan (IsTextMade n serial) t o m' u o k
       → LeavesTexts loan (IsTextStep (asks.New n) (Ok (reply.Text serial))) t o m u o k
   made_step n t u m m' k serial o why roomier leaves others slots whole beside =
       let l = begins_same (IsTextMade n serial) t u o o m m' k roomier.texts roomier.next roomier.scrap leaves others slots whole beside in

@@ -4,12 +4,14 @@ use Rattle.std.specs.List.{insert}
 use Rattle.tb_geom.specs.declared.refusal.Refusal.{Refusal}
 use Rattle.tb_geom.specs.declared.refusal.Refusal.TheVariants.{NoMemory}
 use Rattle.tb_geom.specs.Refusals.{first_refusal}
+use Rattle.tb_geom.specs.Rects.{is_in_range}
 use Rattle.desk_layers.specs.declared.part.Part.TheVariants as part
 use Rattle.def_iface.specs.Slots.{TakenBox}
 use Rattle.def_iface.specs.WindowMeaning.{WindowLoan}
 use Rattle.desk_call.specs.declared.text.NewText.{NewText}
 use Rattle.text_record.specs.declared.metrics.Metrics.{Metrics}
 use Rattle.text_record.specs.declared.placing.Justification.{Justification}
+use Rattle.text_record.specs.Placings.{box_of}
 use Rattle.text_record.specs.Texts.{Record, new_record}
 use Rattle.window_items.specs.Items.{count_of}
 use Rattle.window_list.specs.declared.layer.Layer.{Layer}
@@ -70,6 +72,7 @@ module _ {V : Type 0} {H : V → Type 0} (loan : TakenBox V H → WindowLoan) wh
     pub few : count_of n.window m.list.items.items < most_texts
     pub window : StandsAt t.windows.records.items n.window a.window
     pub placed : (w : Window V H) → IsWindowAt t.windows.records.items a.window w → may_stand_at framed n.place w.place ≡ true
+    pub inside : is_in_range (box_of a.item.kept.framed a.item.kept.view) ≡ true
     pub is : IsLayerOf a.item layer
     pub last : (w : Window V H) → IsWindowAt t.windows.records.items a.window w
         → (a.layer ≡ length w.layers.layers) × (a.layers.layers ≡ insert w.layers.layers a.layer layer)
