@@ -7,9 +7,11 @@ use Rattle.desk_call.specs.declared.activity.Activity.TheVariants.{Idle, Updatin
 use Rattle.desk_call.specs.declared.activity.Standing.{Standing}
 use Rattle.desk_call.specs.declared.activity.Standing.TheVariants.{Asks, Updates, Tracks, Pulls, TracksControl, Drags, Grows, Selects, Changes}
 use Rattle.desk_call.specs.declared.call.Call.{Call}
-use Rattle.desk_call.specs.declared.call.Call.TheVariants.{Window, Update, Frame, Control, List, Text, Menu, Outline, Event}
+use Rattle.desk_call.specs.declared.call.Call.TheVariants.{Window, Update, Frame, Control, List, Text, Dialog, Menu, Outline, Event}
 use Rattle.desk_call.specs.declared.control.ControlCall.{ControlCall}
 use Rattle.desk_call.specs.declared.control.ControlCall.TheVariants as controls
+use Rattle.dialog_call.specs.declared.calls.DialogCall.{DialogCall}
+use Rattle.dialog_call.specs.Asking.{asks}
 use Rattle.desk_call.specs.declared.frame.FrameCall.{FrameCall}
 use Rattle.desk_call.specs.declared.frame.FrameCall.TheVariants.{StepGoAway, EndGoAway}
 use Rattle.desk_call.specs.declared.list.ListCall.{ListCall}
@@ -93,6 +95,11 @@ text_standing (texts.Step p) = Selects
 text_standing (texts.End p) = Selects
 text_standing _ = Changes
 
+-- the calls on the items of dialogs that ask may come at any time; what a click opens goes on by the calls on controls and on text
+-- records
+abbrev pub dialog_standing : DialogCall → Standing
+dialog_standing c = if asks c then Asks else Changes
+
 -- when a call may come; one about events may at any time
 abbrev pub standing_of : Call → Standing
 standing_of (Window call) = window_standing call
@@ -101,6 +108,7 @@ standing_of (Frame call) = frame_standing call
 standing_of (Control call) = control_standing call
 standing_of (List call) = list_standing call
 standing_of (Text call) = text_standing call
+standing_of (Dialog call) = dialog_standing call
 standing_of (Menu call) = menu_standing call
 standing_of (Outline call) = outline_standing call
 standing_of (Event call) = Asks

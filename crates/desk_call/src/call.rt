@@ -5,6 +5,7 @@ use crate::{
     MenuCall, MenuReply, OutlineCall, OutlineReply, TextCall, TextReply, UpdateCall, WindowCall,
     WindowReply,
 };
+use dialog_call::{DialogCall, DialogReply};
 
 /// A call of the Toolbox, by what it is about. Titles, and the bytes of operations and regions, are borrowed, so that
 /// the value of a call owns no memory; performing the call may take some.
@@ -22,6 +23,8 @@ pub enum Call<'a> {
     List(ListCall<'a>),
     /// About text records and the scrap.
     Text(TextCall<'a>),
+    /// About the items of dialogs.
+    Dialog(DialogCall<'a>),
     /// About menus.
     Menu(MenuCall<'a>),
     /// About the outline of a window that is dragged or grown.
@@ -43,6 +46,8 @@ pub enum Reply {
     List(ListReply),
     /// To a `Call::Text`.
     Text(TextReply),
+    /// To a `Call::Dialog`.
+    Dialog(DialogReply),
     /// To a `Call::Menu`.
     Menu(MenuReply),
     /// To a `Call::Outline`.

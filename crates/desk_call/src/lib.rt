@@ -2,8 +2,8 @@
 //!
 //! A `Call` says what it is about, and a `Reply` of which kind the answer is. What a call does, the crate says that performs
 //! it: `window_mgr` for windows, `window_update` for updates, `window_frame` for frames, `control_mgr` for controls, `list_mgr`
-//! for lists, `text_mgr` for text records, `menu_mgr` for menus, `window_outline` for outlines, `desk_toolbox` for events. A
-//! program that only reads or writes calls needs no more than this.
+//! for lists, `text_mgr` for text records, `dialog_mgr` for dialogs, `menu_mgr` for menus, `window_outline` for outlines,
+//! `desk_toolbox` for events. Calls about dialogs stand in `dialog_call`. A program that only reads or writes calls needs no more than this.
 #![tactic(auto)]
 
 mod activity;

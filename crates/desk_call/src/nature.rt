@@ -1,12 +1,14 @@
 //! What kind of call it is.
 ghost use Rattle.std.specs.Prelude.{◌≡◌};
-ghost use Rattle.desk_call.specs.Gates.{update_standing, frame_standing, menu_standing, list_standing, outline_standing, text_standing};
+ghost use Rattle.desk_call.specs.Gates.{update_standing, frame_standing, menu_standing, list_standing, outline_standing};
+ghost use Rattle.desk_call.specs.Gates.{dialog_standing, text_standing};
 ghost use Rattle.desk_call.specs.Natures.{nature_of, window_nature, control_nature, plain};
 
 use crate::{
     Call, ControlCall, FrameCall, ListCall, MenuCall, OutlineCall, PointInWindow, Standing,
     TextCall, UpdateCall, WindowCall,
 };
+use dialog_call::DialogCall;
 use tb_geom::Point;
 
 /// What kind of call it is, as far as the desk asks before or after a manager performs it.
@@ -70,6 +72,7 @@ impl Call<'_> {
             Call::Control(call) => call.nature(),
             Call::List(call) => call.nature(),
             Call::Text(call) => call.nature(),
+            Call::Dialog(call) => dialog_nature(call),
             Call::Menu(call) => call.nature(),
             Call::Outline(call) => call.nature(),
             Call::Event(_) => Nature::plain(Standing::Asks),
@@ -190,4 +193,15 @@ impl OutlineCall {
             _ => Standing::Changes,
         })
     }
+}
+
+/// What kind of call it is, of one about the items of dialogs.
+fn dialog_nature(call: &DialogCall<'_>) -> Nature
+    ensures { result ≡ plain (dialog_standing call.now) }
+{
+    Nature::plain(if call.asks() {
+        Standing::Asks
+    } else {
+        Standing::Changes
+    })
 }
