@@ -1,5 +1,5 @@
 -- One step of a call about the items of dialogs: what it leaves, and what it answers.
-use Rattle.std.specs.Prelude.{◌≡◌, ◌==◌, ℕ, zero, suc, nat_abs, Bool, true, false, if◌then◌else◌, List, length, Option, None, Some, Result, is_some}
+use Rattle.std.specs.Prelude.{◌≡◌, ◌==◌, ℕ, zero, suc, ℤ, pos, Bool, true, false, if◌then◌else◌, List, length, Option, None, Some, Result, is_some}
 use Rattle.std.specs.Option.{option_map_or}
 use Rattle.tb_geom.specs.declared.point.Point.{Point}
 use Rattle.tb_geom.specs.declared.refusal.Refusal.{Refusal}
@@ -14,8 +14,6 @@ use Rattle.dialog_items.specs.Filling.{Params}
 use Rattle.dialog_items.specs.Finding.{return_item, tab_item}
 use Rattle.dialog_items.specs.Items.{dialog_type, replaced, with_enabled, with_shown}
 use Rattle.dialog_items.specs.Kinds.{is_edit_kind, sort_of}
-use Rattle.desk_call.specs.declared.activity.Activity.{Activity}
-use Rattle.desk_call.specs.declared.activity.Activity.TheVariants.{Selecting}
 use Rattle.desk_call.specs.declared.control.ControlCall.{ControlCall}
 use Rattle.desk_call.specs.declared.control.ControlCall.TheVariants as controls
 use Rattle.desk_call.specs.declared.control.ControlOf.{ControlOf}
@@ -32,22 +30,17 @@ use Rattle.dialog_call.specs.declared.calls.ParamBytes.{ParamBytes}
 use Rattle.desk_call.specs.declared.text.TextCall.{TextCall}
 use Rattle.desk_call.specs.declared.text.TextCall.TheVariants as texts
 use Rattle.desk_call.specs.declared.text.TextOf.{TextOf}
+use Rattle.desk_call.specs.declared.text.TextReply.{TextReply}
 use Rattle.desk_call.specs.declared.text.TextReply.TheVariants as text_reply
 use Rattle.desk_call.specs.Steps.{IsStepOf}
-use Rattle.text_record.specs.Places.{offset_at}
-use Rattle.text_record.specs.Texts.{Record}
-use Rattle.text_edits.specs.declared.selecting.ClickMode.{ClickMode}
-use Rattle.text_edits.specs.Edits.{selected}
-use Rattle.text_edits.specs.Selecting.{anchor_of, extended_to}
-use Rattle.window_mgr.specs.DeskStates.{SameActivity}
 use Rattle.window_mgr.specs.FullDesk.{IsRightState}
 use Rattle.control_mgr.specs.ControlDesks.{ControlRecord}
 use Rattle.control_mgr.specs.ControlSteps.{IsControlEffect, IsControlMade}
-use Rattle.text_mgr.specs.ItemTexts.{AreTextsHandedOver, IsTextBegun, IsTextPut, IsTextPutAway}
-use Rattle.text_mgr.specs.TextDesks.{KeptText, TextDesk}
-use Rattle.text_mgr.specs.TextPlaces.{click_mode}
-use Rattle.text_mgr.specs.TextSteps.{IsTextEffect, OfText, Opens}
-use Rattle.dialog_mgr.specs.DialogDesks.{AreDialogs, Dialog, DialogDesk, DialogsState, IsDialogDeskUnchanged, OfControls, OfTexts, dialog_of, named_item, with_dialog, with_dialog_there, with_texts}
+use Rattle.text_mgr.specs.ItemTexts.{IsTextBegun, IsTextPut}
+use Rattle.text_mgr.specs.TextDesks.{KeptText}
+use Rattle.text_mgr.specs.TextSteps.{IsTextEffect}
+use Rattle.dialog_mgr.specs.DialogDesks.{AreDialogs, Dialog, DialogDesk, DialogsState, IsDialogDeskUnchanged, OfControls, OfTexts, dialog_of, named_item, with_dialog, with_dialog_there}
+use Rattle.dialog_mgr.specs.TextTurns.{IsHandedOverFor, IsPutAway}
 use Rattle.dialog_mgr.specs.DialogRefusals.{dialog_refusals, is_down, is_return, is_tab, may_dialog_grow, most_text}
 use Rattle.dialog_mgr.specs.ItemLayers.{becomes_edited, control_for, control_in, edited_text, item_for, left_text, text_by, text_in, text_record_for, with_item}
 use Rattle.dialog_mgr.specs.Looks.{found_item, look_in, looks_of}
@@ -136,11 +129,11 @@ IsItemShownBy (Some Text) shown i x before after = IsTextShown shown (text_in i.
 abbrev pub IsItemShown : Bool → ItemOf → Item → DialogDesk → DialogDesk → Type 0
 IsItemShown shown i x before after = IsItemShownBy (sort_of x.kind) shown i x before after
 
--- the edited item was hidden: its text record, if it has one, was made inactive and hidden, and none is edited
+-- the edited item was hidden: its text record, if it has one, was hidden and then made inactive, and none is edited
 abbrev pub IsEditedHidden : ItemOf → Option TextOf → DialogDesk → DialogDesk → Type 0
 IsEditedHidden i None before after = AreDialogs (edited_next i.window 0 before.dialogs) before after
 IsEditedHidden i (Some t) before after =
-    OfTexts (IsTextPutAway t) before after × (after.dialogs ≡ edited_next i.window 0 before.dialogs)
+    OfTexts (IsPutAway t) before after × (after.dialogs ≡ edited_next i.window 0 before.dialogs)
 
 -- an item was hidden: the edited one, or another
 abbrev pub IsItemHiddenAs : Bool → ItemOf → Item → DialogDesk → DialogDesk → Type 0
@@ -152,20 +145,20 @@ IsItemHidden i x before after = IsItemHiddenAs ((dialog_of i.window before.dialo
 
 -- ---- the edited item
 
--- an item is edited: its text record is active now and changed so, and that of the item that was edited before, if that is another, is
--- not active. Both are shown anew in one
-abbrev pub IsTextEdited : TextOf → ItemOf → (Record → Record) → DialogDesk → DialogDesk → Type 0
-IsTextEdited t i f before after = OfTexts (AreTextsHandedOver (left_text t before.dialogs before.texts.texts) t f) before after
+-- an item is edited next, by its text record; then this call about that was made, and answered so
+abbrev pub IsTextEdited : TextOf → ItemOf → TextCall → TextReply → DialogDesk → DialogDesk → Type 0
+IsTextEdited t i c answer before after =
+    OfTexts (IsHandedOverFor (left_text t before.dialogs before.texts.texts) t c answer) before after
     × (after.dialogs ≡ edited_next i.window i.item before.dialogs)
 
--- so, and this much of its text is selected; what is open stays so. Without a text record nothing happens
-abbrev pub IsTextSelected : Option TextOf → ItemOf → ℕ → ℕ → DialogDesk → DialogDesk → Type 0
+-- an item is edited next, and this much of its text is selected; without a text record nothing happens
+abbrev pub IsTextSelected : Option TextOf → ItemOf → ℤ → ℤ → DialogDesk → DialogDesk → Type 0
 IsTextSelected None i start end before after = IsDialogDeskUnchanged before after
 IsTextSelected (Some t) i start end before after =
-    IsTextEdited t i (selected start end) before after × SameActivity before.desk after.desk
+    IsTextEdited t i (texts.Select (record { text = t; start = start; end = end })) text_reply.Done before after
 
 -- so of an item that is there
-abbrev pub IsItemSelected : ItemOf → ℕ → ℕ → DialogDesk → DialogDesk → Type 0
+abbrev pub IsItemSelected : ItemOf → ℤ → ℤ → DialogDesk → DialogDesk → Type 0
 IsItemSelected i start end before after =
     OfItem i before (λ x. IsTextSelected (text_in i.window before.texts.texts x) i start end before after)
 
@@ -190,18 +183,11 @@ clicked number begun = reply.Clicked (record { item = number; begun = begun })
 abbrev pub IsHit : ℕ → DialogReply → DialogDesk → DialogDesk → Type 0
 IsHit number answer before after = (answer ≡ clicked number false) × IsDialogDeskUnchanged before after
 
--- an item is edited, and a selection opened in its text record
-abbrev pub IsTextOpened : TextOf → ItemOf → ClickMode → Point → DialogDesk → DialogDesk → Type 0
-IsTextOpened t i mode p before after = OfText t (with_texts before) (λ r.
-    let anchor = anchor_of mode (offset_at r p) r in
-    IsTextEdited t i (extended_to anchor mode p) before after
-    × Opens (Selecting (record { text = t; mode = mode; anchor = anchor })) (with_texts before) (with_texts after))
-
--- an edit item was clicked
-abbrev pub IsEditClicked : Option TextOf → Item → ItemOf → ClickMode → Point → DialogReply → DialogDesk → DialogDesk → Type 0
-IsEditClicked None x i mode p answer before after = IsHit 0 answer before after
-IsEditClicked (Some t) x i mode p answer before after =
-    (answer ≡ clicked (if_enabled x i.item) true) × IsTextOpened t i mode p before after
+-- an edit item was clicked: it is edited next, and its text record is clicked, in which a selection opens
+abbrev pub IsEditClicked : Option TextOf → Item → ItemOf → ClickDialog → DialogReply → DialogDesk → DialogDesk → Type 0
+IsEditClicked None x i c answer before after = IsHit 0 answer before after
+IsEditClicked (Some t) x i c answer before after = (begun : Bool) × (answer ≡ clicked (if_enabled x i.item) begun)
+    × IsTextEdited t i (texts.Click (record { text = t; point = c.point; mode = c.mode })) (text_reply.Opened begun) before after
 
 -- a control was clicked: where its item is enabled, its tracking begins where the click lies in a part of it
 abbrev pub IsControlClicked : Bool → Option ControlOf → ItemOf → Point → DialogReply → DialogDesk → DialogDesk → Type 0
@@ -212,32 +198,30 @@ IsControlClicked true (Some c) i p answer before after = (part : Option ControlP
 IsControlClicked _ c i p answer before after = IsHit 0 answer before after
 
 -- an item of this kind was clicked
-abbrev pub IsItemClicked : ItemKind → Item → ItemOf → ClickMode → Point → DialogReply → DialogDesk → DialogDesk → Type 0
-IsItemClicked kinds.Edit x i mode p answer before after =
-    IsEditClicked (text_in i.window before.texts.texts x) x i mode p answer before after
-IsItemClicked kinds.Static x i mode p answer before after = IsHit (if_enabled x i.item) answer before after
-IsItemClicked kinds.Icon x i mode p answer before after = IsHit (if_enabled x i.item) answer before after
-IsItemClicked kinds.User x i mode p answer before after = IsHit (if_enabled x i.item) answer before after
-IsItemClicked _ x i mode p answer before after =
-    IsControlClicked x.enabled (control_in i.window before.controls.controls x) i p answer before after
+abbrev pub IsItemClicked : ItemKind → Item → ItemOf → ClickDialog → DialogReply → DialogDesk → DialogDesk → Type 0
+IsItemClicked kinds.Edit x i c answer before after = IsEditClicked (text_in i.window before.texts.texts x) x i c answer before after
+IsItemClicked kinds.Static x i c answer before after = IsHit (if_enabled x i.item) answer before after
+IsItemClicked kinds.Icon x i c answer before after = IsHit (if_enabled x i.item) answer before after
+IsItemClicked kinds.User x i c answer before after = IsHit (if_enabled x i.item) answer before after
+IsItemClicked _ x i c answer before after =
+    IsControlClicked x.enabled (control_in i.window before.controls.controls x) i c.point answer before after
 
 -- the item found at the point, if one was, was clicked
-abbrev pub IsClickedAt : ℕ → ClickDialog → ClickMode → DialogReply → DialogDesk → DialogDesk → Type 0
-IsClickedAt zero c mode answer before after = IsHit 0 answer before after
-IsClickedAt (suc at) c mode answer before after =
-    OfItem (item_in c.window (suc at)) before (λ x. IsItemClicked x.kind x (item_in c.window (suc at)) mode c.point answer before after)
+abbrev pub IsClickedAt : ℕ → ClickDialog → DialogReply → DialogDesk → DialogDesk → Type 0
+IsClickedAt zero c answer before after = IsHit 0 answer before after
+IsClickedAt (suc at) c answer before after =
+    OfItem (item_in c.window (suc at)) before (λ x. IsItemClicked x.kind x (item_in c.window (suc at)) c answer before after)
 
 -- the mouse was pressed at a point of a window
 abbrev pub IsDialogClicked : ClickDialog → DialogReply → DialogDesk → DialogDesk → Type 0
-IsDialogClicked c answer before after = (mode : ClickMode) × (click_mode c.mode ≡ Some mode)
-    × IsClickedAt (found_item c.window c.point before) c mode answer before after
+IsDialogClicked c answer before after = IsClickedAt (found_item c.window c.point before) c answer before after
 
 -- ---- keys
 
 -- Tab goes to this item, and all its text is selected; to none it goes nowhere
 abbrev pub IsTabbed : ℕ → ℕ → DialogDesk → DialogDesk → Type 0
 IsTabbed window zero before after = IsDialogDeskUnchanged before after
-IsTabbed window (suc at) before after = IsItemSelected (item_in window (suc at)) 0 most_text before after
+IsTabbed window (suc at) before after = IsItemSelected (item_in window (suc at)) (pos 0) (pos most_text) before after
 
 -- a key is typed in the edited item, if one is edited, which is answered where it is enabled
 abbrev pub IsTyped : Option TextOf → DialogKey → DialogReply → DialogDesk → DialogDesk → Type 0
@@ -314,7 +298,7 @@ IsDialogEffect (call.Enable f) answer before after =
 IsDialogEffect (call.Show i) answer before after = (answer ≡ reply.Done) × OfItem i before (λ x. IsItemShown true i x before after)
 IsDialogEffect (call.Hide i) answer before after = (answer ≡ reply.Done) × OfItem i before (λ x. IsItemHidden i x before after)
 IsDialogEffect (call.Select z) answer before after =
-    (answer ≡ reply.Done) × IsItemSelected z.item (nat_abs z.start) (nat_abs z.end) before after
+    (answer ≡ reply.Done) × IsItemSelected z.item z.start z.end before after
 IsDialogEffect (call.Activate f) answer before after =
     (answer ≡ reply.Done) × IsEditedActivated (edited_text f.window before.dialogs before.texts.texts) f.flag before after
 IsDialogEffect (call.Click c) answer before after = IsDialogClicked c answer before after

@@ -5,6 +5,7 @@ pub mod DialogDesks
 pub mod Looks
 pub mod ItemLayers
 pub mod DialogRefusals
+pub mod TextTurns
 pub mod DialogSteps
 pub mod DialogClosing
 pub mod WholeDialogs

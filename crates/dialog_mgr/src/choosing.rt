@@ -1,13 +1,17 @@
 //! The edited item of a window: which it is, and what of its text is selected.
-ghost use Rattle.std.specs.Prelude.{◌≡◌, ◌≤◌, Some, false, is_none};
+ghost use Rattle.std.specs.Prelude.{◌≡◌, Ok, Some, false, is_none, true};
 ghost use Rattle.tb_geom.specs.Points.{PixelSet};
 ghost use Rattle.desk_call.specs.declared.activity.Activity.TheVariants.{Idle};
 ghost use Rattle.dialog_call.specs.declared.calls.DialogCall.TheVariants as asks;
 ghost use Rattle.text_edits.specs.Edits.{is_selection};
-ghost use Rattle.window_mgr.specs.DeskStates.{Opened};
 ghost use Rattle.control_mgr.specs.Spots.{opened};
+ghost use Rattle.desk_call.specs.declared.text.TextCall.TheVariants as asks_text;
+ghost use Rattle.desk_call.specs.declared.text.TextReply.TheVariants.{Done};
 ghost use Rattle.text_mgr.specs.TextDesks.{index_of};
+ghost use Rattle.text_mgr.specs.TextSteps as texts;
+ghost use Rattle.text_mgr.specs.TextSteps.{IsTextStep};
 ghost use Rattle.dialog_mgr.specs.DialogSteps.{IsDialogStep, IsTextSelected, IsWhereRight, item_in};
+ghost use Rattle.dialog_mgr.specs.Choosing.{IsEditedNext};
 ghost use Rattle.dialog_mgr.specs.Rooms.{MayBeEdited};
 ghost use Rattle.dialog_mgr.specs.ItemLayers.{edited_text, left_text};
 ghost use Rattle.dialog_mgr.specs.WholeDialogs.{dialogs_state};
@@ -18,7 +22,7 @@ use crate::looks::look_in;
 use crate::{DeskDialogs, Dialogs};
 use control_mgr::{Controls, DeskControls};
 use def_iface::TakenControl;
-use desk_call::{Activity, TextCall, TextFlag, TextOf};
+use desk_call::{Activity, SelectText, TextCall, TextFlag, TextOf};
 use dialog_call::{DialogFlag, DialogReply, SelectItem};
 use tb_geom::Refusal;
 use text_mgr::{DeskTexts, Texts};
@@ -32,6 +36,30 @@ fn is_selection(start: i32, end: i32) -> bool
     ensures { result ≡ is_selection start end }
 {
     0 <= start && (start <= end && end <= LARGEST_OFFSET)
+}
+
+/// Makes a text record, which is there, active or inactive.
+pub(crate) fn activate(
+    windows: &mut WindowManager,
+    activity: &mut Activity,
+    texts: &mut Texts,
+    text: TextOf,
+    flag: bool,
+)
+    requires kept { ⟦<WindowManager as DeskWindows>⟧.IsKept windows.old }
+    requires texts { ⟦<Texts as DeskTexts>⟧.AreBeside windows.old texts.old }
+    requires there { is_none (index_of text texts.old.list.items.items) ≡ false }
+    requires idle { activity.old ≡ Idle }
+    ensures step { (begun : PixelSet) → ⟦<Texts as DeskTexts>⟧.Leaves
+        (texts.IsWhereRight (IsTextStep (asks_text.Activate (record { text = text; flag = flag })) (Ok Done)))
+        windows.old (opened activity.old begun) texts.old windows.new (opened activity.new begun) texts.new }
+    ensures idle { activity.new ≡ Idle }
+{
+    let call = TextCall::Activate(TextFlag { text, flag });
+    match texts.perform(windows, activity, &call) {
+        Ok(_) => {}
+        Err(_) => unreachable!(),
+    }
 }
 
 impl Dialogs {
@@ -55,37 +83,72 @@ impl Dialogs {
         }
     }
 
-    /// Edits an item, which has this text record, and selects so many bytes of its text. The text records of both items are drawn
-    /// where they are not to be redrawn. It takes no memory.
-    pub(crate) fn edit_selected(
+    /// Edits an item, which has this text record: that is active then, and that of the item that was edited, if it is another, is not.
+    /// It takes no memory.
+    pub(crate) fn hand_over(
         &mut self,
         windows: &mut WindowManager,
+        activity: &mut Activity,
         controls: &Controls<TakenControl>,
         texts: &mut Texts,
         item: usize,
         text: TextOf,
-        start: usize,
-        end: usize,
     )
         requires kept { ⟦<WindowManager as DeskWindows>⟧.IsKept windows.old }
         requires controls { ⟦<Controls<TakenControl> as DeskControls>⟧.AreBeside windows.old controls.now }
         requires texts { ⟦<Texts as DeskTexts>⟧.AreBeside windows.old texts.old }
         requires there { is_none (index_of text texts.old.list.items.items) ≡ false }
         requires edit { MayBeEdited text.window item self.old }
-        requires order { start ≤ end }
-        ensures { (o : Opened) → ⟦<Self as DeskDialogs>⟧.Leaves
-            (IsWhereRight (IsTextSelected (Some text) (item_in text.window item) start end))
-            windows.old o controls.now texts.old self.old windows.new o controls.now texts.new self.new }
+        requires idle { activity.old ≡ Idle }
+        ensures step { (begun : PixelSet) → ⟦<Self as DeskDialogs>⟧.Leaves
+            (IsWhereRight (IsEditedNext text item))
+            windows.old (opened activity.old begun) controls.now texts.old self.old
+            windows.new (opened activity.new begun) controls.now texts.new self.new }
+        ensures there { is_none (index_of text texts.new.list.items.items) ≡ false }
+        ensures idle { activity.new ≡ Idle }
     {
-        let left = self.left_text(texts, text);
-        texts.select_next(windows, left, text, start, end);
+        if let Some(left) = self.left_text(texts, text) {
+            activate(windows, activity, texts, left, false);
+        }
+        activate(windows, activity, texts, text, true);
         self.edit_next(text.window, item);
+    }
+
+    /// Edits an item, which has this text record, and selects so many bytes of its text. It takes no memory.
+    pub(crate) fn edit_selected(
+        &mut self,
+        windows: &mut WindowManager,
+        activity: &mut Activity,
+        controls: &Controls<TakenControl>,
+        texts: &mut Texts,
+        item: usize,
+        chosen: SelectText,
+    )
+        requires kept { ⟦<WindowManager as DeskWindows>⟧.IsKept windows.old }
+        requires controls { ⟦<Controls<TakenControl> as DeskControls>⟧.AreBeside windows.old controls.now }
+        requires texts { ⟦<Texts as DeskTexts>⟧.AreBeside windows.old texts.old }
+        requires there { is_none (index_of chosen.text texts.old.list.items.items) ≡ false }
+        requires edit { MayBeEdited chosen.text.window item self.old }
+        requires selection { is_selection chosen.start chosen.end ≡ true }
+        requires idle { activity.old ≡ Idle }
+        ensures step { (begun : PixelSet) → ⟦<Self as DeskDialogs>⟧.Leaves
+            (IsWhereRight (IsTextSelected (Some chosen.text) (item_in chosen.text.window item) chosen.start chosen.end))
+            windows.old (opened activity.old begun) controls.now texts.old self.old
+            windows.new (opened activity.new begun) controls.now texts.new self.new }
+        ensures idle { activity.new ≡ Idle }
+    {
+        self.hand_over(windows, activity, controls, texts, item, chosen.text);
+        match texts.perform(windows, activity, &TextCall::Select(chosen)) {
+            Ok(_) => {}
+            Err(_) => unreachable!(),
+        }
     }
 
     /// Edits an item, and selects a part of its text.
     pub(crate) fn select(
         &mut self,
         windows: &mut WindowManager,
+        activity: &mut Activity,
         controls: &Controls<TakenControl>,
         texts: &mut Texts,
         chosen: SelectItem,
@@ -93,9 +156,12 @@ impl Dialogs {
         requires kept { ⟦<WindowManager as DeskWindows>⟧.IsKept windows.old }
         requires controls { ⟦<Controls<TakenControl> as DeskControls>⟧.AreBeside windows.old controls.now }
         requires texts { ⟦<Texts as DeskTexts>⟧.AreBeside windows.old texts.old }
-        ensures { (o : Opened) → ⟦<Self as DeskDialogs>⟧.Leaves
+        requires idle { activity.old ≡ Idle }
+        ensures step { (begun : PixelSet) → ⟦<Self as DeskDialogs>⟧.Leaves
             (IsWhereRight (IsDialogStep (asks.Select chosen) result))
-            windows.old o controls.now texts.old self.old windows.new o controls.now texts.new self.new }
+            windows.old (opened activity.old begun) controls.now texts.old self.old
+            windows.new (opened activity.new begun) controls.now texts.new self.new }
+        ensures idle { activity.new ≡ Idle }
     {
         let of = chosen.item;
         let item = self.named(windows, of)?;
@@ -104,8 +170,12 @@ impl Dialogs {
             return Err(Refusal::OutOfRange);
         }
         if let Some(text) = text_in(texts, of.window, &item) {
-            let (start, end) = (chosen.start as usize, chosen.end as usize);
-            self.edit_selected(windows, controls, texts, of.item, text, start, end);
+            let part = SelectText {
+                text,
+                start: chosen.start,
+                end: chosen.end,
+            };
+            self.edit_selected(windows, activity, controls, texts, of.item, part);
         }
         Ok(DialogReply::Done)
     }
@@ -131,9 +201,7 @@ impl Dialogs {
     {
         window_there(windows, set.window)?;
         if let Some(text) = self.edited_text(texts, set.window) {
-            let flag = set.flag;
-            let call = TextCall::Activate(TextFlag { text, flag });
-            let _done = texts.perform(windows, activity, &call)?;
+            activate(windows, activity, texts, text, set.flag);
         }
         Ok(DialogReply::Done)
     }

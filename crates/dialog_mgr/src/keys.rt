@@ -5,7 +5,6 @@ ghost use Rattle.desk_call.specs.declared.activity.Activity.TheVariants.{Idle};
 ghost use Rattle.dialog_call.specs.declared.calls.DialogCall.TheVariants as asks;
 ghost use Rattle.control_mgr.specs.Spots.{opened};
 ghost use Rattle.text_mgr.specs.CallEdits.{is_outside};
-ghost use Rattle.window_mgr.specs.DeskStates.{Opened};
 ghost use Rattle.dialog_mgr.specs.DialogRefusals.{is_down};
 ghost use Rattle.dialog_mgr.specs.DialogSteps.{IsDialogStep, IsWhereRight};
 ghost use Rattle.dialog_mgr.specs.Keys.{HasTyped, IsTabbedFrom};
@@ -16,7 +15,7 @@ use crate::mouse::if_enabled;
 use crate::{DeskDialogs, Dialogs};
 use control_mgr::{Controls, DeskControls};
 use def_iface::TakenControl;
-use desk_call::{Activity, TextCall, TextNumber};
+use desk_call::{Activity, SelectText, TextCall, TextNumber};
 use dialog_call::{DialogKey, DialogReply};
 use dialog_items::{return_item, tab_item};
 use tb_geom::Refusal;
@@ -36,7 +35,7 @@ const TAB: i32 = 9;
 const RETURN: i32 = 13;
 
 /// The most bytes that a text has.
-const MOST_TEXT: usize = 32000;
+const MOST_TEXT: i32 = 32000;
 
 /// Whether a key is down by the modifiers of an event.
 fn is_down(key: u32, modifiers: i32) -> bool
@@ -87,7 +86,7 @@ impl Dialogs {
             }
             TAB => {
                 let back = is_down(SHIFT_KEY, typed.modifiers);
-                self.tab(windows, controls, texts, typed.window, back);
+                self.tab(windows, activity, controls, texts, typed.window, back);
                 Ok(DialogReply::Item(0))
             }
             _ => self.type_key(windows, activity, controls, texts, typed),
@@ -99,6 +98,7 @@ impl Dialogs {
     fn tab(
         &mut self,
         windows: &mut WindowManager,
+        activity: &mut Activity,
         controls: &Controls<TakenControl>,
         texts: &mut Texts,
         window: u64,
@@ -107,9 +107,12 @@ impl Dialogs {
         requires kept { ⟦<WindowManager as DeskWindows>⟧.IsKept windows.old }
         requires controls { ⟦<Controls<TakenControl> as DeskControls>⟧.AreBeside windows.old controls.now }
         requires texts { ⟦<Texts as DeskTexts>⟧.AreBeside windows.old texts.old }
-        ensures { (o : Opened) → ⟦<Self as DeskDialogs>⟧.Leaves
+        requires idle { activity.old ≡ Idle }
+        ensures step { (begun : PixelSet) → ⟦<Self as DeskDialogs>⟧.Leaves
             (IsWhereRight (IsTabbedFrom window back))
-            windows.old o controls.now texts.old self.old windows.new o controls.now texts.new self.new }
+            windows.old (opened activity.old begun) controls.now texts.old self.old
+            windows.new (opened activity.new begun) controls.now texts.new self.new }
+        ensures idle { activity.new ≡ Idle }
     {
         let looks = self.looks(controls, texts, window);
         let item = tab_item(looks.as_slice(), self.edited(window), back);
@@ -117,7 +120,12 @@ impl Dialogs {
             return;
         };
         if let Some(text) = text_in(texts, window, &next) {
-            self.edit_selected(windows, controls, texts, item, text, 0, MOST_TEXT);
+            let all = SelectText {
+                text,
+                start: 0,
+                end: MOST_TEXT,
+            };
+            self.edit_selected(windows, activity, controls, texts, item, all);
         }
     }
 

@@ -9,9 +9,12 @@ ghost use Rattle.control_mgr.specs.WholeControls.{IsTrackable};
 ghost use Rattle.text_mgr.specs.WholeTexts.{IsSelectable};
 ghost use Rattle.control_mgr.specs.ControlDesks.{index_of};
 ghost use Rattle.control_mgr.specs.Damages as damages;
+ghost use Rattle.desk_call.specs.declared.text.TextCall.TheVariants as asks_text;
+ghost use Rattle.desk_call.specs.declared.text.TextReply.TheVariants.{Opened};
 ghost use Rattle.text_mgr.specs.TextDesks as texts;
+ghost use Rattle.text_mgr.specs.TextPlaces.{click_mode};
 ghost use Rattle.dialog_mgr.specs.Choosing.{IsPressed};
-ghost use Rattle.dialog_mgr.specs.DialogSteps.{IsDialogStep, IsTextOpened, IsWhereRight, clicked, if_enabled, item_in};
+ghost use Rattle.dialog_mgr.specs.DialogSteps.{IsDialogStep, IsTextEdited, IsWhereRight, clicked, if_enabled, item_in};
 ghost use Rattle.dialog_mgr.specs.Rooms.{MayBeEdited};
 
 use crate::asking::window_there;
@@ -20,12 +23,11 @@ use crate::{DeskDialogs, Dialogs};
 use control_mgr::{Controls, ControlsOnStock, DeskControls};
 use def_iface::{ControlStock, TakenControl};
 use desk_call::{
-    Activity, ControlCall, ControlOf, ControlReply, PointAtControl, SelectedText, TextOf,
+    Activity, ClickText, ControlCall, ControlOf, ControlReply, PointAtControl, TextCall, TextReply,
 };
 use dialog_call::{ClickDialog, DialogClick, DialogReply};
 use dialog_items::{Item, ItemKind, item_at};
 use tb_geom::{Point, Refusal};
-use text_edits::ClickMode;
 use text_mgr::{DeskTexts, Texts, click_mode};
 use window_mgr::{DeskWindows, WindowManager};
 
@@ -71,9 +73,9 @@ impl Dialogs {
         if !pressed.point.is_in_range() {
             return Err(Refusal::OutOfRange);
         }
-        let Some(mode) = click_mode(pressed.mode) else {
+        if click_mode(pressed.mode).is_none() {
             return Err(Refusal::OutOfRange);
-        };
+        }
         let looks = self.looks(controls, texts, window);
         let number = item_at(looks.as_slice(), pressed.point);
         let Some(item) = self.item(window, number) else {
@@ -85,11 +87,10 @@ impl Dialogs {
             }
             ItemKind::Edit => match text_in(texts, window, &item) {
                 Some(text) => {
-                    let point = pressed.point;
-                    self.open(
-                        windows, activity, controls, texts, number, text, point, mode,
-                    );
-                    Ok(clicked(if_enabled(&item, number), true))
+                    let (point, mode) = (pressed.point, pressed.mode);
+                    let call = ClickText { text, point, mode };
+                    let begun = self.open(windows, activity, controls, texts, number, call);
+                    Ok(clicked(if_enabled(&item, number), begun))
                 }
                 None => Ok(clicked(0, false)),
             },
@@ -103,7 +104,7 @@ impl Dialogs {
         }
     }
 
-    /// Edits an item at a point of its text record, in which a selection opens.
+    /// Edits an item, whose text record is clicked then: whether a selection opened in it.
     fn open(
         &mut self,
         windows: &mut WindowManager,
@@ -111,26 +112,27 @@ impl Dialogs {
         controls: &Controls<TakenControl>,
         texts: &mut Texts,
         item: usize,
-        text: TextOf,
-        point: Point,
-        mode: ClickMode,
-    )
+        call: ClickText,
+    ) -> bool
         requires kept { ⟦<WindowManager as DeskWindows>⟧.IsKept windows.old }
         requires controls { ⟦<Controls<TakenControl> as DeskControls>⟧.AreBeside windows.old controls.now }
         requires texts { ⟦<Texts as DeskTexts>⟧.AreBeside windows.old texts.old }
-        requires there { is_none (texts.index_of text texts.old.list.items.items) ≡ false }
-        requires edit { MayBeEdited text.window item self.old }
+        requires there { is_none (texts.index_of call.text texts.old.list.items.items) ≡ false }
+        requires edit { MayBeEdited call.text.window item self.old }
+        requires point { in_plane call.point ≡ true }
+        requires mode { is_none (click_mode call.mode) ≡ false }
         requires idle { activity.old ≡ Idle }
         ensures step { (begun : PixelSet) → ⟦<Self as DeskDialogs>⟧.Leaves
-            (IsWhereRight (IsTextOpened text (item_in text.window item) mode point))
+            (IsWhereRight (IsTextEdited call.text (item_in call.text.window item) (asks_text.Click call) (Opened result)))
             windows.old (opened activity.old begun) controls.now texts.old self.old
             windows.new (opened activity.new begun) controls.now texts.new self.new }
         ensures selectable { IsSelectable activity.new texts.new.list.items.items }
     {
-        let left = self.left_text(texts, text);
-        let anchor = texts.click_next(windows, left, text, point, mode);
-        self.edit_next(text.window, item);
-        *activity = Activity::Selecting(SelectedText { text, mode, anchor });
+        self.hand_over(windows, activity, controls, texts, item, call.text);
+        match texts.perform(windows, activity, &TextCall::Click(call)) {
+            Ok(TextReply::Opened(begun)) => begun,
+            _ => unreachable!(),
+        }
     }
 }
 

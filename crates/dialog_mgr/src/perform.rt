@@ -57,7 +57,9 @@ impl Dialogs {
             DialogCall::Hide(of) => {
                 self.show(windows, activity, controls, texts, *of, false, stock)
             }
-            DialogCall::Select(chosen) => self.select(windows, controls, texts, *chosen),
+            DialogCall::Select(chosen) => {
+                self.select(windows, activity, controls, texts, *chosen)
+            }
             DialogCall::Activate(set) => self.activate(windows, activity, controls, texts, *set),
             DialogCall::Click(pressed) => {
                 self.click(windows, activity, controls, texts, *pressed, stock)

@@ -5,7 +5,6 @@ ghost use Rattle.tb_geom.specs.Points.{PixelSet};
 ghost use Rattle.desk_call.specs.declared.activity.Activity.TheVariants.{Idle};
 ghost use Rattle.dialog_call.specs.declared.calls.DialogCall.TheVariants as asks;
 ghost use Rattle.dialog_items.specs.Items.{with_shown};
-ghost use Rattle.window_mgr.specs.DeskStates.{Opened};
 ghost use Rattle.control_mgr.specs.Spots.{opened};
 ghost use Rattle.dialog_mgr.specs.DialogDesks.{dialog_of, named_item};
 ghost use Rattle.dialog_mgr.specs.DialogRefusals.{missing_refusals};
@@ -13,6 +12,7 @@ ghost use Rattle.dialog_mgr.specs.DialogSteps.{IsDialogStep, IsWhereRight, chang
 ghost use Rattle.dialog_mgr.specs.Showing.{shown_call};
 ghost use Rattle.dialog_mgr.specs.WholeDialogs.{dialogs_state};
 
+use crate::choosing::activate;
 use crate::item_layers::{control_in, text_in};
 use crate::{DeskDialogs, Dialogs};
 use control_mgr::{Controls, DeskControls};
@@ -60,7 +60,7 @@ impl Dialogs {
             }
             Some(LayerSort::Text) => {
                 if !shown && self.edited(of.window) == of.item {
-                    return self.hide_edited(windows, controls, texts, of);
+                    return self.hide_edited(windows, activity, controls, texts, of);
                 }
                 if let Some(text) = text_in(texts, of.window, &item) {
                     let call = if shown {
@@ -80,6 +80,7 @@ impl Dialogs {
     fn hide_edited(
         &mut self,
         windows: &mut WindowManager,
+        activity: &mut Activity,
         controls: &Controls<TakenControl>,
         texts: &mut Texts,
         of: ItemOf,
@@ -90,12 +91,16 @@ impl Dialogs {
         requires named { first_refusal (missing_refusals of (⟦<WindowManager as DeskWindows>⟧.desk windows.old [])
             (dialogs_state self.old)) ≡ None }
         requires edited { (dialog_of of.window (dialogs_state self.old).dialogs).edited ≡ of.item }
-        ensures { (o : Opened) → ⟦<Self as DeskDialogs>⟧.Leaves
+        requires idle { activity.old ≡ Idle }
+        ensures step { (begun : PixelSet) → ⟦<Self as DeskDialogs>⟧.Leaves
             (IsWhereRight (IsDialogStep (asks.Hide of) result))
-            windows.old o controls.now texts.old self.old windows.new o controls.now texts.new self.new }
+            windows.old (opened activity.old begun) controls.now texts.old self.old
+            windows.new (opened activity.new begun) controls.now texts.new self.new }
+        ensures idle { activity.new ≡ Idle }
     {
         if let Some(text) = self.edited_text(texts, of.window) {
-            texts.put_away(windows, text)?;
+            let _hidden = texts.perform(windows, activity, &TextCall::Hide(text))?;
+            activate(windows, activity, texts, text, false);
         }
         self.edit_next(of.window, 0);
         Ok(DialogReply::Done)

@@ -45,7 +45,7 @@ pub(crate) fn shape_of(alloc: Global, bounds: Rect, shown: bool) -> Result<Layer
 
 impl Texts {
     /// How the text record at this index lies.
-    pub(crate) fn lie(&self, at: usize) -> Lie
+    fn lie(&self, at: usize) -> Lie
         requires { at < length self.now.list.items.items }
         ensures read { IfSome (slice_get self.now.list.items.items at) (IsLieOf result) }
         ensures numbers { IsPlacing result.placing.left result.placing.top result.placing.width result.placing.view }
@@ -73,7 +73,7 @@ impl Texts {
     }
 
     /// Lays a text record so in its window, and draws all that it then owns.
-    pub(crate) fn lay(
+    fn lay(
         &mut self,
         windows: &mut WindowManager,
         spot: TextAt,
