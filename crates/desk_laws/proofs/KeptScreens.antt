@@ -16,7 +16,7 @@ use Rattle.window_mgr.specs.FullDesk.{FullDesk, FullState}
 use Rattle.window_frame.proofs.ToldSteps.{HoldsOfFollowing, HoldsOfFrames, of_caught_up, of_frame}
 use Rattle.control_mgr.proofs.ControlFacts.{control_facts}
 use Rattle.list_mgr.proofs.ListFacts.{list_facts}
-use Rattle.desk_toolbox.proofs.TextFacts.{text_facts}
+use Rattle.text_mgr.proofs.TextFacts.{text_facts}
 use Rattle.menu_mgr.proofs.MenuKeeps.{menu_keeps}
 use Rattle.desk_toolbox.specs.Run.{IsRunOfCalls, IsStep, IsWindowAnswer, IsWindowMade, put_down}
 use Rattle.desk_toolbox.specs.ToolboxStates.{ToolboxState, with_controls, with_lists, with_menus, with_texts}
