@@ -62,7 +62,8 @@ use Rattle.desk_toolbox.proofs.KeptDesks.{told_keeps}
 use Rattle.desk_toolbox.proofs.StepCounts.{AreNumbered, HasLess, Recount, told_recounts, disposed_is_gone, right_is_numbered}
 use Rattle.desk_toolbox.proofs.Totals.{copies, counted_is_found, either_class, found_counts, serial_of_counted}
 use Rattle.desk_toolbox.specs.KnownLayers.{AreKnown, AreLayersKnown, is_known}
-use Rattle.desk_toolbox.proofs.KnownLayers.{control_leaves_known, control_leaves_texts, list_leaves_known, list_leaves_texts, known_to}
+use Rattle.text_mgr.proofs.ControlsBeside.{control_leaves_texts}
+use Rattle.desk_toolbox.proofs.KnownLayers.{control_leaves_known, list_leaves_known, list_leaves_texts, known_to}
 use Rattle.text_mgr.proofs.TextFacts.{text_facts}
 use Rattle.text_mgr.proofs.TextsBeside.{text_holds, text_leaves_controls, text_missing}
 use Rattle.desk_toolbox.proofs.TextsBeside.{known_beside, lists_beside}
