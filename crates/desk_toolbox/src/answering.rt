@@ -10,10 +10,11 @@ ghost use Rattle.control_mgr.specs.WholeControls.{AreLiveControls, slots_of};
 ghost use Rattle.list_mgr.specs.WholeLists.{AreLiveLists};
 ghost use Rattle.list_mgr.specs.WholeLists as whole_lists;
 ghost use Rattle.text_mgr.specs.WholeTexts.{texts_state};
+ghost use Rattle.dialog_mgr.specs.WholeDialogs.{dialogs_state};
 ghost use Rattle.window_frame.specs.Followers.{AreInformed};
 ghost use Rattle.desk_toolbox.specs.Economy.{IsQuietRefusal};
 ghost use Rattle.desk_toolbox.specs.EventSteps.{events_left};
-ghost use Rattle.desk_toolbox.specs.Run.{AreControlsLeft, AreListsLeft, AreTextsLeft, IsAdmitted, IsControlTold, IsDialogAnswer, IsEventAnswer};
+ghost use Rattle.desk_toolbox.specs.Run.{AreControlsLeft, AreDialogsLeft, AreListsLeft, AreTextsLeft, IsAdmitted, IsControlTold, IsDialogAnswer, IsEventAnswer};
 ghost use Rattle.desk_toolbox.specs.Run.{IsFormFault, IsListAnswer, IsTextAnswer, IsUpdateTold, IsWindowTold, is_behind_menu};
 ghost use Rattle.desk_toolbox.specs.Run.{is_covered, is_hidden_by_menu, is_under_menu};
 ghost use Rattle.desk_toolbox.specs.ToolboxStates.{ToolboxState};
@@ -321,6 +322,8 @@ fn forget(
         (⟦<Lists<TakenList> as ListsOnStock>⟧.state lists.new list_stock.new) }
     ensures texts { (call : Named) → window_ends call ≡ ends
         → AreTextsLeft call (texts_state texts.old) (texts_state texts.new) }
+    ensures dialogs { (call : Named) → window_ends call ≡ ends
+        → AreDialogsLeft call (dialogs_state dialogs.old) (dialogs_state dialogs.new) }
 {
     if let Some(window) = ends {
         events.forget(window);
