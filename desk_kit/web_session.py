@@ -108,7 +108,8 @@ def message_of(text):
 
 class Session:
     """A loop of events that pages use, one message at a time. Its screens are numbered from 1 on, and a page is given the
-    screen where it shows another one, and told whether that changes as time goes by. Once the program is at fault nothing is told any more."""
+    screen where it shows another one, and told whether that changes as time goes by. Once the program is at fault nothing is
+    told any more."""
 
     def __init__(self, loop, say):
         self.loop, self.say, self.fault = loop, say, ""

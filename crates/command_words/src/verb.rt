@@ -1,7 +1,7 @@
 //! The first words of commands.
 ghost use Rattle.std.specs.Prelude.{◌≡◌, ◌++◌};
 ghost use Rattle.line_words.specs.Tables.{named};
-ghost use Rattle.command_words.specs.Verbs.{verbs, verbs_since_2, verbs_since_3, verbs_of_3, verbs_for_dialogs, verbs_for_texts, own_verbs_of_3, later_verbs, verbs_of};
+ghost use Rattle.command_words.specs.Verbs.{verbs, verbs_since_2, verbs_since_3, verbs_of_3, verbs_for_dialogs, verbs_for_texts, later_verbs, verbs_of};
 
 use crate::controls::ControlVerb;
 use crate::events::EventVerb;
@@ -190,17 +190,10 @@ fn verb_since_3(version: i32, word: &[u8]) -> Option<Verb>
 fn verb_of_3(word: &[u8]) -> Option<Verb>
     ensures { result ≡ named word.now verbs_of_3 }
 {
-    match own_verb_of_3(word) {
+    match named(&VERBS_OF_3, word) {
         Some(verb) => Some(verb),
         None => text_or_dialog_word_of(word),
     }
-}
-
-/// The same of those but the verbs for text records.
-fn own_verb_of_3(word: &[u8]) -> Option<Verb>
-    ensures { result ≡ named word.now own_verbs_of_3 }
-{
-    named(&VERBS_OF_3, word)
 }
 
 /// The same of the verbs for text records and for dialogs.

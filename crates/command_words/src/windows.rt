@@ -63,7 +63,10 @@ impl WindowVerb {
             WindowVerb::Draw => Ok(WindowCall::Draw(drawing(version, words)?)),
             WindowVerb::Scroll => scroll(words),
             WindowVerb::Find => Ok(WindowCall::Find(words.last_point()?)),
-            WindowVerb::Front => words.end().map(|_| WindowCall::Front),
+            WindowVerb::Front => {
+                words.end()?;
+                Ok(WindowCall::Front)
+            }
             WindowVerb::Info => Ok(WindowCall::Info(words.last_serial()?)),
             WindowVerb::UpdateRegion => Ok(WindowCall::UpdateRegion(words.last_serial()?)),
             WindowVerb::VisibleRegion => Ok(WindowCall::VisibleRegion(words.last_serial()?)),

@@ -24,7 +24,7 @@ use Rattle.window_frame.specs.FrameSteps.{with_flag, with_title, with_tracked}
 use Rattle.window_frame.proofs.ToldSteps.{HoldsOfFrames, of_frame}
 use Rattle.control_mgr.proofs.ControlFacts.{control_facts}
 use Rattle.list_mgr.proofs.ListFacts.{list_facts}
-use Rattle.desk_toolbox.proofs.TextFacts.{text_facts}
+use Rattle.text_mgr.proofs.TextFacts.{text_facts}
 use Rattle.menu_mgr.proofs.MenuKeeps.{menu_keeps}
 use Rattle.desk_toolbox.specs.Run.{IsRunOfCalls, IsWindowAnswer, IsWindowMade, put_down}
 use Rattle.desk_toolbox.specs.ToolboxStates.{ToolboxState, with_controls, with_lists, with_menus, with_texts}

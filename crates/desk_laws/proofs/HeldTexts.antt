@@ -1,6 +1,6 @@
 -- After any call about text records no selection reaches past its text, and no text and no scrap is too long.
-use Rattle.std.proofs.Common.{◌≡◌, ℕ, zero, suc, ◌≤◌, ◌-◌, Bool, true, false, not, ◌&&◌, cond, List, [], ◌∷◌, ◌++◌, length, Option, None, Some, Result, Ok, Err, refl, sym, ap, ◌∙◌, subst, arith}
-use Rattle.std.specs.Prelude.{All, Contains, nat_abs, pos, slice_get, slice_range, is_none}
+use Rattle.std.proofs.Common.{◌≡◌, ℕ, zero, suc, ◌≤◌, Bool, true, false, not, ◌&&◌, List, [], ◌∷◌, ◌++◌, length, Option, None, Some, Result, Ok, Err, refl, sym, ap, ◌∙◌, subst, arith}
+use Rattle.std.specs.Prelude.{All, Contains, nat_abs, pos, slice_get, is_none}
 use Rattle.std.specs.List.{remove}
 use Rattle.std.specs.Option.{option_and_then, option_map_or}
 use Rattle.std.proofs.lemmas.Bool.{false≢true}
@@ -35,10 +35,10 @@ use Rattle.window_mgr.specs.FullDesk.{FullDesk}
 use Rattle.window_mgr.specs.Refused.{is_missing}
 use Rattle.control_mgr.proofs.Steps.{none_hold}
 use Rattle.text_mgr.specs.CallEdits.{are_too_many, edit_refusals, edited, is_outside, scrap_after}
-use Rattle.text_mgr.specs.TextDesks.{IsTextDeskUnchanged, KeptText, TextDesk, TextsState, index_of, text_of}
+use Rattle.text_mgr.specs.TextDesks.{KeptText, TextDesk, TextsState, index_of, text_of}
 use Rattle.text_mgr.specs.TextPlaces.{justification_of, placing_of}
 use Rattle.text_mgr.specs.TextRefusals.{named_refusals, text_refusals}
-use Rattle.text_mgr.specs.TextSteps.{IsOpenedIf, IsScrapSet, IsSelected, IsTextChanged, IsTextDisposed, IsTextEdited, IsTextEffect, IsTextLaid, IsTextMade, IsTextShownAnew, IsTextStep}
+use Rattle.text_mgr.specs.TextSteps.{IsOpenedIf, IsScrapSet, IsSelected, IsTextChanged, IsTextEdited, IsTextEffect, IsTextLaid, IsTextStep}
 use Rattle.text_mgr.specs.WholeTexts.{IsSelectable}
 use Rattle.desk_toolbox.specs.Reached.{AreRecords, IsHeld}
 use Rattle.desk_toolbox.specs.Run.{AreTextsLeft, IsStep, IsWindowMade, put_down}

@@ -41,7 +41,7 @@ use Rattle.control_mgr.proofs.ControlBits.{bare}
 use Rattle.control_mgr.proofs.ControlFacts.{control_facts}
 use Rattle.control_mgr.proofs.Stocks.{stocked_with, stocked_without, use_of, uses-append}
 use Rattle.list_mgr.proofs.ListFacts.{list_facts}
-use Rattle.desk_toolbox.proofs.TextFacts.{text_facts}
+use Rattle.text_mgr.proofs.TextFacts.{text_facts}
 use Rattle.menu_mgr.proofs.MenuKeeps.{menu_keeps}
 use Rattle.desk_toolbox.specs.Reached.{AreWindowsStocked}
 use Rattle.desk_toolbox.specs.Run.{IsStep, IsWindowAnswer, IsWindowMade}

@@ -1,12 +1,8 @@
 -- The bytes that a call carries mean what the definitions of its step say of them.
-use Rattle.std.proofs.Common.{◌≡◌, ℕ, ◌<◌, ℤ, pos, ◌&&◌, cond, List, [], ◌∷◌, ◌++◌, length, Option, None, Some, refl, sym, ap, ◌∙◌, arith}
+use Rattle.std.proofs.Common.{◌≡◌, ℕ, List, Option, None, Some, ap, ◌∙◌}
 use Rattle.std.specs.Option.{option_map}
-use Rattle.tb_geom.specs.declared.point.Point.{Point}
-use Rattle.tb_geom.specs.declared.rect.Rect.{Rect}
 use Rattle.tb_geom.specs.Pixels.{Pixels, holds}
 use Rattle.tb_geom.specs.Points.{PixelSet}
-use Rattle.tb_geom.specs.Rects.{in_plane}
-use Rattle.tb_geom.proofs.PixelsLemmas.{same_holds, test_holds}
 use Rattle.draw_port.specs.declared.shapes.Op.{Op}
 use Rattle.draw_port.specs.declared.shapes.Shape.{Shape}
 use Rattle.draw_port.specs.declared.shapes.Shape.TheVariants.{FillRgn}
@@ -18,10 +14,7 @@ use Rattle.desk_call.specs.declared.update.AreaRef.{AreaRef}
 use Rattle.desk_call.specs.declared.update.AreaRef.TheVariants as areas
 use Rattle.window_update.specs.Sets.{IsAreaOf}
 use Rattle.desk_laws.specs.Meant.{area_pixels, operation_of, shape_of}
-use Rattle.region_bytes.specs.Bytes.{IsForm, IsRegionBytes}
-use Rattle.region_bytes.specs.Points.{PointRow, inverted, points_of}
-use Rattle.region_bytes.specs.Text.{pixels_of, word_pixels}
-use Rattle.region_bytes.specs.Words.{box_of, box_words, data_words, is_short, words_in, words_of}
+use Rattle.region_bytes.specs.Text.{pixels_of}
 use Rattle.lent_ops.proofs.SaidPixels.{region_is}
 
 -- ---- areas

@@ -1,7 +1,7 @@
 -- No edit of a text record lets its selection reach past its text, and none makes that too long.
-use Rattle.std.proofs.Common.{◌≡◌, ℕ, ◌+◌, ◌-◌, ◌≤◌, ◌<◌, min, max, Bool, true, false, cond, List, [], ◌∷◌, ◌++◌, length, take, drop, ℤ, refl, sym, ap, ◌∙◌, arith, length-append, length-drop, length-take}
+use Rattle.std.proofs.Common.{◌≡◌, ℕ, ◌+◌, ◌-◌, ◌≤◌, ◌<◌, min, Bool, true, false, cond, List, [], ◌∷◌, ◌++◌, length, take, drop, ℤ, refl, arith, length-append, length-drop, length-take}
 use Rattle.std.specs.Prelude.{nat_abs, nat_lt, int_le, pos, slice_range, int_lt, ◌/◌, ◌-ℤ◌, ◌+ℤ◌, ◌==◌}
-use Rattle.std.proofs.lemmas.Bool.{and_parts, leb-true}
+use Rattle.std.proofs.lemmas.Bool.{and_parts}
 use Rattle.std.proofs.lemmas.Bool.Decides.{nat_tests}
 use Rattle.std.proofs.lemmas.List.Sums.{prefix_len-le-length}
 use Rattle.tb_geom.specs.declared.point.Point.{Point}

@@ -1,7 +1,7 @@
 -- What a call about text records changes of pixels is its change.
-use Rattle.std.proofs.Common.{◌≡◌, ℕ, zero, suc, Bool, true, false, not, ◌==◌, ◌||◌, cond, if◌then◌else◌, List, [], ◌∷◌, map, Option, None, Some, refl, sym, ap, ◌∙◌, subst, eqb-true}
+use Rattle.std.proofs.Common.{◌≡◌, ℕ, zero, suc, Bool, true, false, not, ◌==◌, cond, if◌then◌else◌, List, [], ◌∷◌, map, Some, refl, sym, ap, ◌∙◌, subst}
 use Rattle.std.specs.Prelude.{All, slice_get}
-use Rattle.std.specs.List.{AllZip, filter, list_any}
+use Rattle.std.specs.List.{AllZip, list_any}
 use Rattle.std.specs.Option.{option_map}
 use Rattle.std.proofs.lemmas.Bool.{and_parts, false≢true}
 use Rattle.std.proofs.lemmas.List.Elements.{All-cons, All-head, All-nil, All-tail, All-weaker}
@@ -9,12 +9,11 @@ use Rattle.tb_geom.specs.declared.point.Point.{Point}
 use Rattle.tb_geom.specs.Pixels.{holds}
 use Rattle.desk_layers.specs.declared.part.Part.{Part}
 use Rattle.desk_layers.specs.declared.part.Part.TheVariants as part
-use Rattle.desk_layers.specs.Desk.{IsDesk, on_screen, same_part}
+use Rattle.desk_layers.specs.Desk.{on_screen, same_part}
 use Rattle.desk_layers.specs.Owner.{Owner, is_content, own_bit, owner, same_owner}
 use Rattle.desk_layers.specs.Owner.Owner.{Content}
 use Rattle.desk_layers.specs.Scratch.{scratch}
 use Rattle.desk_layers.specs.Change.{Change, IsChanged, IsRight, State, had, no_change}
-use Rattle.desk_layers.proofs.Owning.{same_number}
 use Rattle.desk_layers.proofs.Painting.{scratch_is_owners}
 use Rattle.desk_call.specs.declared.activity.Activity.{Activity}
 use Rattle.desk_call.specs.declared.activity.Activity.TheVariants.{Idle, Selecting}
@@ -36,11 +35,11 @@ use Rattle.vis_update.specs.Records.{WindowRecord}
 use Rattle.vis_update.specs.Relayings.{afresh_change}
 use Rattle.window_paint.specs.Kinds.{is_of}
 use Rattle.window_mgr.specs.Effects.{IsUnchanged}
-use Rattle.window_mgr.specs.FullDesk.{FullDesk, FullState, layered_desk, layered_state}
+use Rattle.window_mgr.specs.FullDesk.{FullDesk, layered_desk, layered_state}
 use Rattle.control_mgr.proofs.ControlBits.{bare}
 use Rattle.text_mgr.specs.TextDesks.{KeptText, TextDesk, TextsState, texts_show}
 use Rattle.text_mgr.specs.TextLayers.{AreTextLayersOf, IsLayerOf}
-use Rattle.text_mgr.specs.TextSteps.{IsOpenedIf, IsSelected, IsTextChanged, IsTextEdited, IsTextEffect, IsTextLaid, IsTextShownAnew}
+use Rattle.text_mgr.specs.TextSteps.{IsOpenedIf, IsSelected, IsTextEdited, IsTextEffect, IsTextLaid, IsTextShownAnew}
 use Rattle.text_mgr.proofs.Layered.{text_layers}
 use Rattle.text_mgr.proofs.Places.{found_names}
 use Rattle.text_mgr.proofs.SerialsStay.{found_item, stay_changed}

@@ -1,5 +1,5 @@
 -- What holds of text records and of the scrap in each state that a desk reaches.
-use Rattle.std.proofs.Common.{◌≡◌, ℕ, Bool, true, false, List, [], ◌∷◌, ◌++◌, Option, None, Some, Result, Ok, Err, refl, sym, ap, ◌∙◌, subst}
+use Rattle.std.proofs.Common.{◌≡◌, ℕ, Bool, true, false, List, [], ◌∷◌, ◌++◌, Option, None, Some, Result, Ok, Err, refl, sym, ap, subst}
 use Rattle.std.specs.Prelude.{is_none}
 use Rattle.std.specs.Option.{option_map_or}
 use Rattle.tb_geom.specs.declared.point.Point.{Point}
@@ -31,7 +31,7 @@ use Rattle.text_mgr.specs.TextSteps.{IsBytes, IsOpenedIf, IsSelected, IsTextEffe
 use Rattle.desk_toolbox.specs.Run.{AreCounted, AreTextsLeft, IsRunOfCalls, IsWindowMade, put_down, replied, text_serial, texts_made}
 use Rattle.desk_toolbox.specs.ToolboxStates.{ToolboxState, with_texts}
 use Rattle.desk_toolbox.proofs.EachManager.{HoldsOfEach, of_step}
-use Rattle.desk_toolbox.proofs.TextFacts.{IsNextText, text_facts}
+use Rattle.text_mgr.proofs.TextFacts.{IsNextText, text_facts}
 use Rattle.desk_laws.specs.Ordered.{AreInOrder}
 
 -- ---- why calls are refused

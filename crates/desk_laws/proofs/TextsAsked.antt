@@ -1,5 +1,5 @@
 -- Text records are there only where calls ask for them, and the scrap outlives windows.
-use Rattle.std.proofs.Common.{◌≡◌, ℕ, zero, suc, Bool, true, false, List, [], ◌∷◌, Option, None, Some, Result, Ok, Err, refl, sym, ap, ◌∙◌, subst, arith}
+use Rattle.std.proofs.Common.{◌≡◌, ℕ, zero, suc, Bool, true, false, List, [], ◌∷◌, Result, Ok, Err, refl, sym, ap, ◌∙◌, arith}
 use Rattle.std.specs.Prelude.{All, Contains, ◌<◌}
 use Rattle.std.specs.List.{remove}
 use Rattle.std.proofs.lemmas.Bool.{false≢true}
@@ -11,7 +11,6 @@ use Rattle.desk_call.specs.declared.activity.Activity.TheVariants.{Idle, Updatin
 use Rattle.desk_call.specs.declared.call.Call.{Call}
 use Rattle.desk_call.specs.declared.call.Call.TheVariants as calls
 use Rattle.desk_call.specs.declared.call.Reply.{Reply}
-use Rattle.desk_call.specs.declared.call.Reply.TheVariants as reply
 use Rattle.desk_call.specs.declared.text.ClickText.{ClickText}
 use Rattle.desk_call.specs.declared.text.TextCall.{TextCall}
 use Rattle.desk_call.specs.declared.text.TextCall.TheVariants as call
@@ -27,7 +26,7 @@ use Rattle.text_edits.specs.Selecting.{is_clicked}
 use Rattle.window_items.specs.Items.{edit_at, with_kept}
 use Rattle.text_mgr.specs.TextDesks.{KeptText, TextDesk, TextsState}
 use Rattle.text_mgr.specs.TextSteps.{IsOpenedIf, IsScrapSet, IsSelected, IsTextChanged, IsTextEdited, IsTextEffect, IsTextStep}
-use Rattle.desk_toolbox.specs.Run.{AreTextsLeft, IsRunOfCalls, IsStep, IsWindowMade, put_down, replied}
+use Rattle.desk_toolbox.specs.Run.{AreTextsLeft, IsRunOfCalls, IsStep, IsWindowMade, put_down}
 use Rattle.desk_toolbox.specs.ToolboxStates.{ToolboxState, with_texts}
 use Rattle.desk_toolbox.proofs.EachManager.{HoldsOfEach, of_step}
 use Rattle.desk_laws.specs.TextsAsked.{asks_for_text}

@@ -62,9 +62,11 @@ use Rattle.desk_toolbox.proofs.KeptDesks.{told_keeps}
 use Rattle.desk_toolbox.proofs.StepCounts.{AreNumbered, HasLess, Recount, told_recounts, disposed_is_gone, right_is_numbered}
 use Rattle.desk_toolbox.proofs.Totals.{copies, counted_is_found, either_class, found_counts, serial_of_counted}
 use Rattle.desk_toolbox.specs.KnownLayers.{AreKnown, AreLayersKnown, is_known}
-use Rattle.desk_toolbox.proofs.KnownLayers.{control_leaves_known, control_leaves_texts, list_leaves_known, list_leaves_texts, known_to}
-use Rattle.desk_toolbox.proofs.TextFacts.{text_facts}
-use Rattle.desk_toolbox.proofs.TextsBeside.{controls_beside, known_beside, lists_beside, text_holds}
+use Rattle.text_mgr.proofs.ControlsBeside.{control_leaves_texts}
+use Rattle.desk_toolbox.proofs.KnownLayers.{control_leaves_known, list_leaves_known, list_leaves_texts, known_to}
+use Rattle.text_mgr.proofs.TextFacts.{text_facts}
+use Rattle.text_mgr.proofs.TextsBeside.{text_holds, text_leaves_controls, text_missing}
+use Rattle.desk_toolbox.proofs.TextsBeside.{known_beside, lists_beside}
 use Rattle.desk_toolbox.proofs.TextsGone as texts
 use Rattle.desk_toolbox.proofs.TextsGone.{shows_alike}
 
@@ -333,25 +335,7 @@ right_texts s was = record {
   whole = was.contents.texts;
 }
 
--- each window is there still, and no other
-text_missing : (call : TextCall) (answer : Result TextReply Refusal) (before after : TextDesk) → IsTextStep call answer before after → (n : ℕ) → is_missing n after.desk.windows.desk.windows ≡ is_missing n before.desk.windows.desk.windows
-text_missing call answer before after step n =
-    missing_alike n before.desk.windows.desk.windows after.desk.windows.desk.windows (text_facts call answer before after step).0.windows
-
--- the controls and the lists stay whole beside a call about text records, and layers stay known
-pub text_leaves_controls : (call : TextCall) (answer : Result TextReply Refusal) (before after : TextDesk) (s : ControlsState) → AreWholeTexts before.desk.windows.desk.windows before.texts → IsTextStep call answer before after
-    → AreWholeControls before.desk.windows.desk.windows s → AreWholeControls after.desk.windows.desk.windows s
-text_leaves_controls call answer before after s texts step whole = record {
-  settled = whole.settled;
-  apart = whole.apart;
-  given = whole.given;
-  somewhere = All-weaker (λ (c : ControlRecord). is_missing c.window before.desk.windows.desk.windows ≡ false) (λ (c : ControlRecord). is_missing c.window after.desk.windows.desk.windows ≡ false)
-      (λ c here. text_missing call answer before after step c.window ∙ here) s.controls whole.somewhere;
-  few = whole.few;
-  joined = text_holds (λ n ls. AreLayersOf (items_of n s.controls) ls) (controls_beside s.controls) before after texts call answer step whole.joined;
-  stocked = whole.stocked;
-}
-
+-- the lists stay whole beside a call about text records, and layers stay known
 pub text_leaves_lists : (call : TextCall) (answer : Result TextReply Refusal) (before after : TextDesk) (s : ListsState) → AreWholeTexts before.desk.windows.desk.windows before.texts → IsTextStep call answer before after
     → AreWholeLists before.desk.windows.desk.windows s → AreWholeLists after.desk.windows.desk.windows s
 text_leaves_lists call answer before after s texts step whole = record {

@@ -144,12 +144,6 @@ pub list_leaves_texts : (call : ListCall) (answer : Result ListReply Refusal) (b
     → AreWholeTexts before.desk.windows.desk.windows s → AreWholeTexts after.desk.windows.desk.windows s
 list_leaves_texts call answer before after s was step whole = texts_stay s before.desk.windows.desk.windows after.desk.windows.desk.windows (list_beside call answer before after was step) whole
 
-pub control_leaves_texts : (call : ControlCall) (answer : Result ControlReply Refusal) (before after : ControlDesk) (s : TextsState) → IsDesk (layered_desk before.desk.windows.desk) → AreControlsApart before.controls.controls
-    → IsControlStep call answer before after → AreWholeTexts before.desk.windows.desk.windows s → AreWholeTexts after.desk.windows.desk.windows s
-control_leaves_texts call answer before after s distinct apart step whole =
-    texts_stay s before.desk.windows.desk.windows after.desk.windows.desk.windows
-    (from_uncontrolled before.desk.windows.desk.windows after.desk.windows.desk.windows (control_behind call answer before after distinct apart step)) whole
-
 -- calls about lists, and about controls
 pub list_leaves_known : (call : ListCall) (answer : Result ListReply Refusal) (before after : ListDesk) → IsRightLists before → IsListStep call answer before after → AreLayersKnown before.desk.windows.desk.windows
     → AreLayersKnown after.desk.windows.desk.windows

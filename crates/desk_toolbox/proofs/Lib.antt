@@ -4,7 +4,6 @@ pub mod KeptDesks
 pub mod Bonds
 pub mod KnownLayers
 pub mod ContentsBeside
-pub mod TextFacts
 pub mod TextsBeside
 pub mod TextsGone
 pub mod ContentsLeft

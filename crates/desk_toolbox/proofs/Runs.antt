@@ -61,7 +61,7 @@ use Rattle.list_mgr.proofs.ListFacts.{list_facts}
 use Rattle.text_mgr.specs.TextSteps.{IsTextStep}
 use Rattle.desk_call.specs.declared.text.TextCall.{TextCall}
 use Rattle.desk_call.specs.declared.text.TextReply.{TextReply}
-use Rattle.desk_toolbox.proofs.TextFacts.{text_facts}
+use Rattle.text_mgr.proofs.TextFacts.{text_facts}
 use Rattle.desk_toolbox.proofs.KeptDesks.{refused_keeps_desk}
 
 -- ---- what is right stays so

@@ -33,7 +33,7 @@ use Rattle.desk_toolbox.proofs.MenusBeside.{CoversNone}
 use Rattle.desk_toolbox.proofs.PulledMenus.{IsPullRight, still_unpulled}
 use Rattle.desk_toolbox.proofs.Stands.{Stands, apart_stays, bar_stays, idle_now, stands_still}
 use Rattle.desk_toolbox.proofs.StepCounts.{HasSame}
-use Rattle.desk_toolbox.proofs.TextFacts.{none_first, IsBesideTexts, text_facts}
+use Rattle.text_mgr.proofs.TextFacts.{none_first, IsBesideTexts, text_facts}
 use Rattle.desk_toolbox.proofs.Told.{ArePosted}
 use Rattle.desk_toolbox.proofs.Totals.{Classing, Has, Ordinary, Present, copies, counted, counting, either_class, found_counts, has_when, of_class, total}
 use Rattle.desk_toolbox.proofs.Tracked.{misled}

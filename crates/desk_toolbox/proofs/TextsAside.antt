@@ -31,7 +31,7 @@ use Rattle.menu_mgr.specs.declared.menus.Menus.{Menus}
 use Rattle.menu_mgr.specs.MenuDesks.{MenuSlot}
 use Rattle.desk_toolbox.proofs.MenusBeside.{AreMenusInFront}
 use Rattle.desk_toolbox.proofs.MenusBeside as menus
-use Rattle.desk_toolbox.proofs.TextFacts.{text_facts}
+use Rattle.text_mgr.proofs.TextFacts.{text_facts}
 use Rattle.desk_toolbox.proofs.TextStands.{AtMostText, open_then, text_comes_then, text_opens, unselected, untracked}
 use Rattle.desk_toolbox.proofs.UpdatesBeside as updates
 use Rattle.desk_toolbox.proofs.UpdatesBeside.{UpdatesNone}

@@ -1,5 +1,5 @@
 -- A step of whichever manager, and a run of steps.
-use Rattle.std.specs.Prelude.{◌≡◌, ℕ, zero, suc, Bool, true, false, ◌&&◌, List, [], ◌∷◌, ◌++◌, Option, None, Some, Result, Ok, Err}
+use Rattle.std.specs.Prelude.{◌≡◌, ℕ, zero, suc, Bool, true, false, ◌&&◌, if◌then◌else◌, List, map, [], ◌∷◌, ◌++◌, Option, None, Some, Result, Ok, Err}
 use Rattle.std.specs.Option.{option_map_or, unwrap_or}
 use Rattle.tb_geom.specs.declared.refusal.Refusal.{Refusal}
 use Rattle.tb_geom.specs.Points.{PixelSet, plus}
@@ -31,6 +31,7 @@ use Rattle.desk_call.specs.declared.outline.OutlineCall.{OutlineCall}
 use Rattle.desk_call.specs.declared.outline.OutlineReply.{OutlineReply}
 use Rattle.desk_call.specs.declared.outline.OutlineReply.TheVariants.{Shown}
 use Rattle.desk_call.specs.declared.text.TextCall.{TextCall}
+use Rattle.desk_call.specs.declared.text.TextCall.TheVariants as text_calls
 use Rattle.desk_call.specs.declared.text.TextReply.{TextReply}
 use Rattle.desk_call.specs.declared.text.TextReply.TheVariants as text_reply
 use Rattle.desk_call.specs.declared.update.UpdateCall.{UpdateCall}
@@ -67,12 +68,22 @@ use Rattle.list_mgr.specs.ListRefusals.{bars_wanted, list_form_refusals}
 use Rattle.list_mgr.specs.ListSteps.{IsListStep}
 use Rattle.text_mgr.specs.TextDesks.{KeptText, TextsState, texts_show}
 use Rattle.text_mgr.specs.TextSteps.{IsTextStep}
+use Rattle.dialog_items.specs.Kinds.{has_sort}
+use Rattle.dialog_items.specs.declared.item.LayerSort.{LayerSort}
+use Rattle.dialog_items.specs.declared.item.LayerSort.TheVariants.{Control as ControlLayer, Text as TextLayer}
+use Rattle.dialog_call.specs.declared.calls.DialogCall.{DialogCall}
+use Rattle.dialog_call.specs.declared.calls.DialogCall.TheVariants as dialog_calls
+use Rattle.dialog_call.specs.declared.calls.DialogReply.{DialogReply}
+use Rattle.dialog_mgr.specs.DialogClosing.{text_gone, window_gone}
+use Rattle.dialog_mgr.specs.DialogDesks.{DialogsState}
+use Rattle.dialog_mgr.specs.DialogRefusals.{dialog_form_refusals}
+use Rattle.dialog_mgr.specs.DialogSteps.{IsDialogStep}
 use Rattle.menu_mgr.specs.MenuRefusals.{menu_form_refusals}
 use Rattle.menu_mgr.specs.MenuSteps.{IsMenuStep}
 use Rattle.desk_toolbox.specs.EventSteps.{event_step, events_left}
 use Rattle.desk_toolbox.specs.Fronts.{is_on_menu}
 use Rattle.desk_toolbox.specs.TextsLeft.{AreTextsOfLeft}
-use Rattle.desk_toolbox.specs.ToolboxStates.{ToolboxState, IsToolboxUnchanged, with_controls, with_lists, with_menus, with_texts}
+use Rattle.desk_toolbox.specs.ToolboxStates.{ToolboxState, IsToolboxUnchanged, with_controls, with_dialogs, with_lists, with_menus, with_texts}
 
 -- ---- one step
 
@@ -91,6 +102,7 @@ pub record IsEventAnswer (call : EventCall) (result : Result EventReply Refusal)
   pub controls : after.controls ≡ before.controls
   pub lists : after.lists ≡ before.lists
   pub texts : after.texts ≡ before.texts
+  pub dialogs : after.dialogs ≡ before.dialogs
   pub menus : after.menus ≡ before.menus
   pub update : Option ℕ
   pub first : IsFirstToUpdate before.desk update
@@ -102,6 +114,7 @@ pub record IsRestKept (before after : ToolboxState) : Type 0 where
   pub controls : after.controls ≡ before.controls
   pub lists : after.lists ≡ before.lists
   pub texts : after.texts ≡ before.texts
+  pub dialogs : after.dialogs ≡ before.dialogs
   pub menus : after.menus ≡ before.menus
 
 -- the controls of a window that was disposed of go with it, and all others stay
@@ -119,12 +132,17 @@ abbrev pub AreTextsLeft : WindowCall → TextsState → TextsState → Type 0
 AreTextsLeft (Dispose s) before after = AreTextsOfLeft s before after
 AreTextsLeft _ before after = after ≡ before
 
+-- and its items
+abbrev pub AreDialogsLeft : WindowCall → DialogsState → DialogsState → Type 0
+AreDialogsLeft (Dispose s) before after = after ≡ window_gone s before
+AreDialogsLeft _ before after = after ≡ before
+
 -- the windows, showing these controls, lists and text records
 abbrev pub shown_with : List ControlRecord → List KeptList → List KeptText → FullState → FullState
 shown_with cs ls ts s = state_showing (controls_show (lists_show (texts_show (λ font. all_white) ts) ls) cs) s
 
 -- a call on windows that was done: then definitions were told how their windows stand, and a window that is gone is forgotten,
--- with its controls, its lists and its text records
+-- with its controls, its lists, its text records and its items
 pub record IsWindowDone (call : WindowCall) (answer : WindowReply) (before after : ToolboxState) : Type 0 where
   pub middle : DeskState
   pub answered : IsWindowAnswered call (Ok answer) before.desk middle
@@ -135,6 +153,7 @@ pub record IsWindowDone (call : WindowCall) (answer : WindowReply) (before after
   pub controls : AreControlsLeft call before.controls after.controls
   pub lists : AreListsLeft call before.lists after.lists
   pub texts : AreTextsLeft call before.texts after.texts
+  pub dialogs : AreDialogsLeft call before.dialogs after.dialogs
   pub events : after.events ≡ events_left call before.events
   pub menus : after.menus ≡ before.menus
 
@@ -175,6 +194,7 @@ pub record IsControlAnswer (call : ControlCall) (result : Result ControlReply Re
   pub events : after.events ≡ before.events
   pub lists : after.lists ≡ before.lists
   pub texts : after.texts ≡ before.texts
+  pub dialogs : after.dialogs ≡ before.dialogs
   pub menus : after.menus ≡ before.menus
 
 -- a call about controls, where the pulled menu lies or not
@@ -187,7 +207,13 @@ pub record IsListAnswer (call : ListCall) (result : Result ListReply Refusal) (b
   pub step : IsListStep call result (with_lists before) (with_lists after)
   pub events : after.events ≡ before.events
   pub texts : after.texts ≡ before.texts
+  pub dialogs : after.dialogs ≡ before.dialogs
   pub menus : after.menus ≡ before.menus
+
+-- the dialogs after a call about text records: where one was disposed of, the item that it showed is not edited
+abbrev pub dialogs_left : TextCall → Result TextReply Refusal → DialogsState → DialogsState
+dialogs_left (text_calls.Dispose t) (Ok answer) s = text_gone t s
+dialogs_left _ result s = s
 
 -- a call about text records leaves the events, the controls, the lists and the menus as they are, and is a step of the text
 -- records
@@ -195,6 +221,15 @@ pub record IsTextAnswer (call : TextCall) (result : Result TextReply Refusal) (b
   pub step : IsTextStep call result (with_texts before) (with_texts after)
   pub events : after.events ≡ before.events
   pub controls : after.controls ≡ before.controls
+  pub lists : after.lists ≡ before.lists
+  pub dialogs : after.dialogs ≡ dialogs_left call result before.dialogs
+  pub menus : after.menus ≡ before.menus
+
+-- a call about the items of dialogs leaves the events, the lists and the menus as they are, and is a step of the controls, the text
+-- records and the dialogs
+pub record IsDialogAnswer (call : DialogCall) (result : Result DialogReply Refusal) (before after : ToolboxState) : Type 0 where
+  pub step : IsDialogStep call result (with_dialogs before) (with_dialogs after)
+  pub events : after.events ≡ before.events
   pub lists : after.lists ≡ before.lists
   pub menus : after.menus ≡ before.menus
 
@@ -205,6 +240,7 @@ pub record IsMenuAnswer (call : MenuCall) (result : Result MenuReply Refusal) (b
   pub controls : after.controls ≡ before.controls
   pub lists : after.lists ≡ before.lists
   pub texts : after.texts ≡ before.texts
+  pub dialogs : after.dialogs ≡ before.dialogs
 
 -- the answer of a manager, as one of the Toolbox
 abbrev pub replied : {R : Type 0} → (R → Reply) → Result R Refusal → Result Reply Refusal
@@ -252,6 +288,8 @@ IsAdmitted (asks.List call) result before after =
     (own : Result ListReply Refusal) × (result ≡ replied reply.List own) × IsListAnswer call own before after
 IsAdmitted (asks.Text call) result before after =
     (own : Result TextReply Refusal) × (result ≡ replied reply.Text own) × IsTextAnswer call own before after
+IsAdmitted (asks.Dialog call) result before after =
+    (own : Result DialogReply Refusal) × (result ≡ replied reply.Dialog own) × IsDialogAnswer call own before after
 IsAdmitted (Menu call) result before after =
     (own : Result MenuReply Refusal) × (result ≡ replied reply.Menu own) × IsMenuAnswer call own before after
 IsAdmitted (Outline call) result before after =
@@ -267,6 +305,7 @@ IsFormFault (Frame call) before form = form ≡ None
 IsFormFault (Control call) before form = form ≡ first_refusal (control_form_refusals call before.controls.stock)
 IsFormFault (asks.List call) before form = form ≡ first_refusal (list_form_refusals call before.lists.stock before.controls.stock)
 IsFormFault (asks.Text call) before form = form ≡ None
+IsFormFault (asks.Dialog call) before form = form ≡ first_refusal (dialog_form_refusals call before.controls.stock)
 IsFormFault (Menu call) before form = form ≡ first_refusal (menu_form_refusals call before.menus.stock)
 IsFormFault (Outline call) before form = form ≡ None
 IsFormFault (Event call) before form = form ≡ None
@@ -312,6 +351,7 @@ made (Ok (reply.Frame answer) ∷ answers) = made answers
 made (Ok (reply.Control answer) ∷ answers) = made answers
 made (Ok (reply.List answer) ∷ answers) = made answers
 made (Ok (reply.Text answer) ∷ answers) = made answers
+made (Ok (reply.Dialog answer) ∷ answers) = made answers
 made (Ok (reply.Menu answer) ∷ answers) = made answers
 made (Ok (reply.Outline answer) ∷ answers) = made answers
 made (Ok (reply.Event answer) ∷ answers) = made answers
@@ -335,6 +375,7 @@ lists_made (Ok (reply.Frame answer) ∷ answers) = lists_made answers
 lists_made (Ok (reply.Control answer) ∷ answers) = lists_made answers
 lists_made (Ok (reply.List answer) ∷ answers) = list_serial answer ++ lists_made answers
 lists_made (Ok (reply.Text answer) ∷ answers) = lists_made answers
+lists_made (Ok (reply.Dialog answer) ∷ answers) = lists_made answers
 lists_made (Ok (reply.Menu answer) ∷ answers) = lists_made answers
 lists_made (Ok (reply.Outline answer) ∷ answers) = lists_made answers
 lists_made (Ok (reply.Event answer) ∷ answers) = lists_made answers
@@ -353,6 +394,7 @@ texts_made (Ok (reply.Frame answer) ∷ answers) = texts_made answers
 texts_made (Ok (reply.Control answer) ∷ answers) = texts_made answers
 texts_made (Ok (reply.List answer) ∷ answers) = texts_made answers
 texts_made (Ok (reply.Text answer) ∷ answers) = text_serial answer ++ texts_made answers
+texts_made (Ok (reply.Dialog answer) ∷ answers) = texts_made answers
 texts_made (Ok (reply.Menu answer) ∷ answers) = texts_made answers
 texts_made (Ok (reply.Outline answer) ∷ answers) = texts_made answers
 texts_made (Ok (reply.Event answer) ∷ answers) = texts_made answers
@@ -379,13 +421,29 @@ abbrev pub bars_made : Call → List (Option ℕ)
 bars_made (asks.List (list_calls.New n)) = untold (bars_wanted n)
 bars_made _ = []
 
+-- the one of the layer of this sort that was made with an item, if one was
+abbrev pub layer_made : LayerSort → Call → List (Option ℕ)
+layer_made sort (asks.Dialog (dialog_calls.New n)) = if has_sort sort n.kind then None ∷ [] else []
+layer_made sort _ = []
+
 -- the serials of controls that a call took which was answered so
 abbrev pub controls_taken : Result Reply Refusal → Call → List (Option ℕ)
 controls_taken (Ok (reply.Control answer)) call = control_serial answer
 controls_taken (Ok (reply.List answer)) call = bars_made call
+controls_taken (Ok (reply.Dialog answer)) call = layer_made ControlLayer call
 controls_taken _ call = []
 
 -- those that a run took
 abbrev pub controls_made : List Call → List (Result Reply Refusal) → List (Option ℕ)
 controls_made (call ∷ calls) (answer ∷ answers) = controls_taken answer call ++ controls_made calls answers
 controls_made _ _ = []
+
+-- and the serials of text records that a call took, and that a run took
+abbrev pub texts_taken : Result Reply Refusal → Call → List (Option ℕ)
+texts_taken (Ok (reply.Text answer)) call = map (λ n. Some n) (text_serial answer)
+texts_taken (Ok (reply.Dialog answer)) call = layer_made TextLayer call
+texts_taken _ call = []
+
+abbrev pub texts_numbered : List Call → List (Result Reply Refusal) → List (Option ℕ)
+texts_numbered (call ∷ calls) (answer ∷ answers) = texts_taken answer call ++ texts_numbered calls answers
+texts_numbered _ _ = []

@@ -22,6 +22,7 @@ use Rattle.list_mgr.specs.WholeLists.{AreWholeLists, lists_state}
 use Rattle.list_mgr.specs.WholeLists as lists
 use Rattle.text_mgr.specs.TextDesks.{texts_show}
 use Rattle.text_mgr.specs.WholeTexts.{AreWholeTexts, IsSelectable, texts_state}
+use Rattle.dialog_mgr.specs.WholeDialogs.{AreWholeDialogs, dialogs_state}
 use Rattle.menu_mgr.specs.WholeMenus.{AreLive, IsPlaced, IsWholeMenus, menus_of, menus_state}
 use Rattle.desk_toolbox.specs.declared.toolbox.Toolbox.{Toolbox}
 use Rattle.desk_toolbox.specs.FrontMaps.{IsFrontRight}
@@ -43,6 +44,7 @@ module _ {V : Type 0} {H : V → Type 0} (loan : TakenBox V H → WindowLoan) {W
     pub lists : AreWholeLists (desk_of loan t.windows []).windows (lists_state list_loan t.lists stocks.lists)
     pub texts : AreWholeTexts (desk_of loan t.windows []).windows (texts_state t.texts)
     pub selectable : IsSelectable t.activity t.texts.list.items.items
+    pub dialogs : AreWholeDialogs (desk_of loan t.windows []).windows t.texts.list.items.items (dialogs_state t.dialogs)
     pub known : AreLayersKnown (desk_of loan t.windows []).windows
 
   -- its state: what its windows show of controls, lists and text records is what these show
@@ -52,6 +54,7 @@ module _ {V : Type 0} {H : V → Type 0} (loan : TakenBox V H → WindowLoan) {W
     controls = controls_state control_loan t.controls stocks.controls;
     lists = lists_state list_loan t.lists stocks.lists;
     texts = texts_state t.texts;
+    dialogs = dialogs_state t.dialogs;
     menus = menus_state menu_loan t.menus stocks.menus;
     events = t.events;
   }

@@ -3,17 +3,18 @@ ghost use Rattle.std.specs.Prelude.{◌≡◌, [], None, OnErr};
 ghost use Rattle.def_iface.specs.Stocks.{AllSlots};
 ghost use Rattle.desk_call.specs.declared.call.Call.TheVariants as calls;
 ghost use Rattle.desk_call.specs.declared.window.WindowCall.{WindowCall as Named};
-ghost use Rattle.desk_call.specs.Gates.{control_standing, gate, list_standing, standing_of, text_standing, update_standing, window_standing};
+ghost use Rattle.desk_call.specs.Gates.{control_standing, dialog_standing, gate, list_standing, standing_of, text_standing, update_standing, window_standing};
 ghost use Rattle.desk_call.specs.Natures.{control_asks, nature_of, window_ends, window_nature};
 ghost use Rattle.control_mgr.specs.InUse.{AreStocked};
 ghost use Rattle.control_mgr.specs.WholeControls.{AreLiveControls, slots_of};
 ghost use Rattle.list_mgr.specs.WholeLists.{AreLiveLists};
 ghost use Rattle.list_mgr.specs.WholeLists as whole_lists;
 ghost use Rattle.text_mgr.specs.WholeTexts.{texts_state};
+ghost use Rattle.dialog_mgr.specs.WholeDialogs.{dialogs_state};
 ghost use Rattle.window_frame.specs.Followers.{AreInformed};
 ghost use Rattle.desk_toolbox.specs.Economy.{IsQuietRefusal};
 ghost use Rattle.desk_toolbox.specs.EventSteps.{events_left};
-ghost use Rattle.desk_toolbox.specs.Run.{AreControlsLeft, AreListsLeft, AreTextsLeft, IsAdmitted, IsControlTold, IsEventAnswer};
+ghost use Rattle.desk_toolbox.specs.Run.{AreControlsLeft, AreDialogsLeft, AreListsLeft, AreTextsLeft, IsAdmitted, IsControlTold, IsDialogAnswer, IsEventAnswer};
 ghost use Rattle.desk_toolbox.specs.Run.{IsFormFault, IsListAnswer, IsTextAnswer, IsUpdateTold, IsWindowTold, is_behind_menu};
 ghost use Rattle.desk_toolbox.specs.Run.{is_covered, is_hidden_by_menu, is_under_menu};
 ghost use Rattle.desk_toolbox.specs.ToolboxStates.{ToolboxState};
@@ -321,6 +322,8 @@ fn forget(
         (⟦<Lists<TakenList> as ListsOnStock>⟧.state lists.new list_stock.new) }
     ensures texts { (call : Named) → window_ends call ≡ ends
         → AreTextsLeft call (texts_state texts.old) (texts_state texts.new) }
+    ensures dialogs { (call : Named) → window_ends call ≡ ends
+        → AreDialogsLeft call (dialogs_state dialogs.old) (dialogs_state dialogs.new) }
 {
     if let Some(window) = ends {
         events.forget(window);

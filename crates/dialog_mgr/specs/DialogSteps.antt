@@ -33,7 +33,6 @@ use Rattle.desk_call.specs.declared.text.TextOf.{TextOf}
 use Rattle.desk_call.specs.declared.text.TextReply.{TextReply}
 use Rattle.desk_call.specs.declared.text.TextReply.TheVariants as text_reply
 use Rattle.desk_call.specs.Steps.{IsStepOf}
-use Rattle.window_mgr.specs.FullDesk.{IsRightState}
 use Rattle.control_mgr.specs.ControlDesks.{ControlRecord}
 use Rattle.control_mgr.specs.ControlSteps.{IsControlEffect, IsControlMade}
 use Rattle.text_mgr.specs.ItemTexts.{IsTextBegun, IsTextPut}
@@ -312,7 +311,3 @@ abbrev pub IsDialogStep : DialogCall → Result DialogReply Refusal → DialogDe
 IsDialogStep c = IsStepOf
     (λ before why. first_refusal (dialog_refusals c before) ≡ why) (may_dialog_grow c)
     (IsDialogEffect c) IsDialogDeskUnchanged
-
--- the step was made, where the screen was right before
-abbrev pub IsWhereRight : (DialogDesk → DialogDesk → Type 0) → DialogDesk → DialogDesk → Type 0
-IsWhereRight step before after = IsRightState before.desk.windows → step before after

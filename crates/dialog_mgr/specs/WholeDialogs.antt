@@ -12,6 +12,7 @@ use Rattle.dialog_items.specs.Items.{edits_one}
 use Rattle.vis_update.specs.Records.{WindowRecord}
 use Rattle.window_mgr.specs.declared.manager.WindowManager.{WindowManager}
 use Rattle.window_mgr.specs.DeskStates.{Opened, desk_with}
+use Rattle.window_mgr.specs.FullDesk.{IsRightState}
 use Rattle.window_mgr.specs.Records.{desk_of, state_of, state_showing}
 use Rattle.window_mgr.specs.Refused.{is_missing}
 use Rattle.window_mgr.specs.Whole.{IsWholeManager}
@@ -82,8 +83,9 @@ module _ {V : Type 0} {H : V → Type 0} (loan : TakenBox V H → WindowLoan) {W
     others = others;
   }
 
-  -- whatever other layers show, over any slots over which the windows are whole, and over these of the controls' stock, windows,
-  -- controls and text records are whole afterwards, and with the dialogs they are together one step of the desk
+  -- whatever other layers show, over any slots over which the windows are whole, and over these of the controls' stock: where the
+  -- screen was right, windows, controls and text records are whole afterwards, and with the dialogs they are together one step of the
+  -- desk
   abbrev pub LeavesOver : List ControlSlot → List ControlSlot → (DialogDesk → DialogDesk → Type 0)
       → WindowManager V H → Opened → Controls (TakenBox W K) → Texts → Dialogs
       → WindowManager V H → Opened → Controls (TakenBox W K) → Texts → Dialogs → Type 0
@@ -91,6 +93,7 @@ module _ {V : Type 0} {H : V → Type 0} (loan : TakenBox V H → WindowLoan) {W
       → IsWholeManager loan t slots
       → AreWholeControls (desk_of loan t []).windows (controls_state control_loan cs kept)
       → AreWholeTexts (desk_of loan t []).windows (texts_state ts)
+      → IsRightState (dialog_desk others t o slots cs kept ts m).desk.windows
       → IsWholeManager loan u slots
       × AreWholeControls (desk_of loan u []).windows (controls_state control_loan ds left)
       × AreWholeTexts (desk_of loan u []).windows (texts_state us)

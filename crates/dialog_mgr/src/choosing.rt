@@ -1,17 +1,14 @@
 //! The edited item of a window: which it is, and what of its text is selected.
-ghost use Rattle.std.specs.Prelude.{◌≡◌, Ok, Some, false, is_none, true};
+ghost use Rattle.std.specs.Prelude.{◌≡◌, Some, false, is_none, true};
 ghost use Rattle.tb_geom.specs.Points.{PixelSet};
 ghost use Rattle.desk_call.specs.declared.activity.Activity.TheVariants.{Idle};
 ghost use Rattle.dialog_call.specs.declared.calls.DialogCall.TheVariants as asks;
 ghost use Rattle.text_edits.specs.Edits.{is_selection};
 ghost use Rattle.control_mgr.specs.Spots.{opened};
-ghost use Rattle.desk_call.specs.declared.text.TextCall.TheVariants as asks_text;
-ghost use Rattle.desk_call.specs.declared.text.TextReply.TheVariants.{Done};
 ghost use Rattle.text_mgr.specs.TextDesks.{index_of};
-ghost use Rattle.text_mgr.specs.TextSteps as texts;
-ghost use Rattle.text_mgr.specs.TextSteps.{IsTextStep};
-ghost use Rattle.dialog_mgr.specs.DialogSteps.{IsDialogStep, IsTextSelected, IsWhereRight, item_in};
-ghost use Rattle.dialog_mgr.specs.Choosing.{IsEditedNext};
+ghost use Rattle.text_mgr.specs.TextSteps.{IsWhereRight};
+ghost use Rattle.dialog_mgr.specs.DialogSteps.{IsDialogStep, IsTextSelected, item_in};
+ghost use Rattle.dialog_mgr.specs.Choosing.{IsActivated, IsEditedNext, OnOkOf};
 ghost use Rattle.dialog_mgr.specs.Rooms.{MayBeEdited};
 ghost use Rattle.dialog_mgr.specs.ItemLayers.{edited_text, left_text};
 ghost use Rattle.dialog_mgr.specs.WholeDialogs.{dialogs_state};
@@ -38,28 +35,27 @@ fn is_selection(start: i32, end: i32) -> bool
     0 <= start && (start <= end && end <= LARGEST_OFFSET)
 }
 
-/// Makes a text record, which is there, active or inactive.
+/// Makes a text record active or inactive. Nothing refuses that where it is there.
 pub(crate) fn activate(
     windows: &mut WindowManager,
     activity: &mut Activity,
     texts: &mut Texts,
     text: TextOf,
     flag: bool,
-)
+) -> Result<(), Refusal>
     requires kept { ⟦<WindowManager as DeskWindows>⟧.IsKept windows.old }
     requires texts { ⟦<Texts as DeskTexts>⟧.AreBeside windows.old texts.old }
-    requires there { is_none (index_of text texts.old.list.items.items) ≡ false }
     requires idle { activity.old ≡ Idle }
     ensures step { (begun : PixelSet) → ⟦<Texts as DeskTexts>⟧.Leaves
-        (texts.IsWhereRight (IsTextStep (asks_text.Activate (record { text = text; flag = flag })) (Ok Done)))
+        (IsWhereRight (IsActivated text flag result))
         windows.old (opened activity.old begun) texts.old windows.new (opened activity.new begun) texts.new }
+    ensures kept { ⟦<WindowManager as DeskWindows>⟧.IsKept windows.new }
+    ensures texts { ⟦<Texts as DeskTexts>⟧.AreBeside windows.new texts.new }
     ensures idle { activity.new ≡ Idle }
 {
     let call = TextCall::Activate(TextFlag { text, flag });
-    match texts.perform(windows, activity, &call) {
-        Ok(_) => {}
-        Err(_) => unreachable!(),
-    }
+    let _done = texts.perform(windows, activity, &call)?;
+    Ok(())
 }
 
 impl Dialogs {
@@ -93,7 +89,7 @@ impl Dialogs {
         texts: &mut Texts,
         item: usize,
         text: TextOf,
-    )
+    ) -> Result<(), Refusal>
         requires kept { ⟦<WindowManager as DeskWindows>⟧.IsKept windows.old }
         requires controls { ⟦<Controls<TakenControl> as DeskControls>⟧.AreBeside windows.old controls.now }
         requires texts { ⟦<Texts as DeskTexts>⟧.AreBeside windows.old texts.old }
@@ -101,17 +97,19 @@ impl Dialogs {
         requires edit { MayBeEdited text.window item self.old }
         requires idle { activity.old ≡ Idle }
         ensures step { (begun : PixelSet) → ⟦<Self as DeskDialogs>⟧.Leaves
-            (IsWhereRight (IsEditedNext text item))
+            (IsEditedNext text item result)
             windows.old (opened activity.old begun) controls.now texts.old self.old
             windows.new (opened activity.new begun) controls.now texts.new self.new }
-        ensures there { is_none (index_of text texts.new.list.items.items) ≡ false }
+        ensures kept { ⟦<WindowManager as DeskWindows>⟧.IsKept windows.new }
+        ensures texts { ⟦<Texts as DeskTexts>⟧.AreBeside windows.new texts.new }
         ensures idle { activity.new ≡ Idle }
     {
         if let Some(left) = self.left_text(texts, text) {
-            activate(windows, activity, texts, left, false);
+            activate(windows, activity, texts, left, false)?;
         }
-        activate(windows, activity, texts, text, true);
+        activate(windows, activity, texts, text, true)?;
         self.edit_next(text.window, item);
+        Ok(())
     }
 
     /// Edits an item, which has this text record, and selects so many bytes of its text. It takes no memory.
@@ -123,7 +121,7 @@ impl Dialogs {
         texts: &mut Texts,
         item: usize,
         chosen: SelectText,
-    )
+    ) -> Result<(), Refusal>
         requires kept { ⟦<WindowManager as DeskWindows>⟧.IsKept windows.old }
         requires controls { ⟦<Controls<TakenControl> as DeskControls>⟧.AreBeside windows.old controls.now }
         requires texts { ⟦<Texts as DeskTexts>⟧.AreBeside windows.old texts.old }
@@ -132,16 +130,14 @@ impl Dialogs {
         requires selection { is_selection chosen.start chosen.end ≡ true }
         requires idle { activity.old ≡ Idle }
         ensures step { (begun : PixelSet) → ⟦<Self as DeskDialogs>⟧.Leaves
-            (IsWhereRight (IsTextSelected (Some chosen.text) (item_in chosen.text.window item) chosen.start chosen.end))
+            (OnOkOf result (IsTextSelected (Some chosen.text) (item_in chosen.text.window item) chosen.start chosen.end))
             windows.old (opened activity.old begun) controls.now texts.old self.old
             windows.new (opened activity.new begun) controls.now texts.new self.new }
         ensures idle { activity.new ≡ Idle }
     {
-        self.hand_over(windows, activity, controls, texts, item, chosen.text);
-        match texts.perform(windows, activity, &TextCall::Select(chosen)) {
-            Ok(_) => {}
-            Err(_) => unreachable!(),
-        }
+        self.hand_over(windows, activity, controls, texts, item, chosen.text)?;
+        let _done = texts.perform(windows, activity, &TextCall::Select(chosen))?;
+        Ok(())
     }
 
     /// Edits an item, and selects a part of its text.
@@ -158,7 +154,7 @@ impl Dialogs {
         requires texts { ⟦<Texts as DeskTexts>⟧.AreBeside windows.old texts.old }
         requires idle { activity.old ≡ Idle }
         ensures step { (begun : PixelSet) → ⟦<Self as DeskDialogs>⟧.Leaves
-            (IsWhereRight (IsDialogStep (asks.Select chosen) result))
+            (IsDialogStep (asks.Select chosen) result)
             windows.old (opened activity.old begun) controls.now texts.old self.old
             windows.new (opened activity.new begun) controls.now texts.new self.new }
         ensures idle { activity.new ≡ Idle }
@@ -175,7 +171,7 @@ impl Dialogs {
                 start: chosen.start,
                 end: chosen.end,
             };
-            self.edit_selected(windows, activity, controls, texts, of.item, part);
+            self.edit_selected(windows, activity, controls, texts, of.item, part)?;
         }
         Ok(DialogReply::Done)
     }
@@ -194,14 +190,14 @@ impl Dialogs {
         requires texts { ⟦<Texts as DeskTexts>⟧.AreBeside windows.old texts.old }
         requires idle { activity.old ≡ Idle }
         ensures step { (begun : PixelSet) → ⟦<Self as DeskDialogs>⟧.Leaves
-            (IsWhereRight (IsDialogStep (asks.Activate set) result))
+            (IsDialogStep (asks.Activate set) result)
             windows.old (opened activity.old begun) controls.now texts.old self.now
             windows.new (opened activity.new begun) controls.now texts.new self.now }
         ensures idle { activity.new ≡ Idle }
     {
         window_there(windows, set.window)?;
         if let Some(text) = self.edited_text(texts, set.window) {
-            activate(windows, activity, texts, text, set.flag);
+            activate(windows, activity, texts, text, set.flag)?;
         }
         Ok(DialogReply::Done)
     }

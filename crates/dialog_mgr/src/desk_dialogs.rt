@@ -24,7 +24,7 @@ pub trait DeskDialogs {
     type Boxes;
 
     /// Whatever other layers show, over any slots over which windows, controls and text records are whole they are so afterwards, and
-    /// this holds of the desk that all are together. The controls' slots are the same before and after.
+    /// this holds of the desk that all are together, where the screen was right. The controls' slots are the same before and after.
     ghost Leaves: { (DialogDesk → DialogDesk → Type 0)
         → Self.Windows → Opened → Self.Controls → Self.Texts → Self
         → Self.Windows → Opened → Self.Controls → Self.Texts → Self → Type 0 };

@@ -6,7 +6,8 @@ ghost use Rattle.dialog_call.specs.declared.calls.DialogCall.TheVariants as asks
 ghost use Rattle.control_mgr.specs.Spots.{opened};
 ghost use Rattle.text_mgr.specs.CallEdits.{is_outside};
 ghost use Rattle.dialog_mgr.specs.DialogRefusals.{is_down};
-ghost use Rattle.dialog_mgr.specs.DialogSteps.{IsDialogStep, IsWhereRight};
+ghost use Rattle.dialog_mgr.specs.DialogSteps.{IsDialogStep};
+ghost use Rattle.dialog_mgr.specs.Choosing.{OnOkOf};
 ghost use Rattle.dialog_mgr.specs.Keys.{HasTyped, IsTabbedFrom};
 
 use crate::asking::window_there;
@@ -67,7 +68,7 @@ impl Dialogs {
         requires texts { ⟦<Texts as DeskTexts>⟧.AreBeside windows.old texts.old }
         requires idle { activity.old ≡ Idle }
         ensures step { (begun : PixelSet) → ⟦<Self as DeskDialogs>⟧.Leaves
-            (IsWhereRight (IsDialogStep (asks.Key typed) result))
+            (IsDialogStep (asks.Key typed) result)
             windows.old (opened activity.old begun) controls.now texts.old self.old
             windows.new (opened activity.new begun) controls.now texts.new self.new }
         ensures idle { activity.new ≡ Idle }
@@ -86,7 +87,7 @@ impl Dialogs {
             }
             TAB => {
                 let back = is_down(SHIFT_KEY, typed.modifiers);
-                self.tab(windows, activity, controls, texts, typed.window, back);
+                self.tab(windows, activity, controls, texts, typed.window, back)?;
                 Ok(DialogReply::Item(0))
             }
             _ => self.type_key(windows, activity, controls, texts, typed),
@@ -103,13 +104,13 @@ impl Dialogs {
         texts: &mut Texts,
         window: u64,
         back: bool,
-    )
+    ) -> Result<(), Refusal>
         requires kept { ⟦<WindowManager as DeskWindows>⟧.IsKept windows.old }
         requires controls { ⟦<Controls<TakenControl> as DeskControls>⟧.AreBeside windows.old controls.now }
         requires texts { ⟦<Texts as DeskTexts>⟧.AreBeside windows.old texts.old }
         requires idle { activity.old ≡ Idle }
         ensures step { (begun : PixelSet) → ⟦<Self as DeskDialogs>⟧.Leaves
-            (IsWhereRight (IsTabbedFrom window back))
+            (OnOkOf result (IsTabbedFrom window back))
             windows.old (opened activity.old begun) controls.now texts.old self.old
             windows.new (opened activity.new begun) controls.now texts.new self.new }
         ensures idle { activity.new ≡ Idle }
@@ -117,7 +118,7 @@ impl Dialogs {
         let looks = self.looks(controls, texts, window);
         let item = tab_item(looks.as_slice(), self.edited(window), back);
         let Some(next) = self.item(window, item) else {
-            return;
+            return Ok(());
         };
         if let Some(text) = text_in(texts, window, &next) {
             let all = SelectText {
@@ -125,8 +126,9 @@ impl Dialogs {
                 start: 0,
                 end: MOST_TEXT,
             };
-            self.edit_selected(windows, activity, controls, texts, item, all);
+            self.edit_selected(windows, activity, controls, texts, item, all)?;
         }
+        Ok(())
     }
 
     /// Types a key in the edited item of a window, if one is edited.
@@ -144,7 +146,7 @@ impl Dialogs {
         requires idle { activity.old ≡ Idle }
         requires code { is_outside (pos 0) (pos 255) typed.code ≡ false }
         ensures step { (begun : PixelSet) → ⟦<Self as DeskDialogs>⟧.Leaves
-            (IsWhereRight (HasTyped typed result))
+            (HasTyped typed result)
             windows.old (opened activity.old begun) controls.now texts.old self.now
             windows.new (opened activity.new begun) controls.now texts.new self.now }
         ensures idle { activity.new ≡ Idle }

@@ -8,7 +8,7 @@ ghost use Rattle.dialog_call.specs.declared.calls.DialogCall.TheVariants as asks
 ghost use Rattle.control_mgr.specs.Spots.{opened};
 ghost use Rattle.window_mgr.specs.DeskStates.{Opened};
 ghost use Rattle.dialog_mgr.specs.DialogRefusals.{item_form_refusals};
-ghost use Rattle.dialog_mgr.specs.DialogSteps.{IsDialogStep, IsWhereRight};
+ghost use Rattle.dialog_mgr.specs.DialogSteps.{IsDialogStep};
 ghost use Rattle.dialog_mgr.specs.Making.{IsMadeOrRefused};
 
 use crate::item_layers::{control_for, is_edit, item_for, text_record_for};
@@ -39,7 +39,7 @@ impl Dialogs {
         requires texts { ⟦<Texts as DeskTexts>⟧.AreBeside windows.old texts.old }
         requires idle { activity.old ≡ Idle }
         ensures step { (begun : PixelSet) → ⟦<Self as DeskDialogs>⟧.LeavesStock stock.old stock.new
-            (IsWhereRight (IsDialogStep (asks.New new.now) result))
+            (IsDialogStep (asks.New new.now) result)
             windows.old (opened activity.old begun) controls.old texts.old self.old
             windows.new (opened activity.new begun) controls.new texts.new self.new }
         ensures idle { activity.new ≡ Idle }
@@ -74,7 +74,7 @@ impl Dialogs {
         requires sort { sort_of new.now.kind ≡ Some LayerSort.Control }
         requires form { first_refusal (item_form_refusals new.now (⟦<ControlStock as Stocked>⟧.slots stock.old)) ≡ None }
         ensures step { (begun : PixelSet) → ⟦<Self as DeskDialogs>⟧.LeavesStock stock.old stock.new
-            (IsWhereRight (IsMadeOrRefused new.now result))
+            (IsMadeOrRefused new.now result)
             windows.old (opened activity.old begun) controls.old texts.now self.old
             windows.new (opened activity.new begun) controls.new texts.now self.new }
         ensures idle { activity.new ≡ Idle }
@@ -88,7 +88,7 @@ impl Dialogs {
             ControlReply::Made(serial) => {
                 Ok(self.add(new.window, room, item_for(new, Some(serial))))
             }
-            _ => unreachable!(),
+            _ => Err(Refusal::NoMemory),
         }
     }
 

@@ -9,12 +9,10 @@ ghost use Rattle.control_mgr.specs.WholeControls.{IsTrackable};
 ghost use Rattle.text_mgr.specs.WholeTexts.{IsSelectable};
 ghost use Rattle.control_mgr.specs.ControlDesks.{index_of};
 ghost use Rattle.control_mgr.specs.Damages as damages;
-ghost use Rattle.desk_call.specs.declared.text.TextCall.TheVariants as asks_text;
-ghost use Rattle.desk_call.specs.declared.text.TextReply.TheVariants.{Opened};
 ghost use Rattle.text_mgr.specs.TextDesks as texts;
 ghost use Rattle.text_mgr.specs.TextPlaces.{click_mode};
-ghost use Rattle.dialog_mgr.specs.Choosing.{IsPressed};
-ghost use Rattle.dialog_mgr.specs.DialogSteps.{IsDialogStep, IsTextEdited, IsWhereRight, clicked, if_enabled, item_in};
+ghost use Rattle.dialog_mgr.specs.Choosing.{IsOpened, IsPressed};
+ghost use Rattle.dialog_mgr.specs.DialogSteps.{IsDialogStep, clicked, if_enabled, item_in};
 ghost use Rattle.dialog_mgr.specs.Rooms.{MayBeEdited};
 
 use crate::asking::window_there;
@@ -61,7 +59,7 @@ impl Dialogs {
         requires texts { ⟦<Texts as DeskTexts>⟧.AreBeside windows.old texts.old }
         requires idle { activity.old ≡ Idle }
         ensures step { (begun : PixelSet) → ⟦<Self as DeskDialogs>⟧.LeavesStock stock.old stock.new
-            (IsWhereRight (IsDialogStep (asks.Click pressed) result))
+            (IsDialogStep (asks.Click pressed) result)
             windows.old (opened activity.old begun) controls.old texts.old self.old
             windows.new (opened activity.new begun) controls.new texts.new self.new }
         ensures trackable { IsTrackable activity.new
@@ -89,14 +87,14 @@ impl Dialogs {
                 Some(text) => {
                     let (point, mode) = (pressed.point, pressed.mode);
                     let call = ClickText { text, point, mode };
-                    let begun = self.open(windows, activity, controls, texts, number, call);
+                    let begun = self.open(windows, activity, controls, texts, number, call)?;
                     Ok(clicked(if_enabled(&item, number), begun))
                 }
                 None => Ok(clicked(0, false)),
             },
             _ => match control_in(controls, window, &item) {
                 Some(control) if item.enabled => {
-                    let begun = track(windows, activity, controls, control, pressed.point, stock);
+                    let begun = track(windows, activity, controls, control, pressed.point, stock)?;
                     Ok(clicked(if begun { number } else { 0 }, begun))
                 }
                 _ => Ok(clicked(0, false)),
@@ -113,7 +111,7 @@ impl Dialogs {
         texts: &mut Texts,
         item: usize,
         call: ClickText,
-    ) -> bool
+    ) -> Result<bool, Refusal>
         requires kept { ⟦<WindowManager as DeskWindows>⟧.IsKept windows.old }
         requires controls { ⟦<Controls<TakenControl> as DeskControls>⟧.AreBeside windows.old controls.now }
         requires texts { ⟦<Texts as DeskTexts>⟧.AreBeside windows.old texts.old }
@@ -123,15 +121,15 @@ impl Dialogs {
         requires mode { is_none (click_mode call.mode) ≡ false }
         requires idle { activity.old ≡ Idle }
         ensures step { (begun : PixelSet) → ⟦<Self as DeskDialogs>⟧.Leaves
-            (IsWhereRight (IsTextEdited call.text (item_in call.text.window item) (asks_text.Click call) (Opened result)))
+            (IsOpened item call result)
             windows.old (opened activity.old begun) controls.now texts.old self.old
             windows.new (opened activity.new begun) controls.now texts.new self.new }
         ensures selectable { IsSelectable activity.new texts.new.list.items.items }
     {
-        self.hand_over(windows, activity, controls, texts, item, call.text);
-        match texts.perform(windows, activity, &TextCall::Click(call)) {
-            Ok(TextReply::Opened(begun)) => begun,
-            _ => unreachable!(),
+        self.hand_over(windows, activity, controls, texts, item, call.text)?;
+        match texts.perform(windows, activity, &TextCall::Click(call))? {
+            TextReply::Opened(begun) => Ok(begun),
+            _ => Ok(false),
         }
     }
 }
@@ -144,7 +142,7 @@ fn track(
     control: ControlOf,
     point: Point,
     stock: &mut ControlStock,
-) -> bool
+) -> Result<bool, Refusal>
     requires kept { ⟦<WindowManager as DeskWindows>⟧.IsKept windows.old }
     requires controls { ⟦<Controls<TakenControl> as DeskControls>⟧.IsWhole windows.old controls.old stock.old }
     requires idle { activity.old ≡ Idle }
@@ -157,8 +155,8 @@ fn track(
     ensures trackable { IsTrackable activity.new (⟦<Controls<TakenControl> as ControlsOnStock>⟧.records controls.new) }
 {
     let call = ControlCall::Track(PointAtControl { control, point });
-    match controls.perform(windows, activity, &call, stock) {
-        Ok(ControlReply::Part(part)) => part.is_some(),
-        _ => unreachable!(),
+    match controls.perform(windows, activity, &call, stock)? {
+        ControlReply::Part(part) => Ok(part.is_some()),
+        _ => Ok(false),
     }
 }

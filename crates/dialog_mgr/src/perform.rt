@@ -7,7 +7,7 @@ ghost use Rattle.desk_call.specs.declared.activity.Standing.TheVariants.{Asks, C
 ghost use Rattle.control_mgr.specs.Spots.{opened};
 ghost use Rattle.control_mgr.specs.WholeControls.{IsTrackable};
 ghost use Rattle.text_mgr.specs.WholeTexts.{IsSelectable};
-ghost use Rattle.dialog_mgr.specs.DialogSteps.{IsDialogStep, IsWhereRight};
+ghost use Rattle.dialog_mgr.specs.DialogSteps.{IsDialogStep};
 
 use crate::{DeskDialogs, Dialogs};
 use control_mgr::{Controls, ControlsOnStock, DeskControls};
@@ -39,7 +39,7 @@ impl Dialogs {
         requires selectable { IsSelectable activity.old texts.old.list.items.items }
         requires admitted { gate activity.old (if asks call.now then Asks else Changes) ≡ None }
         ensures step { (begun : PixelSet) → ⟦<Self as DeskDialogs>⟧.LeavesStock stock.old stock.new
-            (IsWhereRight (IsDialogStep call.now result))
+            (IsDialogStep call.now result)
             windows.old (opened activity.old begun) controls.old texts.old self.old
             windows.new (opened activity.new begun) controls.new texts.new self.new }
         ensures trackable { IsTrackable activity.new

@@ -2,7 +2,7 @@
 //! ParamText.
 ghost use Rattle.dialog_call.specs.declared.calls.DialogCall.TheVariants as asks;
 ghost use Rattle.window_mgr.specs.DeskStates.{Opened};
-ghost use Rattle.dialog_mgr.specs.DialogSteps.{IsDialogStep, IsWhereRight};
+ghost use Rattle.dialog_mgr.specs.DialogSteps.{IsDialogStep};
 
 use crate::item_layers::text_in;
 use crate::judging::MOST_BYTES;
@@ -61,7 +61,7 @@ impl Dialogs {
         requires controls { ⟦<Controls<TakenControl> as DeskControls>⟧.AreBeside windows.old controls.now }
         requires texts { ⟦<Texts as DeskTexts>⟧.AreBeside windows.old texts.old }
         ensures { (o : Opened) → ⟦<Self as DeskDialogs>⟧.Leaves
-            (IsWhereRight (IsDialogStep (asks.SetText put.now) result))
+            (IsDialogStep (asks.SetText put.now) result)
             windows.old o controls.now texts.old self.old windows.new o controls.now texts.new self.new }
     {
         let item = self.named(windows, put.item)?;

@@ -8,7 +8,7 @@ ghost use Rattle.dialog_items.specs.Items.{with_shown};
 ghost use Rattle.control_mgr.specs.Spots.{opened};
 ghost use Rattle.dialog_mgr.specs.DialogDesks.{dialog_of, named_item};
 ghost use Rattle.dialog_mgr.specs.DialogRefusals.{missing_refusals};
-ghost use Rattle.dialog_mgr.specs.DialogSteps.{IsDialogStep, IsWhereRight, changed_item};
+ghost use Rattle.dialog_mgr.specs.DialogSteps.{IsDialogStep, changed_item};
 ghost use Rattle.dialog_mgr.specs.Showing.{shown_call};
 ghost use Rattle.dialog_mgr.specs.WholeDialogs.{dialogs_state};
 
@@ -41,7 +41,7 @@ impl Dialogs {
         requires texts { ⟦<Texts as DeskTexts>⟧.AreBeside windows.old texts.old }
         requires idle { activity.old ≡ Idle }
         ensures step { (begun : PixelSet) → ⟦<Self as DeskDialogs>⟧.LeavesStock stock.old stock.new
-            (IsWhereRight (IsDialogStep (shown_call shown of) result))
+            (IsDialogStep (shown_call shown of) result)
             windows.old (opened activity.old begun) controls.old texts.old self.old
             windows.new (opened activity.new begun) controls.new texts.new self.new }
         ensures idle { activity.new ≡ Idle }
@@ -93,14 +93,14 @@ impl Dialogs {
         requires edited { (dialog_of of.window (dialogs_state self.old).dialogs).edited ≡ of.item }
         requires idle { activity.old ≡ Idle }
         ensures step { (begun : PixelSet) → ⟦<Self as DeskDialogs>⟧.Leaves
-            (IsWhereRight (IsDialogStep (asks.Hide of) result))
+            (IsDialogStep (asks.Hide of) result)
             windows.old (opened activity.old begun) controls.now texts.old self.old
             windows.new (opened activity.new begun) controls.now texts.new self.new }
         ensures idle { activity.new ≡ Idle }
     {
         if let Some(text) = self.edited_text(texts, of.window) {
             let _hidden = texts.perform(windows, activity, &TextCall::Hide(text))?;
-            activate(windows, activity, texts, text, false);
+            activate(windows, activity, texts, text, false)?;
         }
         self.edit_next(of.window, 0);
         Ok(DialogReply::Done)

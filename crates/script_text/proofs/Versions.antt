@@ -31,7 +31,7 @@ use Rattle.command_words.specs.FrameWords.{frame_shape}
 use Rattle.command_words.specs.ListWords.{list_shape}
 use Rattle.command_words.specs.MenuWords.{menu_shape}
 use Rattle.command_words.specs.OutlineWords.{outline_shape}
-use Rattle.command_words.specs.UpdateWords.{rect_area_shape, region_area_shape, update_shape}
+use Rattle.command_words.specs.UpdateWords.{update_shape}
 use Rattle.command_words.specs.Verbs.{verbs, verbs_of, verbs_of_3}
 use Rattle.text_words.specs.TextVerbs.{text_verbs}
 use Rattle.text_words.specs.TextWords.{text_shape}
@@ -164,10 +164,10 @@ module _ (version : ℤ) where
   update_says : (verb : UpdateVerb) → has_verb (int_le (pos 2) version) (int_le (pos 3) version) (words.Update verb) ≡ true
       → AllSaid (λ call. has_command version (Call (calls.Update call)) ≡ true) (update_shape verb)
   unfolding update_shape
-  update_says updates.InvalidateRect had = all_said-mapped _ _ rect_area_shape (all_said-any _ (λ area. refl) rect_area_shape)
-  update_says updates.InvalidateRegion had = all_said-mapped _ _ region_area_shape (all_said-any _ (λ area. refl) region_area_shape)
-  update_says updates.ValidateRect had = all_said-mapped _ _ rect_area_shape (all_said-any _ (λ area. refl) rect_area_shape)
-  update_says updates.ValidateRegion had = all_said-mapped _ _ region_area_shape (all_said-any _ (λ area. refl) region_area_shape)
+  update_says updates.InvalidateRect had = λ window left top right bottom. refl
+  update_says updates.InvalidateRegion had = λ window bytes. refl
+  update_says updates.ValidateRect had = λ window left top right bottom. refl
+  update_says updates.ValidateRegion had = λ window bytes. refl
   update_says updates.Begin had = λ window. refl
   update_says updates.DrawPicture had = λ window. refl
   update_says updates.DrawTexts had = λ window. had

@@ -34,3 +34,7 @@ pub mod Distinct
 pub mod TextsKept
 pub mod NewSteps
 pub mod ToldSteps
+pub mod TextFacts
+pub mod TextsBeside
+pub mod ControlsBeside
+pub mod ShownAlike

@@ -1,6 +1,6 @@
-"""The scripts by which calls on text records are counted. A text of 2,000 bytes stands in a record that is 400 columns wide, and of
-whose lines, some 31 of up to 66 bytes, 20 are seen; it is active, and its window lies in front of eight others. Another script
-sets a text of 32,000 bytes in such a record, at once."""
+"""The scripts by which calls on text records are counted. A text of 2,000 bytes stands in a record that is 400 columns wide, in 31
+lines of up to 66 bytes, of which 20 are seen; it is active, and its window lies in front of all others. Another script sets a
+text of 32,000 bytes in such a record, at once."""
 
 WIDTH, LINES, LINE_HEIGHT = 400, 20, 10
 # The window in front, and the record in it.

@@ -1,6 +1,6 @@
-"""peer_tk.py WORD ROUNDS: a peer of text records, for text-peers: Tk's text widget, which wraps at words, is 66 bytes of 6 columns
-wide and 20 lines high, and holds 2,000 bytes. It does so many rounds of what WORD names, each with the drawing, and says what it
-is on standard output.
+"""peer_tk.py WORD ROUNDS: a peer of text records, for text-peers: Tk's text widget, which wraps at words, is 66 bytes of 6
+columns wide and 20 lines high, and holds 2,000 bytes. It does so many rounds of what WORD names, each with the drawing, and
+says what it is on standard output.
 
   first   a key is typed into the first line, and taken back
   last    the same in the last line that is seen
@@ -77,7 +77,8 @@ def main():
     # What is behind the last round in the server has an answer too.
     root.winfo_pointerxy()
     lines = text.count("1.0", "end", "displaylines")
-    print(f"{word}: Tk {root.tk.call('info', 'patchlevel')}, {its.actual('family')} of {its.metrics('linespace')} rows, {lines} lines")
+    height = its.metrics("linespace")
+    print(f"{word}: Tk {root.tk.call('info', 'patchlevel')}, {its.actual('family')} of {height} rows, {lines[0]} lines")
 
 
 main()

@@ -14,7 +14,7 @@ pub paint_base-requires-clause-settled : goal.paint_base-requires-clause-settled
 paint_base-requires-clause-settled g c = rw c.windows-windows.ensures c.requires.windows
 
 pub paint_base-requires-clause-layers : goal.paint_base-requires-clause-layers
-paint_base-requires-clause-layers g c = rw (c.contents.ensures.0, c.contents.ensures.1) (c.requires.controls, c.requires.lists)
+paint_base-requires-clause-layers g c = rw (c.contents.ensures.0, c.contents.ensures.1.0) (c.requires.controls, c.requires.lists)
 
 pub paint_front-requires-clause-live : goal.paint_front-requires-clause-live
 paint_front-requires-clause-live g c = rw c.menus.ensures c.requires.menus
@@ -29,4 +29,4 @@ pub returns : goal.returns
 returns g c =
     let fits : SFits w32 c.parts-parts.result.bar = search rules in
     screen_painted (taken.loan-value g.dyn-1).it (taken_menu.loan-value g.dyn-3).it (taken_control.loan-value g.dyn-2).it (taken_list.loan-value g.dyn-4).it c.args.toolbox.now c.windows-windows.result.now c.menus.result.now c.activity.result _ c.parts-parts.result.bar _ c.paint_front.new.map
-    c.windows-windows.ensures c.menus.ensures c.activity.ensures c.parts-parts.ensures.font c.parts-parts.ensures.bar (rw (c.contents.ensures.0, c.contents.ensures.1, c.contents.ensures.2) at c.in_ok-image.ensures) (simp to_z-of_z at c.paint_front.ensures)
+    c.windows-windows.ensures c.menus.ensures c.activity.ensures c.parts-parts.ensures.font c.parts-parts.ensures.bar (rw (c.contents.ensures.0, c.contents.ensures.1.0, c.contents.ensures.1.1) at c.in_ok-image.ensures) (simp to_z-of_z at c.paint_front.ensures)

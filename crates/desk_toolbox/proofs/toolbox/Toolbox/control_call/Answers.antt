@@ -18,7 +18,8 @@ use Rattle.control_mgr.proofs.ControlFacts.{control_facts}
 use Rattle.desk_toolbox.proofs.Asked.{no_control_is_told, performed_is_told}
 use Rattle.desk_toolbox.proofs.ControlsAside.{control_leaves_lists, menus_after_control, updates_after_control}
 use Rattle.desk_toolbox.proofs.Natures.{behind_so}
-use Rattle.desk_toolbox.proofs.KnownLayers.{control_leaves_known, control_leaves_texts}
+use Rattle.text_mgr.proofs.ControlsBeside.{control_leaves_texts}
+use Rattle.desk_toolbox.proofs.KnownLayers.{control_leaves_known}
 use Rattle.desk_toolbox.proofs.SelectedTexts.{control_selectable}
 use Rattle.desk_toolbox.proofs.toolbox.Toolbox.control_call.Goals as goal
 

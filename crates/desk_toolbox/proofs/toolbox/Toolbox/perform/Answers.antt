@@ -121,10 +121,10 @@ pub returns-in-List-clause-step : goal.returns-in-List-clause-step
 returns-in-List-clause-step g c = rw c.in-List.is (c.list_call.result, search rules, c.list_call.ensures.step)
 
 pub returns-in-Text-clause-whole : goal.returns-in-Text-clause-whole
-returns-in-Text-clause-whole g c = c.text_call.ensures.whole
+returns-in-Text-clause-whole g c = c.text_call.ensures.whole _ c.requires.whole
 
 pub returns-in-Text-clause-step : goal.returns-in-Text-clause-step
-returns-in-Text-clause-step g c = rw c.in-Text.is (c.text_call.result, search rules, c.text_call.ensures.step)
+returns-in-Text-clause-step g c = rw c.in-Text.is (c.text_call.result, search rules, c.text_call.ensures.step _ c.requires.whole)
 
 pub returns-in-Window-clause-step : goal.returns-in-Window-clause-step
 returns-in-Window-clause-step g c = rw c.in-Window.is (c.window_call.result, search rules, c.window_call.ensures.step)

@@ -1,3 +1,4 @@
+use Rattle.std.proofs.Common.{refl}
 use Rattle.desk_toolbox.proofs.toolbox.Toolbox.pixels_right.Goals as goal
 
 pub returns-clause-whole : goal.returns-clause-whole
@@ -16,3 +17,6 @@ returns-clause-whole g c stocks whole = record {
   };
   right = whole.right;
 }
+
+pub returns-clause-same : goal.returns-clause-same
+returns-clause-same g c stocks = rw c.pixels_right.ensures.same refl

@@ -17,7 +17,8 @@ use Rattle.list_mgr.specs.WholeLists as lists
 use Rattle.text_mgr.specs.TextDesks.{TextDesk}
 use Rattle.text_mgr.specs.TextSteps.{IsTextStep}
 use Rattle.text_mgr.specs.WholeTexts.{texts_state}
-use Rattle.desk_toolbox.proofs.ContentsLeft.{text_leaves_controls, text_leaves_known, text_leaves_lists}
+use Rattle.desk_toolbox.proofs.ContentsLeft.{text_leaves_known, text_leaves_lists}
+use Rattle.text_mgr.proofs.TextsBeside.{text_leaves_controls}
 use Rattle.desk_toolbox.proofs.TextsAside.{menus_after_text, trackable_after_text, updates_after_text}
 use Rattle.desk_toolbox.proofs.TextsGone.{shows_alike}
 use Rattle.desk_toolbox.proofs.toolbox.Toolbox.text_call.Goals as goal
