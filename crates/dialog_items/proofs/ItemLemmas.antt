@@ -1,12 +1,11 @@
 -- Items that are changed in their list or come behind it, and whether the edited item stays an edit item.
-use Rattle.std.proofs.Common.{◌≡◌, ℕ, zero, suc, ◌+◌, ◌-◌, ◌<◌, ◌≤◌, Bool, true, false, not, cond, ◌&&◌, List, [], ◌∷◌, ◌++◌, length, get_or, set, refl, sym, ap, ◌∙◌, arith, rules}
-use Rattle.std.specs.Prelude.{slice_get, ◌==◌, ◌≢◌}
+use Rattle.std.proofs.Common.{◌≡◌, ℕ, zero, suc, ◌+◌, ◌-◌, ◌<◌, ◌≤◌, Bool, true, false, not, cond, ◌&&◌, List, [], ◌∷◌, ◌++◌, length, get_or, set, refl, ap, ◌∙◌, arith}
+use Rattle.std.specs.Prelude.{slice_get}
 use Rattle.std.specs.List.{list_any}
 use Rattle.std.specs.Option.{option_map_or}
-use Rattle.std.proofs.lemmas.Bool.{cond-true, cond-false}
 use Rattle.std.proofs.lemmas.List.{length-set, length-append}
 use Rattle.dialog_items.specs.declared.item.Item.{Item}
-use Rattle.dialog_items.specs.Items.{ItemList, IsItemList, changed_at, edited_with, edits_one, emptied, emptied_at, is_edit, is_edit_number, replaced}
+use Rattle.dialog_items.specs.Items.{ItemList, IsItemList, changed_at, edited_with, edits_one, is_edit, is_edit_number, replaced}
 
 -- ---- an item in the place of another
 
@@ -100,30 +99,4 @@ pub add-stays : (d : ItemList) (x : Item) (capacity : ℕ) → length d.items < 
 add-stays d x capacity few was = record {
   few = omega (arith, length-append d.items (x ∷ []), few);
   edited = edited-more (is_edit x && not (list_any is_edit d.items)) d.items x d.edited (first-of (is_edit x) (not (list_any is_edit d.items))) was.edited;
-}
-
--- ---- an item that loses its layer
-
-same-number : (a b : ℕ) → a ≡ b → (a == b) ≡ true
-same-number a b e = search rules
-
-other-number : (a b : ℕ) → a ≢ b → (a == b) ≡ false
-other-number a b e = search rules
-
--- where it is edited
-pub emptied-edited : (d : ItemList) (number : ℕ) (x : Item) → 1 ≤ number → x ≡ get_or d.items (number - 1) x → d.edited ≡ number
-    → record d { items = replaced number (λ _. emptied x) d.items; edited = 0 } ≡ emptied_at number d
-emptied-edited d zero x some read is = absurd (omega arith)
-emptied-edited d (suc at) x some read is = λ i. record d {
-  items = read-changed emptied d.items (suc at) x some read i;
-  edited = sym (cond-true (d.edited == suc at) 0 d.edited (same-number d.edited (suc at) is)) i;
-}
-
--- and where it is not
-pub emptied-other : (d : ItemList) (number : ℕ) (x : Item) → 1 ≤ number → x ≡ get_or d.items (number - 1) x → d.edited ≢ number
-    → record d { items = replaced number (λ _. emptied x) d.items } ≡ emptied_at number d
-emptied-other d zero x some read other = absurd (omega arith)
-emptied-other d (suc at) x some read other = λ i. record d {
-  items = read-changed emptied d.items (suc at) x some read i;
-  edited = sym (cond-false (d.edited == suc at) 0 d.edited (other-number d.edited (suc at) other)) i;
 }

@@ -1,15 +1,14 @@
 -- The items of a window as a list, the edited one, and what changes make of them.
-use Rattle.std.specs.Prelude.{◌≡◌, ℕ, zero, suc, ◌+◌, ◌≤◌, Bool, true, false, not, ◌&&◌, ◌==◌, nat_le, if◌then◌else◌, List, [], ◌∷◌, length, Option, None, slice_get}
+use Rattle.std.specs.Prelude.{◌≡◌, ℕ, zero, suc, ◌+◌, ◌≤◌, Bool, true, false, not, ◌&&◌, nat_le, if◌then◌else◌, List, [], ◌∷◌, length, Option, None, slice_get}
 use Rattle.std.specs.Option.{option_map_or}
-use Rattle.std.specs.List.{list_any, position}
+use Rattle.std.specs.List.{list_any}
 use Rattle.tb_geom.specs.declared.rect.Rect.{Rect}
 use Rattle.tb_geom.specs.Rects.{empty_rect}
 use Rattle.dialog_items.specs.declared.item.Item.{Item}
-use Rattle.dialog_items.specs.declared.item.LayerSort.{LayerSort}
 use Rattle.dialog_items.specs.declared.kind.ItemKind.{ItemKind}
 use Rattle.dialog_items.specs.declared.kind.ItemKind.TheVariants.{User}
 use Rattle.dialog_items.specs.declared.look.ItemLook.{ItemLook}
-use Rattle.dialog_items.specs.Kinds.{kind_type, has_sort, is_edit_kind}
+use Rattle.dialog_items.specs.Kinds.{kind_type, is_edit_kind}
 
 -- the item type, with 128 more where the item is not enabled
 abbrev pub dialog_type : Item → ℕ
@@ -17,10 +16,6 @@ dialog_type i = if i.enabled then kind_type i.kind else kind_type i.kind + 128
 
 abbrev pub is_edit : Item → Bool
 is_edit i = is_edit_kind i.kind
-
--- its layer is of this sort and has this serial
-abbrev pub is_layer : LayerSort → ℕ → Item → Bool
-is_layer sort serial i = option_map_or (λ own. has_sort sort i.kind && own == serial) i.layer false
 
 -- the item as it stands in its window
 abbrev pub look_of : Item → Bool → Rect → Bool → ItemLook
@@ -83,20 +78,3 @@ with_enabled enabled i = record i { enabled = enabled }
 
 abbrev pub with_shown : Bool → Item → Item
 with_shown shown i = record i { shown = shown }
-
--- the number of the item with this layer, 0 where there is none
-abbrev pub layer_number : LayerSort → ℕ → List Item → ℕ
-layer_number sort serial items = option_map_or (λ at. at + 1) (position (is_layer sort serial) items) 0
-
--- the item without its layer
-abbrev pub emptied : Item → Item
-emptied i = record i { layer = None }
-
--- the list once the item of a number, if it is one, lost its layer: it is not edited
-abbrev pub emptied_at : ℕ → ItemList → ItemList
-emptied_at zero d = d
-emptied_at (suc at) d = record d { items = changed_at emptied at d.items; edited = if d.edited == suc at then 0 else d.edited }
-
--- the list once that layer was disposed
-abbrev pub disposed : LayerSort → ℕ → ItemList → ItemList
-disposed sort serial d = emptied_at (layer_number sort serial d.items) d

@@ -1,7 +1,7 @@
 //! Texts of ParamText in a text.
 ghost use Rattle.std.specs.Prelude.{◌≡◌, ◌≤◌, ◌<◌, ◌+◌, ◌++◌, length, drop, nat_lt, IfErr, IfOk, OnOk};
 ghost use Rattle.std.specs.Prelude.{if◌then◌else◌};
-ghost use Rattle.dialog_items.specs.Filling.{filled, is_param, param_text, text_length};
+ghost use Rattle.dialog_items.specs.Filling.{filled, is_param, lent_params, param_text, text_length};
 
 use std::alloc::{AllocError, Global};
 use tb_geom::Refusal;
@@ -21,7 +21,7 @@ pub struct ParamTexts<'a> {
 impl<'a> ParamTexts<'a> {
     /// The text that a digit from `0` to `3` stands for.
     fn of_digit(self, digit: u8) -> &'a [u8]
-        ensures { result.now ≡ param_text self.entry digit }
+        ensures { result.now ≡ param_text (lent_params self.entry) digit }
     {
         match digit {
             b'0' => self.first,
@@ -53,7 +53,7 @@ fn is_param(bytes: &[u8], at: usize) -> bool
 /// What the first byte from a place on becomes, or the first two.
 fn piece_at<'a>(bytes: &'a [u8], at: usize, params: ParamTexts<'a>) -> Piece<'a>
     requires { at < length bytes.now }
-    ensures made { filled params.entry (drop at bytes.now) ≡ result.bytes.now ++ filled params.entry (drop result.end bytes.now) }
+    ensures made { filled (lent_params params.entry) (drop at bytes.now) ≡ result.bytes.now ++ filled (lent_params params.entry) (drop result.end bytes.now) }
     ensures onward { at < result.end }
     ensures within { result.end ≤ length bytes.now }
 {
@@ -72,7 +72,7 @@ fn piece_at<'a>(bytes: &'a [u8], at: usize, params: ParamTexts<'a>) -> Piece<'a>
 
 /// How long the filled bytes are, where they are a text.
 fn filled_len(bytes: &[u8], params: ParamTexts<'_>) -> Option<usize>
-    ensures { result ≡ text_length (length (filled params.entry bytes.now)) }
+    ensures { result ≡ text_length (length (filled (lent_params params.entry) bytes.now)) }
 {
     let mut len = 0;
     let mut at = 0;
@@ -86,7 +86,7 @@ fn filled_len(bytes: &[u8], params: ParamTexts<'_>) -> Option<usize>
 
 /// Puts the filled bytes behind others.
 fn append_filled(text: &mut Vec<u8>, bytes: &[u8], params: ParamTexts<'_>) -> Result<(), AllocError>
-    ensures { OnOk result (text.new.items ≡ text.old.items ++ filled params.entry bytes.now) }
+    ensures { OnOk result (text.new.items ≡ text.old.items ++ filled (lent_params params.entry) bytes.now) }
 {
     let mut at = 0;
     while at < bytes.len() {
@@ -101,10 +101,10 @@ fn append_filled(text: &mut Vec<u8>, bytes: &[u8], params: ParamTexts<'_>) -> Re
 /// from left to right. TooLong where they are more than 32000, NoMemory where there is no memory for them. All memory is taken
 /// first.
 pub fn filled(alloc: Global, bytes: &[u8], params: ParamTexts<'_>) -> Result<Vec<u8>, Refusal>
-    ensures made { IfOk result (λ text. text.items ≡ filled params.entry bytes.now) }
-    ensures allowed { OnOk result (length (filled params.entry bytes.now) ≤ 32000) }
+    ensures made { IfOk result (λ text. text.items ≡ filled (lent_params params.entry) bytes.now) }
+    ensures allowed { OnOk result (length (filled (lent_params params.entry) bytes.now) ≤ 32000) }
     ensures refused { IfErr result (λ e.
-        e ≡ (if nat_lt 32000 (length (filled params.entry bytes.now)) then Refusal.TooLong else Refusal.NoMemory)) }
+        e ≡ (if nat_lt 32000 (length (filled (lent_params params.entry) bytes.now)) then Refusal.TooLong else Refusal.NoMemory)) }
 {
     let Some(len) = filled_len(bytes, params) else {
         return Err(Refusal::TooLong);

@@ -1,7 +1,6 @@
 //! An item.
 ghost use Rattle.std.specs.Prelude.{◌≡◌};
-ghost use Rattle.dialog_items.specs.Kinds.{is_text_sort};
-ghost use Rattle.dialog_items.specs.Items.{dialog_type, is_edit, is_layer, own_look};
+ghost use Rattle.dialog_items.specs.Items.{dialog_type, is_edit, own_look};
 
 use crate::kind::ItemKind;
 use crate::look::ItemLook;
@@ -14,24 +13,14 @@ pub enum LayerSort {
     Text,
 }
 
-impl LayerSort {
-    pub(crate) fn is_text(self) -> bool
-        ensures { result ≡ is_text_sort self }
-    {
-        match self {
-            LayerSort::Text => true,
-            LayerSort::Control => false,
-        }
-    }
-}
-
 /// An item of a dialog.
 #[derive(Clone, Copy, Debug, PartialEq, Eq)]
 pub struct Item {
     pub kind: ItemKind,
     /// Whether a click or a key on it is answered.
     pub enabled: bool,
-    /// The serial of its control or text record. A user item has none, and neither has an item whose layer was disposed.
+    /// The serial of its control or text record. A user item has none. An item whose layer was disposed of keeps the serial, which
+    /// is never given again.
     pub layer: Option<u64>,
     /// The rectangle of a user item, in its window's coordinates. It says nothing of other items.
     pub rect: Rect,
@@ -55,16 +44,6 @@ impl Item {
         match self.kind {
             ItemKind::Edit => true,
             _ => false,
-        }
-    }
-
-    /// Whether its layer is of this sort and has this serial.
-    pub fn is_layer(&self, sort: LayerSort, serial: u64) -> bool
-        ensures { result ≡ is_layer sort serial self.now }
-    {
-        match self.layer {
-            Some(own) => self.kind.has_sort(sort) && own == serial,
-            None => false,
         }
     }
 

@@ -1,10 +1,10 @@
 //! The items of a window.
-ghost use Rattle.std.specs.Prelude.{◌≡◌, ◌≤◌, ◌<◌, ◌++◌, [], ◌∷◌, true, IfErr, IfSome, OnOk, nat_lt, length, vec_capacity, if◌then◌else◌};
-ghost use Rattle.std.specs.List.{list_any, position};
-ghost use Rattle.dialog_items.specs.Items.{disposed, edited_with, edits_one, emptied_at, is_edit, is_edit_number, is_layer, is_number, item_of};
-ghost use Rattle.dialog_items.specs.Items.{layer_number, replaced, with_enabled, with_shown};
+ghost use Rattle.std.specs.Prelude.{◌≡◌, ◌≤◌, ◌<◌, ◌++◌, [], ◌∷◌, true, IfErr, OnOk, nat_lt, length, vec_capacity, if◌then◌else◌};
+ghost use Rattle.std.specs.List.{list_any};
+ghost use Rattle.dialog_items.specs.Items.{edited_with, edits_one, is_edit, is_edit_number, is_number, item_of};
+ghost use Rattle.dialog_items.specs.Items.{replaced, with_enabled, with_shown};
 
-use crate::item::{Item, LayerSort};
+use crate::item::Item;
 use std::alloc::Global;
 use std::marker::Model;
 use tb_geom::Refusal;
@@ -70,7 +70,8 @@ impl DialogItems {
         ensures within { result ≤ length self.now.items }
         ensures edits_one { edits_one self.now.items result ≡ true }
     {
-        self.edited
+        let number = self.edited;
+        number
     }
 
     /// Makes room for one item more. TooMany where there are 64, NoMemory where there is no memory for one.
@@ -167,46 +168,6 @@ impl DialogItems {
     {
         1 <= number && number <= self.items.len()
     }
-
-    /// The number of the item with this layer, 0 where there is none.
-    pub fn with_layer(&self, sort: LayerSort, serial: u64) -> usize
-        ensures number { result ≡ layer_number sort serial self.now.items }
-        ensures within { result ≤ length self.now.items }
-    {
-        match layer_index(&self.items, sort, serial) {
-            Some(at) => at + 1,
-            None => 0,
-        }
-    }
-
-    /// A control or a text record was disposed: its item, if it has one, is empty from then on, and is not edited.
-    pub fn dispose(&mut self, sort: LayerSort, serial: u64)
-        ensures { self.new ≡ disposed sort serial self.old }
-    {
-        let number = self.with_layer(sort, serial);
-        if number != 0 {
-            self.empty(number);
-        }
-    }
-
-    /// Takes an item's layer away, and edits it no more.
-    fn empty(&mut self, number: usize)
-        requires some { 1 ≤ number }
-        requires within { number ≤ length self.old.items }
-        ensures { self.new ≡ emptied_at number self.old }
-    {
-        let item = self.items[number - 1];
-        self.put(
-            number,
-            Item {
-                layer: None,
-                ..item
-            },
-        );
-        if self.edited == number {
-            self.stop_editing();
-        }
-    }
 }
 
 /// Puts an item behind others. There has to be room.
@@ -222,12 +183,4 @@ fn has_edit(items: &[Item]) -> bool
     ensures { result ≡ list_any is_edit items.now }
 {
     items.iter().any(|item| item.is_edit())
-}
-
-/// The index of the item with this layer.
-fn layer_index(items: &[Item], sort: LayerSort, serial: u64) -> Option<usize>
-    ensures first { result ≡ position (is_layer sort serial) items.now }
-    ensures within { IfSome result (λ at. at < length items.now) }
-{
-    items.iter().position(|item| item.is_layer(sort, serial))
 }

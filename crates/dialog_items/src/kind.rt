@@ -1,7 +1,7 @@
 //! The kinds of items.
 ghost use Rattle.std.specs.Prelude.{◌≡◌, ◌+ℤ◌, ◌-ℤ◌, pos, true, IfNone, IfSome};
 ghost use Rattle.tb_geom.specs.Rects.{is_coordinate, is_in_range};
-ghost use Rattle.dialog_items.specs.Kinds.{has_sort, kind_name, kind_type, sort_of, item_rect, layer_rect, ring_around, within_ring};
+ghost use Rattle.dialog_items.specs.Kinds.{kind_name, kind_type, sort_of, item_rect, layer_rect, ring_around, within_ring};
 
 use crate::item::LayerSort;
 use tb_geom::Rect;
@@ -111,18 +111,6 @@ impl ItemKind {
         match self {
             ItemKind::Default => within_ring(layer),
             _ => layer,
-        }
-    }
-
-    /// Whether its layer is of this sort.
-    pub(crate) fn has_sort(self, sort: LayerSort) -> bool
-        ensures { result ≡ has_sort sort self }
-    {
-        match self {
-            ItemKind::Static => sort.is_text(),
-            ItemKind::Edit => sort.is_text(),
-            ItemKind::User => false,
-            _ => !sort.is_text(),
         }
     }
 }

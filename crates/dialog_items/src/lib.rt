@@ -3,7 +3,7 @@
 //!
 //! A window has a list of items, `DialogItems`. An item has a number, from 1 on in the order of making, for good. It is of one of
 //! eight kinds, enabled or not, and what it shows is a control or a text record of the window, its layer, which it knows by its
-//! serial. An item whose layer was disposed is empty. A user item has no layer: its rectangle, and whether it is shown, stand
+//! serial. An item whose layer was disposed of is empty. A user item has no layer: its rectangle, and whether it is shown, stand
 //! here. At most one item is edited, and that is an edit item; the first that is ever made becomes it.
 //!
 //! Where an item lies, and whether it is shown, only the desk knows, since controls and text records may be moved and hidden.

@@ -1,0 +1,2 @@
+pub mod DialogVerbs
+pub mod DialogWords
