@@ -5,7 +5,7 @@
 //! Manager"): a call that nothing refuses has its effect; a refused one changes nothing, and its answer is the first refusal of the
 //! written order whose condition holds (`control_refusals`), or NoMemory where none holds and the call may ask for memory.
 //!
-//! A control is a layer of its window's content, in front of the window's lists and of its picture; the oldest lies in front. Which
+//! A control is a layer of its window's content, in front of the window's lists, text records and picture; the oldest lies in front. Which
 //! pixels a layer has the window keeps (`window_list`): `AreLayersOf` joins the two, one layer for each control in front of all others.
 //! Those others stay as they are, and so does what they show, which a `ControlDesk` has as `others`. New, show, move and size draw all
 //! that the control then owns; what a hidden, moved or disposed control leaves is to be redrawn. Values, highlighting, titles and

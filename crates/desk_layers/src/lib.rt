@@ -1,7 +1,7 @@
 //! The desk as plain data, and the law of its changes.
 //!
 //! A desk is a stack of layers: the desktop, the windows from back to front, each a frame and content layers on it, and the
-//! menu bar. A content layer is a control, a list or the window's picture (`Part`). No region, no saved pixel and no
+//! menu bar. A content layer is a control, a list, a text record or the window's picture (`Part`). No region, no saved pixel and no
 //! definition stands in it: each layer is a set of pixels and the values that it shows there.
 //!
 //! Each pixel has an owner, the one layer to which it belongs (`owner` in specs). The desk painted from nothing, back to

@@ -1,6 +1,6 @@
 //! What a Toolbox can be asked about the items of dialogs, and what it answers: plain values, with bytes borrowed.
 //!
-//! `dialog_mgr` says what a call does. `desk_call` has these calls among all others.
+//! What a call does is not said here, and no crate performs these calls yet.
 #![tactic(auto)]
 
 mod calls;

@@ -70,7 +70,8 @@ impl DialogItems {
         ensures within { result ≤ length self.now.items }
         ensures edits_one { edits_one self.now.items result ≡ true }
     {
-        self.edited
+        let number = self.edited;
+        number
     }
 
     /// Makes room for one item more. TooMany where there are 64, NoMemory where there is no memory for one.

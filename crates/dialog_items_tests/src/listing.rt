@@ -1,6 +1,6 @@
 //! The items of a window.
 
-use dialog_items::{DialogItems, Item, ItemKind};
+use dialog_items::{DialogItems, Item, ItemKind, ItemLook, LayerSort};
 use std::test::Fail;
 use tb_geom::{Rect, Refusal};
 
@@ -47,6 +47,80 @@ fn the_first_edit_item_is_edited(rt: HostRuntime) -> Result<(), Fail> {
     items.stop_editing();
     assert_eq!(rt; add(&mut items, item(ItemKind::Edit, Some(3)))?, 3);
     assert_eq!(rt; items.edited(), 0);
+    Ok(())
+}
+
+#[test]
+fn another_edit_item_can_be_edited(rt: HostRuntime) -> Result<(), Fail> {
+    let mut items = DialogItems::new(rt.alloc());
+    add(&mut items, item(ItemKind::Edit, Some(1)))?;
+    add(&mut items, item(ItemKind::Edit, Some(2)))?;
+    let is_edit = match items.item(2) {
+        Some(item) => item.is_edit(),
+        None => false,
+    };
+    assert!(rt; is_edit && !item(ItemKind::Static, Some(3)).is_edit());
+    items.edit(2);
+    assert_eq!(rt; items.edited(), 2);
+    items.stop_editing();
+    assert_eq!(rt; items.edited(), 0);
+    Ok(())
+}
+
+/// Whether each item is enabled, and whether each user item is shown.
+fn flags(items: &DialogItems) -> [(bool, bool); 2] {
+    match items.items() {
+        [first, second] => [(first.enabled, first.shown), (second.enabled, second.shown)],
+        _ => [(false, false), (false, false)],
+    }
+}
+
+/// Enables or disables an item, if it is there.
+fn enable(items: &mut DialogItems, number: usize, enabled: bool) {
+    if items.is_number(number) {
+        items.enable(number, enabled);
+    }
+}
+
+/// Shows or hides a user item, if it is there.
+fn show(items: &mut DialogItems, number: usize, shown: bool) {
+    if items.is_number(number) {
+        items.show(number, shown);
+    }
+}
+
+#[test]
+fn one_item_is_disabled_or_hidden(rt: HostRuntime) -> Result<(), Fail> {
+    let mut items = DialogItems::new(rt.alloc());
+    add(&mut items, item(ItemKind::User, None))?;
+    add(&mut items, item(ItemKind::User, None))?;
+    enable(&mut items, 1, false);
+    show(&mut items, 2, false);
+    assert!(rt; flags(&items) == [(false, true), (true, false)]);
+    enable(&mut items, 1, true);
+    show(&mut items, 2, true);
+    assert!(rt; flags(&items) == [(true, true), (true, true)]);
+    Ok(())
+}
+
+#[test]
+fn controls_and_text_records_show_items(rt: HostRuntime) -> Result<(), Fail> {
+    assert!(rt; ItemKind::Icon.layer_sort() == Some(LayerSort::Control));
+    assert!(rt; ItemKind::Static.layer_sort() == Some(LayerSort::Text));
+    assert!(rt; ItemKind::User.layer_sort().is_none());
+    Ok(())
+}
+
+#[test]
+fn an_empty_item_lies_nowhere(rt: HostRuntime) -> Result<(), Fail> {
+    let user = item(ItemKind::User, None).own_look();
+    assert!(rt; user.shown && user.enabled && user.rect == PLACE);
+    let button = item(ItemKind::Button, Some(5));
+    let empty = button.own_look();
+    assert!(rt; !empty.shown && empty.rect.right == 0 && empty.rect.bottom == 0);
+    let look = ItemLook::new(&button, true, PLACE, true);
+    assert!(rt; look.kind == ItemKind::Button && look.enabled && look.shown && look.inactive);
+    assert!(rt; look.rect == PLACE);
     Ok(())
 }
 

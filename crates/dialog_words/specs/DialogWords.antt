@@ -1,5 +1,7 @@
 -- The words of the commands for the items of dialogs.
-use Rattle.std.specs.Prelude.{ℕ, List, [], ◌∷◌, map, Option, None, Some, Ok, if◌then◌else◌}
+use Rattle.std.specs.Prelude.{ℕ, List, [], ◌∷◌, map, Option, None, Some, Result, Ok, Err, if◌then◌else◌}
+use Rattle.tb_geom.specs.declared.refusal.Refusal.{Refusal}
+use Rattle.tb_geom.specs.declared.refusal.Refusal.TheVariants.{BadSyntax}
 use Rattle.dialog_items.specs.declared.kind.ItemKind.{ItemKind}
 use Rattle.dialog_items.specs.declared.kind.ItemKind.TheVariants as kinds
 use Rattle.dialog_items.specs.Kinds.{kind_name}
@@ -27,10 +29,21 @@ of_item next = serial (λ window. serial (λ item. next (record { window = windo
 abbrev pub alone_shape : Shape ItemOf
 alone_shape = of_item (λ item. says item)
 
--- the kinds by their names
+-- the kinds of items
+abbrev pub all_kinds : List ItemKind
+all_kinds = kinds.Button ∷ kinds.Check ∷ kinds.Radio ∷ kinds.Default ∷ kinds.Icon ∷ kinds.Static ∷ kinds.Edit ∷ kinds.User ∷ []
+
+-- and by their names
 abbrev pub item_kinds : List (List ℕ × ItemKind)
-item_kinds = map (λ kind. (kind_name kind, kind))
-    (kinds.Button ∷ kinds.Check ∷ kinds.Radio ∷ kinds.Default ∷ kinds.Icon ∷ kinds.Static ∷ kinds.Edit ∷ kinds.User ∷ [])
+item_kinds = map (λ kind. (kind_name kind, kind)) all_kinds
+
+-- the kind with a name, if there is one
+unfoldable pub kind_of : List ℕ → Option ItemKind
+kind_of word = named word item_kinds
+
+-- an item is asked for, if its bytes have the form of its kind
+abbrev pub formed : NewItem → Result DialogCall Refusal
+formed item = if has_form item then Ok (calls.New item) else Err BadSyntax
 
 -- the bytes have the form of the kind; a name of no kind is judged after the form of the line
 abbrev pub new_item : Option ItemKind → (ItemKind → NewItem) → Shape DialogCall
@@ -40,7 +53,7 @@ new_item (Some kind) item = if has_form (item kind) then says (calls.New (item k
 -- W KIND l t w h ENABLED BYTES
 abbrev pub new_shape : Shape DialogCall
 new_shape = serial (λ window. name (λ kind. point (λ place. number (λ wide. number (λ high. flag (λ enabled. bytes (λ said.
-    new_item (named kind item_kinds) (λ k. record {
+    new_item (kind_of kind) (λ k. record {
       window = window;
       kind = k;
       place = place;

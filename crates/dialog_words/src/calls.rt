@@ -2,7 +2,7 @@
 ghost use Rattle.std.specs.Prelude.{◌≡◌};
 ghost use Rattle.line_words.specs.Shapes.{reading};
 ghost use Rattle.dialog_words.specs.DialogWords.{activate_shape, alone_shape, click_shape, dialog_shape, enable_shape, find_shape};
-ghost use Rattle.dialog_words.specs.DialogWords.{item_at, key_shape, new_shape, params_shape, select_shape, text_shape};
+ghost use Rattle.dialog_words.specs.DialogWords.{formed, item_at, key_shape, kind_of, new_shape, params_shape, select_shape, text_shape};
 
 use crate::DialogVerb;
 use def_iface::Size;
@@ -12,7 +12,7 @@ use dialog_call::{
 };
 use dialog_items::ItemKind;
 use line_words::Words;
-use tb_geom::Refusal;
+use tb_geom::{BytesRef, Refusal};
 
 impl DialogVerb {
     /// What is asked by the words that follow.
@@ -69,17 +69,28 @@ fn new_item<'a>(words: Words<'a>) -> Result<DialogCall<'a>, Refusal>
     let (height, words) = words.number()?;
     let (enabled, words) = words.flag()?;
     let bytes = words.last_bytes()?;
-    let Some(kind) = ItemKind::of_name(kind.as_slice()) else {
-        return Err(Refusal::NoSuchName);
-    };
-    let new = NewItem {
+    let kind = kind_of(&kind).ok_or(Refusal::NoSuchName)?;
+    formed(NewItem {
         window,
         kind,
         place,
         size: Size { width, height },
         enabled,
         bytes,
-    };
+    })
+}
+
+/// The kind of items with this name.
+fn kind_of(name: &BytesRef<'_>) -> Option<ItemKind>
+    ensures { result ≡ kind_of name.now }
+{
+    ItemKind::of_name(name.as_slice())
+}
+
+/// What is asked by an item whose bytes have the form of its kind.
+fn formed<'a>(new: NewItem<'a>) -> Result<DialogCall<'a>, Refusal>
+    ensures { result ≡ formed new.entry }
+{
     if new.has_form() {
         Ok(DialogCall::New(new))
     } else {

@@ -1,4 +1,4 @@
-//! The words of the commands for the items of dialogs, which version 3 has.
+//! The words of the commands for the items of dialogs. No program reads them yet.
 //!
 //! The first word of a line is a `DialogVerb`: `dialog_verb_of` finds it in the one table of these (`specs/DialogVerbs.antt`). Its
 //! method `call` reads the words that follow. Which these are, and what they ask, `specs/DialogWords.antt` states.

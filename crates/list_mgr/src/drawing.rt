@@ -1,19 +1,15 @@
-//! What windows show of lists, and of controls and lists together.
+//! What windows show of lists.
 ghost use Rattle.std.specs.Prelude.{◌≡◌, ◌<◌, true, length, slice_get};
 ghost use Rattle.tb_geom.specs.Rects.{in_plane};
 ghost use Rattle.bit_blit.specs.Draws.{Draws};
 ghost use Rattle.draw_port.specs.Canvases.{canvas_holds, canvas_point, SameFrame};
-ghost use Rattle.control_mgr.specs.Seen.{all_seen as all_controls_seen};
 ghost use Rattle.list_mgr.specs.Seen.{all_seen};
-ghost use Rattle.control_mgr.specs.ControlDesks.{controls_show};
-ghost use Rattle.control_mgr.specs.Settled.{AreSettled as AreControlsSettled};
 ghost use Rattle.list_mgr.specs.ListDesks.{list_bit, lists_show};
 ghost use Rattle.list_mgr.specs.WholeLists.{AreSettled};
 ghost use Rattle.window_paint.specs.White.{all_white};
 
 use crate::Lists;
 use bit_map::{Mode, Pattern};
-use control_mgr::{Controls, DrawnControl};
 use desk_layers::Part;
 use draw_port::Canvas;
 use list_view::{DrawnList, paint_list};
@@ -55,27 +51,5 @@ impl<D: DrawnList> Lists<D> {
             &list.kept.cells,
             canvas,
         );
-    }
-}
-
-/// The controls and the lists of a desk's windows, as those show them.
-#[derive(Drop)]
-pub struct Contents<'a, D, E> {
-    pub controls: &'a Controls<D>,
-    pub lists: &'a Lists<E>,
-}
-
-impl<'a, D: DrawnControl, E: DrawnList> Showing for Contents<'a, D, E> {
-    ghost is_whole = { λ m. AreControlsSettled (all_controls_seen D.control_loan m.controls.now.list.items.items)
-        × AreSettled (all_seen E.list_loan m.lists.now.list.items.items) };
-
-    ghost shows = { λ m. controls_show (lists_show (λ font. all_white) (all_seen E.list_loan m.lists.now.list.items.items))
-        (all_controls_seen D.control_loan m.controls.now.list.items.items) };
-
-    fn draw(&self, part: Part, canvas: &mut Canvas<'_>) {
-        match part {
-            Part::Control(_) => self.controls.draw(part, canvas),
-            _ => self.lists.draw(part, canvas),
-        }
     }
 }

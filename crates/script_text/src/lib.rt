@@ -6,7 +6,7 @@
 //! write the line of a reply to a `Sink`. None of them takes memory: a line has at most 1024 bytes, and a
 //! command borrows its words from the line.
 //!
-//! What the words of windows, controls, lists, menus and events are, `command_words` says, with the one table of all first
+//! What the words of windows, controls, lists, text records, menus and events are, `command_words` says, with the one table of all first
 //! words, and the lines of their replies `reply_lines`; here they are put together, with the commands that are about the whole desk.
 //!
 //! What a line says is stated apart from how it is read: `specs/Lines.antt` cuts a script into lines,

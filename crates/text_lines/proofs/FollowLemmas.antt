@@ -8,7 +8,7 @@ use Rattle.text_lines.specs.declared.line.TextLine.{TextLine}
 use Rattle.text_lines.specs.Ends.{line_length}
 use Rattle.text_lines.specs.Lines.{goes_on, lines_from, text_lines, line_at, Follow, begins_by, line_of, LiesOn}
 use Rattle.text_lines.proofs.EndLemmas.{line_within}
-use Rattle.text_lines.proofs.LineLemmas.{going_on_some, none_goes_on, left_shorter}
+use Rattle.text_lines.proofs.LineLemmas.{rest_lines, going_on_some, none_goes_on, left_shorter}
 
 -- lines that follow each other from one offset to another
 abbrev pub Chain : ℕ → ℕ → List TextLine → Type 0
@@ -32,6 +32,11 @@ chain_from (suc a) widths room start rest p true e =
     let further = chain_from a widths room (start + bytes) left (left_shorter widths room rest a e p) (goes_on (line_length widths room left) left) refl in
     let same : start + bytes + length left ≡ start + length rest = omega (arith, length-drop bytes rest, line_within widths room rest) in
     (refl, omega (arith, going_on_some widths room rest e), rw same at further)
+
+-- the lines from a start on do
+pub rest_chain : (widths : List ℕ) (room : Option ℕ) (start : ℕ) (rest : List ℕ) → Chain start (start + length rest) (rest_lines widths room start rest)
+unfolding rest_lines lines_from
+rest_chain widths room start rest = chain_from (length rest) widths room start rest (omega arith) (goes_on (line_length widths room rest) rest) refl
 
 -- the lines of a text do
 pub chain_lines : (widths : List ℕ) (room : Option ℕ) (text : List ℕ) → Chain 0 (length text) (text_lines widths room text)
@@ -97,7 +102,7 @@ none_begun from n (l ∷ []) o h p = rw (not_begun o l (omega (arith, h.0))) ref
 none_begun from n (l ∷ (m ∷ ls)) o h p = omega (arith, count_more o l (m ∷ ls) false (not_begun o l (omega (arith, h.0))), (none_begun l.end n (m ∷ ls) o h.2 (omega (arith, h.1))))
 
 -- no line of them begins before the first
-begins_behind : (from n : ℕ) (ls : List TextLine) → Chain from n ls → (j : ℕ) → j < length ls → from ≤ (line_at ls j).start
+pub begins_behind : (from n : ℕ) (ls : List TextLine) → Chain from n ls → (j : ℕ) → j < length ls → from ≤ (line_at ls j).start
 begins_behind from n [] h j p = absurd h
 begins_behind from n (l ∷ []) h zero p = omega (arith, h.0)
 begins_behind from n (l ∷ []) h (suc j) p = absurd (omega arith)

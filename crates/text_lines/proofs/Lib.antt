@@ -2,3 +2,4 @@
 pub mod EndLemmas
 pub mod LineLemmas
 pub mod FollowLemmas
+pub mod StayLemmas

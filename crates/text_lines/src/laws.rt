@@ -1,5 +1,5 @@
 //! What the definitions of lines imply.
-ghost use Rattle.std.specs.Prelude.{◌≡◌, ◌≤◌, ◌<◌, ◌+◌, ℕ, List, Option, length};
+ghost use Rattle.std.specs.Prelude.{◌≡◌, ◌≤◌, ◌<◌, ◌+◌, ◌-◌, ℕ, List, Option, length, take};
 ghost use Rattle.text_lines.specs.declared.line.TextLine.{TextLine};
 ghost use Rattle.text_lines.specs.Lines.{text_lines, line_at, line_of, Follow, LiesOn};
 
@@ -25,4 +25,15 @@ pub fn an_offset_lies_on_one_line()
         → LiesOn (text_lines widths room text) offset (line_of (text_lines widths room text) offset) }
     ensures alone { (widths : List ℕ) (room : Option ℕ) (text : List ℕ) (offset j : ℕ)
         → LiesOn (text_lines widths room text) offset j → j ≡ line_of (text_lines widths room text) offset }
+{}
+
+/// Texts that begin with the same bytes have the same lines from the first on, up to the line before the one on which
+/// the last of these bytes lies, and without that line. Each of them ends among these bytes, and another follows it.
+pub fn the_lines_before_a_change_stay()
+    ensures { (widths : List ℕ) (room : Option ℕ) (text other : List ℕ) (m j : ℕ)
+        → m ≤ length text → take m text ≡ take m other
+        → j + 1 < line_of (text_lines widths room text) (m - 1)
+        → (line_at (text_lines widths room other) j ≡ line_at (text_lines widths room text) j)
+        × (j + 1 < length (text_lines widths room other))
+        × ((line_at (text_lines widths room text) j).end ≤ m) }
 {}

@@ -14,7 +14,8 @@
 //! writes over the lines that were there and takes no memory, so whoever makes a text longer takes the room for its
 //! lines with that for its bytes.
 //!
-//! `laws` says that the lines follow each other, and that each offset lies on one of them, which `line_of` finds.
+//! `laws` says that the lines follow each other, and that each offset lies on one of them, which `line_of` finds; and
+//! that where texts begin with the same bytes, all lines are the same before the last two that these bytes reach.
 #![tactic(auto)]
 
 mod ends;

@@ -27,7 +27,7 @@ use Rattle.text_mgr.specs.declared.spots.TextAt.{TextAt}
 use Rattle.text_mgr.specs.declared.texts.Texts.{Texts}
 use Rattle.text_mgr.specs.CallEdits.{edit_refusals, edited, scrap_after, text_edited}
 use Rattle.text_mgr.specs.Editing.{IsEditRefused}
-use Rattle.text_mgr.specs.Showing.{IsDrawnAnew}
+use Rattle.text_mgr.specs.Changing.{DrawsChanged}
 use Rattle.text_mgr.specs.Spots.{IsSpotOf}
 use Rattle.text_mgr.specs.TextDesks.{KeptText, TextDesk, TextsState, texts_show}
 use Rattle.text_mgr.specs.TextRefusals.{missing_refusals, named_refusals, text_refusals}
@@ -35,7 +35,6 @@ use Rattle.text_mgr.specs.TextSteps.{IsTextEdited, IsTextEffect, IsTextShownAnew
 use Rattle.text_mgr.specs.WholeTexts.{AreWholeTexts, LeavesTexts, text_desk, texts_state}
 use Rattle.text_mgr.proofs.Edits.{edited_box}
 use Rattle.text_mgr.proofs.Places.{named_there, record_there}
-use Rattle.text_mgr.proofs.Reshown.{alone}
 use Rattle.text_mgr.proofs.Shown.{put_done}
 use Rattle.text_mgr.proofs.Steps.{desk_seen, missing_first, other_reasons, refused_by, unchanged, where_right}
 use Rattle.text_mgr.proofs.Written.{written}
@@ -128,11 +127,10 @@ module _ {V : Type 0} {H : V → Type 0} (loan : TakenBox V H → WindowLoan) wh
       -- it was made, and drawn
       pub edit_done : (u : WindowManager V H) (n : Texts) → n.list.items.items ≡ edit_at (with_kept (edited c m.scrap)) s.text m.list.items.items → n.list.next ≡ m.list.next → n.scrap ≡ scrap_after c m.scrap lent
           → first_refusal (edit_refusals c m.scrap lent) ≡ None
-          → ((was : List ℕ → Part → PixelSet) (slots : List WindowSlot) → IsWholeManager loan t slots
-          → IsWholeManager loan u slots × IsDrawnAnew x (state_showing was (state_of loan t slots)) (state_showing (alone n.list.items.items) (state_of loan u slots)))
+          → DrawsChanged loan x (record_there loan x t m s is).item.kept t u n
           → (o : Opened) → LeavesTexts loan (IsWhereRight (IsTextStep c (Ok reply.Done))) t o m u o n
-      edit_done u n items next scrap none anew o others slots whole beside =
-          let done = put_done loan x (edited c m.scrap) (scrap_after c m.scrap lent) t u m n s is (λ y e. edited_box c m.scrap y.kept) items next scrap anew o o others slots whole beside in (
+      edit_done u n items next scrap none drawn o others slots whole beside =
+          let done = put_done loan x (edited c m.scrap) (scrap_after c m.scrap lent) t u m n s is (λ y e. edited_box c m.scrap y.kept) items next scrap drawn o o others slots whole beside in (
             done.0,
             done.1,
             λ right. (

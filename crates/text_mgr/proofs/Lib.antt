@@ -5,6 +5,8 @@ pub mod Whole
 pub mod Places
 pub mod Steps
 pub mod Reshown
+pub mod Toggled
+pub mod Changing
 pub mod Shown
 pub mod Lays
 pub mod Disposed

@@ -4,12 +4,9 @@ use Rattle.std.specs.Prelude.{IfSome, is_none, slice_get}
 use Rattle.std.specs.Option.{option_and_then}
 use Rattle.tb_geom.specs.declared.point.Point.{Point}
 use Rattle.tb_geom.specs.declared.refusal.Refusal.TheVariants.{NoSuchText, NoSuchWindow}
-use Rattle.tb_geom.specs.Points.{PixelSet}
 use Rattle.tb_geom.specs.Refusals.{first_refusal}
-use Rattle.desk_layers.specs.declared.part.Part.{Part}
 use Rattle.def_iface.specs.Slots.{TakenBox}
 use Rattle.def_iface.specs.WindowMeaning.{WindowLoan}
-use Rattle.def_iface.specs.WindowSlots.{WindowSlot}
 use Rattle.desk_call.specs.declared.activity.Activity.TheVariants.{Idle, Selecting}
 use Rattle.desk_call.specs.declared.activity.SelectedText.{SelectedText}
 use Rattle.desk_call.specs.declared.text.TextOf.{TextOf}
@@ -26,21 +23,20 @@ use Rattle.window_items.proofs.WindowLemmas.{item_index-edit_at}
 use Rattle.window_mgr.specs.declared.manager.WindowManager.{WindowManager}
 use Rattle.window_mgr.specs.DeskStates.{Opened}
 use Rattle.window_mgr.specs.Kept.{IsKept}
-use Rattle.window_mgr.specs.Records.{desk_of, state_of, state_showing}
+use Rattle.window_mgr.specs.Records.{desk_of}
 use Rattle.window_mgr.specs.Refused.{is_missing}
-use Rattle.window_mgr.specs.Whole.{IsWholeManager}
 use Rattle.control_mgr.proofs.Places.{get_is, there_is}
 use Rattle.control_mgr.proofs.Steps.{first_fails, one_fails}
 use Rattle.text_mgr.specs.declared.spots.TextAt.{TextAt}
 use Rattle.text_mgr.specs.declared.texts.Texts.{Texts}
-use Rattle.text_mgr.specs.Showing.{IsDrawnAnew, IsPut}
+use Rattle.text_mgr.specs.Changing.{DrawsChanged}
+use Rattle.text_mgr.specs.Showing.{IsPut}
 use Rattle.text_mgr.specs.Spots.{IsSpotOf, opened}
 use Rattle.text_mgr.specs.TextDesks.{KeptText, TextsState, index_of, text_of}
 use Rattle.text_mgr.specs.TextRefusals.{missing_refusals}
 use Rattle.text_mgr.specs.TextSteps.{offsets_of}
 use Rattle.text_mgr.specs.WholeTexts.{AreBeside, IsSelectable, LeavesTexts}
 use Rattle.text_mgr.proofs.Places.{found_names, named_there, one_there, record_there}
-use Rattle.text_mgr.proofs.Reshown.{alone}
 use Rattle.text_mgr.proofs.Shown.{put_done}
 use Rattle.text_mgr.proofs.Whole.{SameBox}
 
@@ -48,11 +44,10 @@ module _ {V : Type 0} {H : V → Type 0} (loan : TakenBox V H → WindowLoan) (x
   -- it was put so, and drawn
   pub put_so : ((y : KeptText) → slice_get m.list.items.items s.text ≡ Some y → SameBox y.kept (f y.kept)) → n.list.items.items ≡ edit_at (with_kept f) s.text m.list.items.items
       → n.list.next ≡ m.list.next → n.scrap ≡ m.scrap
-      → ((was : List ℕ → Part → PixelSet) (slots : List WindowSlot) → IsWholeManager loan t slots
-      → IsWholeManager loan u slots × IsDrawnAnew x (state_showing was (state_of loan t slots)) (state_showing (alone n.list.items.items) (state_of loan u slots)))
+      → DrawsChanged loan x (record_there loan x t m s is).item.kept t u n
       → (o r : Opened) → LeavesTexts loan (IsPut x f) t o m u r n
-  put_so same texts next scrapped anew o r others slots whole beside =
-      let done = put_done loan x f m.scrap t u m n s is same texts next scrapped anew o r others slots whole beside in
+  put_so same texts next scrapped drawn o r others slots whole beside =
+      let done = put_done loan x f m.scrap t u m n s is same texts next scrapped drawn o r others slots whole beside in
       (done.0, done.1, record { changed = done.2.changed; shown = done.2.shown })
 
   -- so the text records are these

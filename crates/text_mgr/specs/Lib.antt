@@ -12,6 +12,7 @@ pub mod WholeTexts
 pub mod Boxed
 pub mod Spots
 pub mod Showing
+pub mod Changing
 pub mod Editing
 pub mod Laying
 pub mod Making

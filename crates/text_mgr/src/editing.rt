@@ -10,6 +10,7 @@ ghost use Rattle.text_mgr.specs.Editing.{IsEditRefused, IsRefusedOrShort};
 ghost use Rattle.text_mgr.specs.TextPlaces.{justification_of};
 ghost use Rattle.text_mgr.specs.TextSteps.{IsTextStep, IsWhereRight};
 
+use crate::changes::change_of;
 use crate::judging::{are_too_many, is_outside, justification_of};
 use crate::{DeskTexts, Texts};
 use desk_call::{TextCall, TextOf, TextReply};
@@ -44,7 +45,7 @@ fn insert_bytes(record: &mut TextRecord, bytes: &[u8]) -> Result<(), Refusal>
 }
 
 /// The byte of a key, by the number of a call, if it is one.
-fn key_of(number: i32) -> Option<u8>
+pub(crate) fn key_of(number: i32) -> Option<u8>
     ensures { result ≡ (if is_outside (pos 0) (pos 255) number then None else Some (nat_abs number)) }
 {
     if is_outside(0, 255, number) {
@@ -159,7 +160,7 @@ pub(crate) fn edit_record(
 }
 
 impl Texts {
-    /// Edits a text record, and draws it where it is not to be redrawn.
+    /// Edits a text record, and draws what shows otherwise of it where it is not to be redrawn.
     pub(crate) fn edit(
         &mut self,
         windows: &mut WindowManager,
@@ -173,8 +174,10 @@ impl Texts {
             (IsWhereRight (IsTextStep call.now result)) windows.old o self.old windows.new o self.new }
     {
         let spot = self.spot(windows, text)?;
-        edit_record(self.list.at_mut(spot.text), &mut self.scrap, call)?;
-        self.show_anew(windows, spot);
+        let record = self.list.at_mut(spot.text);
+        let change = change_of(record, call, windows.parts().font);
+        edit_record(record, &mut self.scrap, call)?;
+        self.show_change(windows, spot, change);
         Ok(TextReply::Done)
     }
 }

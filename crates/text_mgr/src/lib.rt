@@ -12,13 +12,15 @@
 //! no stock is needed.
 //!
 //! New, place and show draw all that the record then owns, also where it was shown; what a hidden, placed or disposed record leaves
-//! is to be redrawn. All other changes draw the record where it is not to be redrawn, and take no memory but for its bytes. Each
-//! call is judged, takes its memory, and then changes. So a refused one has changed nothing.
+//! is to be redrawn. All other changes show at once where the record is not to be redrawn, and take no memory but for its bytes:
+//! another selection is inverted, and after an edit the record is drawn from the line before the change on (`changes`). Each call
+//! is judged, takes its memory, and then changes. So a refused one has changed nothing.
 //!
 //! What a record keeps of the font, the widths of all bytes and the height of a line, it gets when it is made.
 #![tactic(auto)]
 
 mod asking;
+mod changes;
 mod closing;
 mod desk_texts;
 mod drawing;

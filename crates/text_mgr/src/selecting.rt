@@ -19,11 +19,12 @@ use def_iface::{Defined, TakenWindow};
 use desk_call::{Activity, ClickText, SelectedText, TextReply};
 use tb_geom::{Point, Refusal};
 use text_edits::{Anchor, ClickMode, click_anchor, extend, is_clicked};
+use text_paint::Selection;
 use window_mgr::{DeskWindows, WindowManager};
 
 impl Texts {
-    /// Selects what is selected while the mouse is held at a point, and draws the text record that stands here where it is not to be
-    /// redrawn.
+    /// Selects what is selected while the mouse is held at a point, and shows it of the text record that stands here where it is not
+    /// to be redrawn.
     fn extend_to(
         &mut self,
         windows: &mut WindowManager,
@@ -42,8 +43,10 @@ impl Texts {
             → (o u : Opened) → ⟦<Self as DeskTexts>⟧.Leaves
             (IsPut t (extended_to anchor mode point)) windows.old o self.old windows.new u self.new }
     {
-        extend(self.list.at_mut(spot.text), anchor, mode, point);
-        self.show_anew(windows, spot);
+        let record = self.list.at_mut(spot.text);
+        let was = Selection::of(record);
+        extend(record, anchor, mode, point);
+        self.show_selection(windows, spot, was);
     }
 
     /// What is selected of the text record that stands here.

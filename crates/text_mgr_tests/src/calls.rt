@@ -10,7 +10,7 @@ use tb_geom::BytesRef;
 use test_pixels::point;
 
 /// The first text record of the window.
-const TEXT: TextOf = TextOf { window: 1, text: 1 };
+pub(crate) const TEXT: TextOf = TextOf { window: 1, text: 1 };
 
 /// A destination of 61 columns, and a view of 62 columns and 40 rows.
 const PLACE: TextPlace = TextPlace {
@@ -25,7 +25,7 @@ const PLACE: TextPlace = TextPlace {
 };
 
 /// A text record there, with lines that wrap.
-const NEW: TextCall<'static> = TextCall::New(NewText {
+pub(crate) const NEW: TextCall<'static> = TextCall::New(NewText {
     window: 1,
     place: PLACE,
     justification: 0,
@@ -46,18 +46,18 @@ fn told(start: u16, end: u16, length: u16, lines: u16) -> TextReply {
     })
 }
 
-fn set(bytes: &'static [u8]) -> TextCall<'static> {
+pub(crate) fn set(bytes: &'static [u8]) -> TextCall<'static> {
     TextCall::Set(TextBytes {
         text: TEXT,
         bytes: BytesRef::new(bytes),
     })
 }
 
-fn number(number: i32) -> TextNumber {
+pub(crate) fn number(number: i32) -> TextNumber {
     TextNumber { text: TEXT, number }
 }
 
-fn select(start: i32, end: i32) -> TextCall<'static> {
+pub(crate) fn select(start: i32, end: i32) -> TextCall<'static> {
     TextCall::Select(SelectText {
         text: TEXT,
         start,
@@ -65,7 +65,7 @@ fn select(start: i32, end: i32) -> TextCall<'static> {
     })
 }
 
-fn click(h: i32, v: i32, mode: i32) -> TextCall<'static> {
+pub(crate) fn click(h: i32, v: i32, mode: i32) -> TextCall<'static> {
     TextCall::Click(ClickText {
         text: TEXT,
         point: point!(h, v),

@@ -10,6 +10,7 @@ use std::alloc::Global;
 use std_wdef::{StdWindow, Variation};
 use strike_font::Font;
 use tb_geom::{BytesRef, Refusal};
+use test_pixels::pixels::are_alike;
 use test_pixels::point;
 use text_mgr::{DeskTexts, Texts};
 use window_list::{Ranks, WindowList};
@@ -117,6 +118,27 @@ impl Desk {
             }
         }
         steps.len()
+    }
+
+    /// Draws what is to be redrawn of the window.
+    pub fn serve(&mut self)
+        requires whole { ⟦<WindowManager as DeskWindows>⟧.IsWhole self.old.windows self.old.stock }
+        requires beside { ⟦<Texts as DeskTexts>⟧.AreBeside self.old.windows self.old.texts }
+        requires selectable { IsSelectable self.old.activity self.old.texts.list.items.items }
+        ensures whole { ⟦<WindowManager as DeskWindows>⟧.IsWhole self.new.windows self.new.stock }
+        ensures beside { ⟦<Texts as DeskTexts>⟧.AreBeside self.new.windows self.new.texts }
+        ensures selectable { IsSelectable self.new.activity self.new.texts.list.items.items }
+    {
+        let Some(at) = self.windows.find(1) else {
+            return;
+        };
+        self.windows.serve_all(at, &self.texts);
+    }
+
+    /// Whether the screen has the pixels of another one.
+    pub fn shows_as(&self, other: &Desk) -> bool {
+        let screen = self.windows.screen();
+        are_alike(screen, other.windows.screen(), screen.bounds())
     }
 
     /// The serial of the next text record, after the end of those of the window.

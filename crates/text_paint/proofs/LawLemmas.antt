@@ -9,7 +9,9 @@ use Rattle.tb_geom.proofs.RectLemmas.{sides_of, holds_in}
 use Rattle.text_record.specs.Placings.{widened, box_of}
 use Rattle.text_record.specs.Texts.{Record}
 use Rattle.text_record.specs.Changes.{chosen, blinked}
-use Rattle.text_paint.specs.Shown.{some_line, part_holds, inset, view_bit, text_shown}
+use Rattle.text_paint.specs.declared.selected.Selection.{Selection}
+use Rattle.text_paint.specs.Selected.{is_toggled, reselected}
+use Rattle.text_paint.specs.Shown.{some_line, part_holds, inset, view_bit, is_inverted, with_lines, frame_holds, text_shown}
 use Rattle.text_paint.proofs.PartLemmas.{none_before}
 
 -- a box has what its view has
@@ -43,3 +45,15 @@ no_caret font r caret p e = rw e refl
 
 pub no_caret_beside : (font : List ℕ) (r : Record) (caret : Bool) (p : Point) → r.start < r.end → text_shown font (blinked caret r) p ≡ text_shown font r p
 no_caret_beside font r caret p l = rw (lt-ltb r.start r.end l) refl
+
+-- what two selections invert of a bit of the view
+turned : (view was is x frame : Bool) → cond view (cond is (not x) x) frame ≡ cond (view && cond was (not is) is) (not (cond view (cond was (not x) x) frame)) (cond view (cond was (not x) x) frame)
+turned false was is x frame = refl
+turned true false false x frame = refl
+turned true false true x frame = refl
+turned true true false true frame = refl
+turned true true false false frame = refl
+turned true true true x frame = refl
+
+pub toggled_shown : (font : List ℕ) (r : Record) (s : Selection) (p : Point) → text_shown font r p ≡ cond (is_toggled s r p) (not (text_shown font (reselected s r) p)) (text_shown font (reselected s r) p)
+toggled_shown font r s p = turned (rect_holds r.view p) (is_inverted (reselected s r) p) (is_inverted r p) (with_lines font r p false) (frame_holds r p)

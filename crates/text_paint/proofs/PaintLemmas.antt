@@ -17,8 +17,11 @@ use Rattle.draw_port.specs.declared.canvas.Canvas.{Canvas}
 use Rattle.text_record.specs.Texts.{Record}
 use Rattle.text_record.specs.Placings.{box_of}
 use Rattle.text_record.specs.Places.{drawn_bytes, line_in}
-use Rattle.text_paint.specs.Shown.{line_count, some_line, line_pen, line_holds, with_lines, part_holds, caret_rect, with_selection, inset, frame_holds, text_shown}
-use Rattle.text_paint.proofs.OverLemmas.{drawn_not, part_over, all_over}
+use Rattle.scan_region.specs.Cuts.{cut_holds}
+use Rattle.text_paint.specs.declared.selected.Selection.{Selection}
+use Rattle.text_paint.specs.Selected.{is_toggled, reselected}
+use Rattle.text_paint.specs.Shown.{line_count, some_line, line_pen, line_holds, with_lines, part_holds, caret_rect, is_inverted, with_selection, inset, frame_holds, text_shown}
+use Rattle.text_paint.proofs.OverLemmas.{drawn_not, part_over, all_over, placed_over}
 use Rattle.text_paint.proofs.PartLemmas.{none_before, inside_frame}
 
 -- ---- the lines
@@ -178,3 +181,22 @@ all_drawn c d r first middle last same frame text =
     let made = part_over c d (λ font. rect_holds r.view) (λ font p x. with_selection r p (with_lines font r p x)) (λ font p x. frame_holds r p) first middle last same frame text in
     Draws-value (canvas_holds c) _ _ first last
     (λ p x. in_view (rect_holds r.view (canvas_point c p)) (frame_holds r (canvas_point c p)) (λ b. with_selection r (canvas_point c p) (with_lines c.font.now r (canvas_point c p) b)) (inside_frame r (canvas_point c p))) made
+
+-- ---- another selection
+
+pixel_toggled : (held view was is x : Bool) → cond (held && view) (cond is (not (cond was (not x) x)) (cond was (not x) x)) x ≡ cond held (cond (view && cond was (not is) is) (not x) x) x
+pixel_toggled false view was is x = refl
+pixel_toggled true false was is x = refl
+pixel_toggled true true false is x = refl
+pixel_toggled true true true false x = refl
+pixel_toggled true true true true true = refl
+pixel_toggled true true true true false = refl
+
+-- what both selections invert in the view, inverted
+pub toggled_over : (c : Canvas) (clip : Rect) (was : Selection) (r : Record) (first last : Bits)
+    → ((p : Point) → rect_holds clip p ≡ (rect_holds c.clip p && rect_holds r.view (canvas_point c p)))
+    → Draws (λ p. rect_holds clip p && cut_holds c.cut.now p) (λ p x. with_selection r (canvas_point c p) (with_selection (reselected was r) (canvas_point c p) x)) first last
+    → Draws (canvas_holds c) (λ p x. cond (is_toggled was r (canvas_point c p)) (not x) x) first last
+toggled_over c clip was r first last shared drawn =
+    Draws-same _ _ _ _ first last (λ p x on. pixel_toggled (canvas_holds c p) (rect_holds r.view (canvas_point c p)) (is_inverted (reselected was r) (canvas_point c p)) (is_inverted r (canvas_point c p)) x)
+    (placed_over c clip r.view (λ p x. with_selection r (canvas_point c p) (with_selection (reselected was r) (canvas_point c p) x)) first last shared drawn)

@@ -9,13 +9,22 @@
 //!
 //! The highlight of a selection is inverted line by line. The parts on two lines share no row, so that what is inverted is the
 //! pixels of all parts, each once (`laws`). Where the selection is a point, the caret is inverted: the column before the point.
+//!
+//! Two changes leave most of what a record shows, and need not all of it drawn. Where its selection was another one,
+//! `toggle_selection` inverts what shows otherwise, and draws no line. Where its bytes changed from an offset on, it shows the
+//! same above `change_row` (`laws`).
 #![tactic(auto)]
 
 mod frame;
 pub mod laws;
 mod lines;
 mod parts;
+mod rows;
+mod selected;
 mod selection;
 mod view;
 
+pub use rows::change_row;
+pub use selected::Selection;
+pub use selection::toggle_selection;
 pub use view::draw_text_record;

@@ -7,6 +7,7 @@ ghost use Rattle.text_paint.specs.Shown.{with_lines, with_selection, text_shown}
 
 use crate::frame::draw_frame;
 use crate::lines::draw_lines;
+use crate::selected::Selection;
 use crate::selection::invert_selection;
 use draw_port::{Canvas, placed_within};
 use text_record::TextRecord;
@@ -21,7 +22,7 @@ fn draw_text(text: &TextRecord, canvas: &mut Canvas<'_>)
         canvas.old.map.now canvas.new.map.now }
 {
     draw_lines(text, canvas);
-    invert_selection(text, canvas);
+    invert_selection(text, Selection::of(text), canvas);
 }
 
 /// The same, in the view alone.

@@ -9,9 +9,9 @@ use std::alloc::Global;
 use strike_font::Font;
 use tb_geom::{Point, Rect, Refusal};
 use test_pixels::images::{NOTHING_CUT, shows};
-use test_pixels::pixels::picture;
+use test_pixels::pixels::{are_alike, picture};
 use test_pixels::{point, rect};
-use text_paint::draw_text_record;
+use text_paint::{Selection, draw_text_record, toggle_selection};
 use text_record::{Justification, Metrics, Placing, TextRecord};
 
 /// A map to paint on, the part of it that is painted, and where the 0 0 of the window lies.
@@ -87,6 +87,27 @@ pub(crate) fn low_record(
     Ok(text)
 }
 
+/// A map that is black but for what a record shows.
+pub(crate) fn painted(
+    alloc: Global,
+    font: &Font,
+    text: &TextRecord,
+    sheet: Sheet,
+) -> Result<BitMap, Refusal> {
+    let mut map = BitMap::new(alloc, sheet.width, sheet.height)?;
+    let bounds = map.bounds();
+    let mut canvas = Canvas {
+        map: &mut map,
+        clip: bounds,
+        origin: point!(0, 0),
+        cut: &NOTHING_CUT,
+        font,
+    };
+    canvas.fill_all(Pattern::BLACK, Mode::Copy);
+    paint(&mut map, font, text, sheet);
+    Ok(map)
+}
+
 /// Whether this is what a black map has once a record is drawn on it in the built-in font.
 pub(crate) fn is_painted(
     alloc: Global,
@@ -95,19 +116,31 @@ pub(crate) fn is_painted(
     rows: &str,
 ) -> Result<bool, Refusal> {
     let font = Font::built_in(alloc)?;
-    let mut map = BitMap::new(alloc, sheet.width, sheet.height)?;
-    let bounds = map.bounds();
+    let map = painted(alloc, &font, text, sheet)?;
+    let image = picture(alloc, &map, map.bounds())?;
+    Ok(shows(&image, rows))
+}
+
+/// Whether a map that shows the first of two records, which differ in their selections, has the pixels of the second once the
+/// selection is toggled, as they are where the second is drawn.
+pub(crate) fn is_toggled(
+    alloc: Global,
+    before: &TextRecord,
+    after: &TextRecord,
+    sheet: Sheet,
+) -> Result<bool, Refusal> {
+    let font = Font::built_in(alloc)?;
+    let mut toggled = painted(alloc, &font, before, sheet)?;
+    let drawn = painted(alloc, &font, after, sheet)?;
     let mut canvas = Canvas {
-        map: &mut map,
-        clip: bounds,
-        origin: point!(0, 0),
+        map: &mut toggled,
+        clip: sheet.clip,
+        origin: sheet.origin,
         cut: &NOTHING_CUT,
         font: &font,
     };
-    canvas.fill_all(Pattern::BLACK, Mode::Copy);
-    paint(&mut map, &font, text, sheet);
-    let image = picture(alloc, &map, bounds)?;
-    Ok(shows(&image, rows))
+    toggle_selection(after, Selection::of(before), &mut canvas);
+    Ok(are_alike(&toggled, &drawn, drawn.bounds()))
 }
 
 /// Draws a record on a map.

@@ -2,7 +2,7 @@
 ghost use Rattle.std.specs.Prelude.{◌≡◌};
 ghost use Rattle.window_items.specs.Items.{is_in, is_item};
 
-/// One thing of a window, as a control or a list of it.
+/// One thing of a window, as a control, a list or a text record of it.
 #[derive(Drop)]
 pub struct Item<T> {
     pub serial: u64,

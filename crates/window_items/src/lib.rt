@@ -1,4 +1,5 @@
-//! What the windows of a desk have, of one kind, as plain data: their controls, or their lists, whatever is kept of one.
+//! What the windows of a desk have, of one kind, as plain data: their controls, their lists or their text records, whatever is
+//! kept of one.
 //!
 //! `Items` has those of all windows, the oldest first, and the serial of the next one (*Inside Macintosh* I, "The Control
 //! Manager": the control lists of windows; IV, "The List Manager Package"). An item is found by its window and its serial, or by

@@ -43,13 +43,13 @@ pub trait DeskWindows {
     /// Over any slots over which it is whole, it is whole afterwards too, and this holds of its states.
     ghost LeavesState: { (FullState → FullState → Type 0) → Self → Self → Type 0 };
 
-    /// The same where controls and lists show this.
+    /// The same where controls, lists and text records show this.
     ghost LeavesShowing: { (List ℕ → Part → PixelSet) → (FullState → FullState → Type 0) → Self → Self → Type 0 };
 
     /// The same as `LeavesState`, of its states with what is open.
     ghost LeavesDesk: { (DeskState → DeskState → Type 0) → Self → Opened → Self → Opened → Type 0 };
 
-    /// The same where controls and lists show this.
+    /// The same where controls, lists and text records show this.
     ghost LeavesDeskShowing: { (List ℕ → Part → PixelSet) → (DeskState → DeskState → Type 0)
         → Self → Opened → Self → Opened → Type 0 };
 }

@@ -24,8 +24,8 @@
 //! window's definition of a change and draws the frame anew. A scroll moves no window, so it has a plan of its own,
 //! which `scrolling` draws. `update` is for the crate that redraws windows: it changes an update region, or draws what
 //! is in it. `bar` shows other titles in the menu bar, which is drawn whole then. `relayering` gives a window other layers in
-//! front of its picture, for whoever keeps its controls and lists. What a window shows is drawn by `window_paint`; which
-//! pixels it is drawn on is said here.
+//! front of its picture, for whoever keeps its controls, lists and text records. What a window shows is drawn by
+//! `window_paint`; which pixels it is drawn on is said here.
 //!
 //! `find` reads off the same regions whose a pixel is: its owner is the window whose visible content or frame has it.
 //! There may be 64 windows.

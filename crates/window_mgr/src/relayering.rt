@@ -1,5 +1,5 @@
-//! A window's layers changed, by whoever keeps its controls and lists: planned, which asks for memory, and then put in
-//! their place, which does not.
+//! A window's layers changed, by whoever keeps its controls, lists and text records: planned, which asks for memory,
+//! and then put in their place, which does not.
 ghost use Rattle.std.specs.Prelude.{◌≡◌, ◌<◌, ℕ, slice_index_or, List, length, Option, IfOk, IfSome};
 ghost use Rattle.tb_geom.specs.Points.{PixelSet};
 ghost use Rattle.tb_geom.specs.Rects.{rect_holds};

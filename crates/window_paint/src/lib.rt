@@ -1,17 +1,17 @@
 //! What windows show, drawn on a map.
 //!
-//! A window's content is its picture and, in front of it, its controls and lists. Each pixel of the content belongs to one of
-//! these, and shows what that one shows there: `content_shown`, in `specs/Shown`, says it of the window's record. A drawing
-//! here is on the pixels of a region of the map that the caller chooses, as what of the content is visible, or is to be
-//! redrawn; it takes no memory, and leaves every other pixel as it was. `paint_picture` draws what of the picture no layer in
-//! front of it hides, `paint_layer` draws what one layer owns (`show_layer` all of that but what another region has),
-//! `paint_kind` what the layers of one kind own, and `paint_content` draws all of the content. An operation that was just
-//! added to the picture is drawn by itself, over what stands there (`paint_last_operation`).
+//! A window's content is its picture and, in front of it, its controls, lists and text records. Each pixel of the content
+//! belongs to one of these, and shows what that one shows there: `content_shown`, in `specs/Shown`, says it of the window's
+//! record. A drawing here is on the pixels of a region of the map that the caller chooses, as what of the content is visible,
+//! or is to be redrawn; it takes no memory, and leaves every other pixel as it was. `paint_picture` draws what of the picture
+//! no layer in front of it hides, `paint_layer` draws what one layer owns (`show_layer` all of that but what another region
+//! has), `paint_kind` what the layers of one kind own, and `paint_content` draws all of the content. An operation that was
+//! just added to the picture is drawn by itself, over what stands there (`paint_last_operation`).
 //!
-//! A window's record has of its controls and lists where they lie, and no more. What they show is known to whoever keeps
-//! them, who has the trait `Showing`; `NothingShown` is for where nobody keeps any. Where the selection of a list changed, what
-//! it highlights otherwise is inverted where it stands (`invert_layer`); which pixels these are says whoever keeps the list
-//! (`Toggling`).
+//! A window's record has of its controls, lists and text records where they lie, and no more. What they show is known to
+//! whoever keeps them, who has the trait `Showing`; `NothingShown` is for where nobody keeps any. Where the selection of a
+//! list or a text record changed, what it highlights otherwise is inverted where it stands (`invert_layer`); which pixels
+//! these are says whoever keeps it (`Toggling`).
 //!
 //! Around the content lies the window's frame, which its definition draws: `paint_frame` draws it within a rectangle of the
 //! window, and `paint_part` over white content that is new. Where contents or pictures move, their pixels move on the map

@@ -1,4 +1,4 @@
-//! What controls and lists show, and what the selection of a list inverts.
+//! What controls, lists and text records show, and what another selection inverts.
 ghost use Rattle.std.specs.Prelude.{◌≡◌, ℕ, true, not, if◌then◌else◌, List};
 ghost use Rattle.tb_geom.specs.Points.{PixelSet};
 ghost use Rattle.tb_geom.specs.Rects.{in_plane};
@@ -11,15 +11,15 @@ use bit_map::{Mode, Pattern};
 use desk_layers::Part;
 use draw_port::Canvas;
 
-/// Whoever keeps the controls and lists of windows, and so can draw them.
+/// Whoever keeps the controls, lists and text records of windows, and so can draw them.
 pub trait Showing {
     /// They are as they are between calls.
     ghost is_whole: { Self → Type 0 };
 
-    /// What a control or a list shows in a font, in its window's own coordinates.
+    /// What a control, a list or a text record shows in a font, in its window's own coordinates.
     ghost shows: { Self → List ℕ → Part → PixelSet };
 
-    /// Gives each pixel of the canvas the value that this control or list has there in the canvas's font. The canvas's
+    /// Gives each pixel of the canvas the value that this control, list or text record has there in the canvas's font. The canvas's
     /// origin is the window's 0 0.
     fn draw(&self, part: Part, canvas: &mut Canvas<'_>)
         requires whole { is_whole self.now }
@@ -50,7 +50,7 @@ pub trait Toggling {
             canvas.old.map.now canvas.new.map.now };
 }
 
-/// Controls and lists that nobody keeps: they show white.
+/// Controls, lists and text records that nobody keeps: they show white.
 #[derive(Clone, Copy, Debug, PartialEq, Eq)]
 pub struct NothingShown;
 
